@@ -1,7 +1,7 @@
 -- Texts without their blanks, and names as they are shown.
 use Rattle.std.proofs.Common.{◌≡◌, ℕ, ◌+◌, ◌<◌, ◌==◌, ◌&&◌, ◌||◌, nat_le, nat_lt, Bool, true, false, if◌then◌else◌, List, [], ◌∷◌, ◌++◌, length, get_or, take, drop, reverse, arith, append_assoc, refl, sym, ap, ◌∙◌}
 use Rattle.std.proofs.lemmas.List.{drop-drop, drop_more, take_more, reverse-append, reverse-reverse}
-use Rattle.annotated.specs.Asked.{after_blanks}
+use Rattle.annotated.specs.ExpectedAnswers.{after_blanks}
 use Rattle.annotated.specs.Reports.{is_wide, shown_name, shown_name_byte}
 
 -- a blank is left out

@@ -5,7 +5,7 @@ use Rattle.std.specs.List.{after_first, before_first}
 use Rattle.std.specs.Option.{option_map}
 use Rattle.mvs_model.specs.Lines.{ended_text, lines_of}
 use Rattle.annotated.specs.declared.report.Counts.{Counts}
-use Rattle.annotated.specs.Asked.{Asked, after_own, after_place, after_prefix, answers_in, asked, asked_at_end, asked_by, asked_in, asked_without, begins_with, end_in, ends_step, got_of, is_missing, is_own, is_right, is_wrong, joined, number_of, numbered, onto, own, own_texts, statement_of, task_of, text_of, trimmed}
+use Rattle.annotated.specs.ExpectedAnswers.{ExpectedAnswer, after_own, after_place, after_prefix, answers_in, expected_answers, expected_at_end, expected_by, expected_in, expected_without, begins_with, end_in, ends_step, got_of, is_missing, is_own, is_right, is_wrong, joined, number_of, numbered, onto, own, own_texts, statement_of, task_of, text_of, trimmed}
 use Rattle.annotated.specs.Blank.{IsPartedAt, arrow, place_of, up_to}
 use Rattle.annotated.specs.Reports.{last_line}
 use Rattle.annotated.proofs.Cutting.{first_line}
@@ -80,30 +80,30 @@ arrow_parts line statement None p = (p.1 ∙ sym (ap (λ o. up_to o line) p.0), 
 arrow_parts line statement (Some answers) p = (p.2 ∙ sym (ap (λ o. up_to o line) p.1), ap (option_map (λ n. drop (n + length arrow) line)) p.1 ∙ ap Some (sym p.3))
 
 module _ (number : ℕ) (script next line statement : List ℕ) (printed rest : List (List ℕ)) (cut : lines_of script ≡ line ∷ lines_of next) (after : rest ≡ after_own number printed) where
-  asked_next : (found : Option Asked) → asked_in number line (lines_of next) printed ≡ found → asked number (lines_of script) printed ≡ onto found (asked (number + 1) (lines_of next) rest)
-  asked_next found is = ap (λ ls. asked number ls printed) cut ∙ ap (λ o. onto o (asked (number + 1) (lines_of next) (after_own number printed))) is ∙ ap (λ ls. onto found (asked (number + 1) (lines_of next) ls)) (sym after)
+  asked_next : (found : Option ExpectedAnswer) → expected_in number line (lines_of next) printed ≡ found → expected_answers number (lines_of script) printed ≡ onto found (expected_answers (number + 1) (lines_of next) rest)
+  asked_next found is = ap (λ ls. expected_answers number ls printed) cut ∙ ap (λ o. onto o (expected_answers (number + 1) (lines_of next) (after_own number printed))) is ∙ ap (λ ls. onto found (expected_answers (number + 1) (lines_of next) ls)) (sym after)
 
   -- a line with an arrow
   pub step_answers : (answers expected got : List ℕ) → IsPartedAt arrow line statement (Some answers) → expected ≡ trimmed answers → got ≡ got_of number (before_first (λ b. b == 32) statement) printed
-      → asked number (lines_of script) printed ≡ onto (Some (record { number = number; expected = expected; got = got })) (asked (number + 1) (lines_of next) rest)
+      → expected_answers number (lines_of script) printed ≡ onto (Some (record { number = number; expected = expected; got = got })) (expected_answers (number + 1) (lines_of next) rest)
   step_answers answers expected got parted e g =
       let p = arrow_parts line statement (Some answers) parted in
       let is : answers_in line ≡ Some expected = ap (option_map trimmed) p.1 ∙ ap Some (sym e) in
       let of : got_of number (task_of line) printed ≡ got = ap (λ t. got_of number (before_first (λ b. b == 32) t) printed) (sym p.0) ∙ sym g in
-      asked_next _ (ap (λ o. asked_by number line o (lines_of next) printed) is ∙ ap (λ t. Some (record { number = number; expected = expected; got = t })) of)
+      asked_next _ (ap (λ o. expected_by number line o (lines_of next) printed) is ∙ ap (λ t. Some (record { number = number; expected = expected; got = t })) of)
 
   -- the last line, without an arrow
-  pub step_end : (found : Option Asked) → IsPartedAt arrow line statement None → next ≡ [] → found ≡ asked_at_end number (end_in line) rest
-      → asked number (lines_of script) printed ≡ onto found (asked (number + 1) (lines_of next) rest)
+  pub step_end : (found : Option ExpectedAnswer) → IsPartedAt arrow line statement None → next ≡ [] → found ≡ expected_at_end number (end_in line) rest
+      → expected_answers number (lines_of script) printed ≡ onto found (expected_answers (number + 1) (lines_of next) rest)
   step_end found parted last is =
       let p = arrow_parts line statement None parted in
-      asked_next found (ap (λ o. asked_by number line (option_map trimmed o) (lines_of next) printed) p.1 ∙ ap (λ t. asked_without number line (lines_of t) printed) last ∙ ap (asked_at_end number (end_in line)) (sym after) ∙ sym is)
+      asked_next found (ap (λ o. expected_by number line (option_map trimmed o) (lines_of next) printed) p.1 ∙ ap (λ t. expected_without number line (lines_of t) printed) last ∙ ap (expected_at_end number (end_in line)) (sym after) ∙ sym is)
 
   -- another line without an arrow
-  pub step_more : IsPartedAt arrow line statement None → 0 < length next → asked number (lines_of script) printed ≡ onto None (asked (number + 1) (lines_of next) rest)
+  pub step_more : IsPartedAt arrow line statement None → 0 < length next → expected_answers number (lines_of script) printed ≡ onto None (expected_answers (number + 1) (lines_of next) rest)
   step_more parted some =
       let p = arrow_parts line statement None parted in
-      asked_next None (ap (λ o. asked_by number line (option_map trimmed o) (lines_of next) printed) p.1 ∙ ap (λ ls. asked_without number line ls printed) (first_line next some))
+      asked_next None (ap (λ o. expected_by number line (option_map trimmed o) (lines_of next) printed) p.1 ∙ ap (λ ls. expected_without number line ls printed) (first_line next some))
 
 -- what is so of each value, is so
 pub if_ok : {T E : Type 0} (r : Result T E) (P Q : T → Type 0) → IfOk r P → ((x : T) → P x → Q x) → IfOk r Q
@@ -123,5 +123,5 @@ run_more run statement line text next cut is =
 -- ---- counts
 
 -- some counts and more answers
-abbrev pub counted : Counts → List Asked → Counts
+abbrev pub counted : Counts → List ExpectedAnswer → Counts
 counted n answers = record { right = n.right + number_of is_right answers; wrong = n.wrong + number_of is_wrong answers; missing = n.missing + number_of is_missing answers; last = last_line n.last answers }

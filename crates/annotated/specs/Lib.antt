@@ -1,3 +1,3 @@
-pub mod Asked
+pub mod ExpectedAnswers
 pub mod Blank
 pub mod Reports

@@ -1,12 +1,12 @@
 -- The report of a comparison. (its form is this project's choice)
 use Rattle.std.specs.Prelude.{ℕ, ◌+◌, ◌==◌, ◌&&◌, ◌||◌, nat_le, nat_lt, Bool, false, if◌then◌else◌, List, [], ◌∷◌, ◌++◌, length, map, codes, decimal, Option, Some, None}
 use Rattle.std.specs.List.{flat_map}
-use Rattle.annotated.specs.declared.asked.Verdict.{Verdict}
-use Rattle.annotated.specs.declared.asked.Verdict.TheVariants.{Right, Wrong, Open, Empty}
+use Rattle.annotated.specs.declared.expected.Verdict.{Verdict}
+use Rattle.annotated.specs.declared.expected.Verdict.TheVariants.{Right, Wrong, Open, Empty}
 use Rattle.annotated.specs.declared.report.Counts.{Counts}
 use Rattle.annotated.specs.declared.report.Format.{Format}
 use Rattle.annotated.specs.declared.report.Format.TheVariants.{Text, Tap, Junit}
-use Rattle.annotated.specs.Asked.{Asked, is_missing, is_right, is_wrong, number_of, verdict_of}
+use Rattle.annotated.specs.ExpectedAnswers.{ExpectedAnswer, is_missing, is_right, is_wrong, number_of, verdict_of}
 
 -- ---- bytes
 
@@ -47,19 +47,19 @@ name_in _ name = shown_name name
 -- ---- what is reported of an answer
 
 -- what a report has for a wrong answer. One that hides has nothing of what the run printed
-abbrev pub wrong_message : Bool → Asked → List ℕ
+abbrev pub wrong_message : Bool → ExpectedAnswer → List ℕ
 wrong_message hides a = if hides then codes "wrong" else codes "expected " ++ (shown a.expected ++ (codes ", got " ++ shown a.got))
 
 -- what it has for an answer with this verdict: nothing if it is right
-abbrev pub message_of : Bool → Verdict → Asked → Option (List ℕ)
+abbrev pub message_of : Bool → Verdict → ExpectedAnswer → Option (List ℕ)
 message_of hides Right a = None
 message_of hides Wrong a = Some (wrong_message hides a)
 message_of hides Open a = Some (codes "not answered")
 message_of hides Empty a = Some (codes "nothing after =>")
 
 -- what it has for a script without answers
-abbrev pub none_asked : List ℕ
-none_asked = codes "no answers to compare"
+abbrev pub no_answers : List ℕ
+no_answers = codes "no answers to compare"
 
 -- the place of an answer in a script, and its name as a case
 abbrev pub place_of : Option ℕ → List ℕ
@@ -101,24 +101,24 @@ case_of Tap name index line message = tap_case index line message
 case_of Junit name index line message = junit_case name line message
 
 -- the cases of some answers, the first of which has a number among the cases
-abbrev pub cases_from : Format → Bool → List ℕ → ℕ → List Asked → List ℕ
+abbrev pub cases_from : Format → Bool → List ℕ → ℕ → List ExpectedAnswer → List ℕ
 cases_from format hides name index [] = []
 cases_from format hides name index (a ∷ answers) = case_of format name index (Some a.number) (message_of hides (verdict_of a) a) ++ cases_from format hides name (index + 1) answers
 
 -- those of a script: a script without answers is one case, which fails
-abbrev pub cases : Format → Bool → List ℕ → List Asked → List ℕ
-cases format hides name [] = case_of format name 1 None (Some none_asked)
+abbrev pub cases : Format → Bool → List ℕ → List ExpectedAnswer → List ℕ
+cases format hides name [] = case_of format name 1 None (Some no_answers)
 cases format hides name (a ∷ answers) = cases_from format hides name 1 (a ∷ answers)
 
 -- ---- numbers
 
 -- the line of the last answer, or 0 if there is none
-abbrev pub last_line : ℕ → List Asked → ℕ
+abbrev pub last_line : ℕ → List ExpectedAnswer → ℕ
 last_line last [] = last
 last_line last (a ∷ answers) = last_line a.number answers
 
 -- how many answers are right, wrong and missing
-abbrev pub counts_of : List Asked → Counts
+abbrev pub counts_of : List ExpectedAnswer → Counts
 counts_of answers = record { right = number_of is_right answers; wrong = number_of is_wrong answers; missing = number_of is_missing answers; last = last_line 0 answers }
 
 -- some counts and one more answer
@@ -164,5 +164,5 @@ foot Tap n = codes "# " ++ sum_of n
 foot Junit n = codes "</testsuite>\n</testsuites>\n"
 
 -- the report of what a script asks for
-abbrev pub report_of : Format → Bool → List ℕ → List Asked → List ℕ
+abbrev pub report_of : Format → Bool → List ℕ → List ExpectedAnswer → List ℕ
 report_of format hides name answers = head format (name_in format name) (counts_of answers) ++ (cases format hides (name_in format name) answers ++ foot format (counts_of answers))

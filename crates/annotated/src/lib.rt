@@ -6,10 +6,10 @@
 
 ghost use Rattle.std.specs.Prelude.{◌≡◌, IfOk};
 ghost use Rattle.job_script.specs.Writing.{Prints};
-ghost use Rattle.annotated.specs.Asked.{statements};
+ghost use Rattle.annotated.specs.ExpectedAnswers.{statements};
 ghost use Rattle.annotated.specs.Blank.{blank, blank_end};
 
-mod asked;
+mod expected;
 mod lines;
 mod printed;
 mod report;

@@ -3,7 +3,7 @@
 ghost use Rattle.std.specs.Prelude.{◌≡◌, ◌++◌, ◌==◌, nat_lt, ◌||◌, is_some, position, reverse, codes};
 ghost use Rattle.std.specs.List.{before_first};
 ghost use Rattle.std.specs.Option.{option_map};
-ghost use Rattle.annotated.specs.Asked.{after_blanks, after_prefix, end_in, is_end, statement_of, trimmed};
+ghost use Rattle.annotated.specs.ExpectedAnswers.{after_blanks, after_prefix, end_in, is_end, statement_of, trimmed};
 ghost use Rattle.annotated.specs.Blank.{IsPartedAt};
 
 use memchr::memmem;

@@ -3,7 +3,7 @@
 ghost use Rattle.std.specs.Prelude.{◌≡◌, ◌≢◌, ◌++◌, ◌==◌, [], IfOk, OnOk, codes, decimal, if◌then◌else◌, is_some, length, true};
 ghost use Rattle.std.specs.Option.{option_map};
 ghost use Rattle.mvs_model.specs.Lines.{lines_of};
-ghost use Rattle.annotated.specs.Asked.{begins_with, ends_step, after_own, is_own, joined, last_or, numbered, own_texts, text_of, without_task};
+ghost use Rattle.annotated.specs.ExpectedAnswers.{begins_with, ends_step, after_own, is_own, joined, last_or, numbered, own_texts, text_of, without_task};
 
 use crate::lines::after_prefix;
 use job_script::parted::parted;

@@ -4,10 +4,10 @@ ghost use Rattle.std.specs.Prelude.{◌≡◌, ◌++◌, ◌+◌, ◌<◌, ◌�
 ghost use Rattle.std.specs.Option.{option_map};
 ghost use Rattle.mvs_model.specs.Lines.{lines_of};
 ghost use Rattle.mvs_model.specs.Numbers.{most_script_bytes};
-ghost use Rattle.annotated.specs.Asked.{asked, asked_of, verdict_of};
+ghost use Rattle.annotated.specs.ExpectedAnswers.{expected_answers, expected_of, verdict_of};
 ghost use Rattle.annotated.specs.Reports.{are_right, case_of, cases, cases_from, counts_of, failures, foot, head, junit_begin, junit_case, junit_message, label_of, message_of, name_in, place_of, report_of, right_of, suite_numbers, sum_of, tap_case, tap_line, tap_message, tests, text_case, total, with_one, wrong_message};
 
-use crate::asked::{Answer, Answers, Verdict};
+use crate::expected_answers::{Answer, Answers, Verdict};
 use crate::shown::{push_escaped, push_shown, shown_name};
 use job_script::text::Text as Line;
 use std::alloc::{AllocError, Global};
@@ -357,7 +357,7 @@ fn push_rest(
     requires few { 1 < answers.number }
     requires room { answers.number + length answers.script.now < 2 ^ 32 }
     ensures { OnOk result (report.new.items
-        ≡ report.old.items ++ cases_from form.format form.is_hidden name.now 2 (asked answers.entry.number (lines_of answers.entry.script.now) (lines_of answers.entry.printed.now))) }
+        ≡ report.old.items ++ cases_from form.format form.is_hidden name.now 2 (expected_answers answers.entry.number (lines_of answers.entry.script.now) (lines_of answers.entry.printed.now))) }
 {
     let mut answers = answers;
     let mut index = 2;
@@ -379,7 +379,7 @@ fn push_cases(
     requires few { 0 < answers.number }
     requires room { answers.number + length answers.script.now < 2 ^ 32 }
     ensures { OnOk result (report.new.items
-        ≡ report.old.items ++ cases form.format form.is_hidden name.now (asked answers.entry.number (lines_of answers.entry.script.now) (lines_of answers.entry.printed.now))) }
+        ≡ report.old.items ++ cases form.format form.is_hidden name.now (expected_answers answers.entry.number (lines_of answers.entry.script.now) (lines_of answers.entry.printed.now))) }
 {
     let mut answers = answers;
     match answers.next(alloc)? {
@@ -403,7 +403,7 @@ fn count(alloc: Global, answers: Answers<'_>) -> Result<Counts, AllocError>
     requires few { 0 < answers.number }
     requires room { answers.number + length answers.script.now < 2 ^ 32 }
     ensures value { IfOk result (λ counts. counts
-        ≡ counts_of (asked answers.entry.number (lines_of answers.entry.script.now) (lines_of answers.entry.printed.now))) }
+        ≡ counts_of (expected_answers answers.entry.number (lines_of answers.entry.script.now) (lines_of answers.entry.printed.now))) }
     ensures small { IfOk result (λ counts. total counts < 2 ^ 32) }
 {
     let mut answers = answers;
@@ -541,8 +541,8 @@ pub fn report_answers(
     requires { length script.now ≤ most_script_bytes }
     ensures text { IfOk result
         (λ report. report.text.items
-        ≡ report_of form.format form.is_hidden name.now (asked_of script.now printed.now)) }
-    ensures counts { IfOk result (λ report. report.counts ≡ counts_of (asked_of script.now printed.now)) }
+        ≡ report_of form.format form.is_hidden name.now (expected_of script.now printed.now)) }
+    ensures counts { IfOk result (λ report. report.counts ≡ counts_of (expected_of script.now printed.now)) }
 {
     let answers = Answers::of(script, printed);
     let counts = count(alloc, answers)?;

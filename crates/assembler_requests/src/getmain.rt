@@ -35,7 +35,7 @@ const FORMS: &[(Asks, &[&str])] = &[
     (Asks::List, &["LC", "LU"]),
 ];
 
-fn asked_by(form: &str) -> Option<Asks> {
+fn asks_of(form: &str) -> Option<Asks> {
     for (asks, forms) in FORMS {
         if forms.contains(&form) {
             return Some(*asks);
@@ -155,7 +155,7 @@ impl<'a> Request<'a> {
     pub fn getmain(self, names: &mut Names, text: &mut String) -> Result<Comes, Unsaid> {
         self.operands.check(&KEYS)?;
         let form = self.operands.at(0);
-        let Some(asked) = asked_by(form) else {
+        let Some(asked) = asks_of(form) else {
             return Err(self.no_form(form));
         };
         write!(text, "GETMAIN {form}")?;

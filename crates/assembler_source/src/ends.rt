@@ -88,7 +88,7 @@ impl Walk<'_> {
         if is_conditional {
             return Ok(());
         }
-        if to.place <= place && self.goes_round(place, to.place)? {
+        if to.place <= place && self.loops_back(place, to.place)? {
             return self.leave_loop(statement);
         }
         self.at = to.place;
@@ -149,7 +149,7 @@ impl Walk<'_> {
         let source = self.source;
         execute_branch(source.alloc, source.symbols, &mut self.held, statement)?;
         if self.way.repeats(place) {
-            if self.way.goes_back(place) {
+            if self.way.jumps_back(place) {
                 self.at = to.place;
                 return Ok(());
             }

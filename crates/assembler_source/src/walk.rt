@@ -279,7 +279,7 @@ impl<'a> Walk<'a> {
     }
 
     /// Returns whether a branch that is always taken loops, and counts that it jumps back. It fails if memory is exhausted.
-    pub fn goes_round(&mut self, from: usize, to: usize) -> Result<bool, AllocError> {
+    pub fn loops_back(&mut self, from: usize, to: usize) -> Result<bool, AllocError> {
         if let Some(around) = self.source.loops.from(to) {
             if from <= around.end {
                 return Ok(true);

@@ -145,7 +145,7 @@ impl Way {
     }
 
     /// Returns whether the branch at a place jumps back once more, and counts that it does.
-    pub fn goes_back(&mut self, end: usize) -> bool {
+    pub fn jumps_back(&mut self, end: usize) -> bool {
         let Some(round) = self.rounds.get_mut(&end) else {
             return false;
         };

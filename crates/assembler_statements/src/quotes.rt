@@ -53,7 +53,7 @@ impl Opened {
     }
 
     /// Returns a character as a statement keeps it: in upper case outside of quotes.
-    pub fn kept(&self, letter: char) -> char {
+    pub fn stored(&self, letter: char) -> char {
         if self.in_quotes {
             letter
         } else {

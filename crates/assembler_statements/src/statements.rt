@@ -60,7 +60,7 @@ struct Reading {
     /// What the operands of the last statement have opened.
     opened: Opened,
     /// Whether the operands of the last statement go on in the next line.
-    goes_on: bool,
+    continues: bool,
 }
 
 // A word in upper case.
@@ -84,7 +84,7 @@ fn take_operands(field: &mut String, opened: &mut Opened, text: &str) -> Result<
         if opened.ends_operands(letter) {
             return Ok(field.ends_with(","));
         }
-        field.push(opened.kept(letter))?;
+        field.push(opened.stored(letter))?;
         opened.pass(letter);
     }
     Ok(true)
@@ -115,21 +115,21 @@ impl Reading {
             alloc,
             found: Vec::new(alloc),
             opened: Opened::new(),
-            goes_on: false,
+            continues: false,
         }
     }
 
     // Appends operands to the last statement.
     fn take(&mut self, text: &str) -> Result<(), AllocError> {
         if let Some(last) = self.found.last_mut() {
-            self.goes_on = take_operands(&mut last.field, &mut self.opened, text)?;
+            self.continues = take_operands(&mut last.field, &mut self.opened, text)?;
         }
         Ok(())
     }
 
     // Reads the first line of a statement, or a comment.
     fn begin(&mut self, line: &SourceLine) -> Result<(), AllocError> {
-        self.goes_on = false;
+        self.continues = false;
         if line.text.starts_with("*") || line.text.starts_with(".*") {
             return Ok(());
         }
@@ -142,7 +142,7 @@ impl Reading {
 
     // Reads a line that continues the last statement.
     fn go_on(&mut self, line: &SourceLine) -> Result<(), AllocError> {
-        if !self.goes_on {
+        if !self.continues {
             return Ok(());
         }
         let text = columns(self.alloc, &line.text, GO_ON, CONTINUATION - GO_ON)?;

@@ -185,16 +185,16 @@ impl Calculation<'_> {
                 Operator::Times => self.push(self.here),
                 Operator::Plus | Operator::Minus => {
                     self.push(Some(Value::of(0)))?;
-                    self.operator_behind(operator)
+                    self.next_operator(operator)
                 }
                 _ => Err(Stop::Unknown),
             };
         }
-        self.operator_behind(operator)
+        self.next_operator(operator)
     }
 
     // Takes an operator after a value.
-    fn operator_behind(&mut self, operator: Operator) -> Result<(), Stop> {
+    fn next_operator(&mut self, operator: Operator) -> Result<(), Stop> {
         self.apply_before(operator)?;
         self.operators.push(operator)?;
         self.wants_value = true;

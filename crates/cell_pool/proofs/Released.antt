@@ -12,7 +12,7 @@ use Rattle.mvs_model.proofs.TakenCells.{never, same_test, part_found, part_from}
 use Rattle.cell_pool.specs.Layout.{byte_of, count_at, next_at, head_length}
 use Rattle.cell_pool.specs.Roots.{Root, part_addr, part_at, part_of, pool_of}
 use Rattle.cell_pool.specs.Walk.{IsChain}
-use Rattle.cell_pool.specs.Release.{StandsAt, in_first, DropsParts}
+use Rattle.cell_pool.specs.Release.{HoldsPart, in_first, DropsParts}
 use Rattle.cell_pool.proofs.Chains.{part_contained, contained_part}
 use Rattle.cell_pool.proofs.Frame.{next_same, count_is}
 use Rattle.mvs_model.proofs.Below.{some_below, below_some}
@@ -79,8 +79,8 @@ module _ (old : Storage) (r : Root) (ch : IsChain old r) (n : ℕ) (l : n < r.co
 
   module _ (a : ℕ) (e : a ≡ part_addr (byte_of old) r.first n) where
     -- it stands as before
-    pub stands_at : StandsAt now r a
-    stands_at = subst (StandsAt now r) (sym e) (record {
+    pub stands_at : HoldsPart now r a
+    stands_at = subst (HoldsPart now r) (sym e) (record {
       few = subst (λ k. k ≤ 65536) (sym count_now) (ch.laid n l).few;
       low = subst (λ k. part_addr (byte_of old) r.first n + part_length r.cell_size k ≤ 0x3000000) (sym count_now) (ch.low n l);
       whole = subst IsWhole (sym place_now) (ch.whole n l);

@@ -30,8 +30,8 @@ pub record KeepsParts (roots : FinMap name_cmp Root) (old new : Storage) : Type 
       → x < part_addr (byte_of old) r.first j + head_length (count_at (byte_of old) (part_addr (byte_of old) r.first j)) → byte_of new x ≡ byte_of old x
 
 -- What keeps the parts keeps the pools, and their records still agree with storage.
-abbrev pub PartsKept : Type 0
-PartsKept = (roots : FinMap name_cmp Root) (old new : Storage) → Agree roots old → KeepsParts roots old new → Agree roots new × (pools_of roots new ≡ pools_of roots old)
+abbrev pub PartsCarryPools : Type 0
+PartsCarryPools = (roots : FinMap name_cmp Root) (old new : Storage) → Agree roots old → KeepsParts roots old new → Agree roots new × (pools_of roots new ≡ pools_of roots old)
 
 -- No part of a pool has a doubleword of the place.
 abbrev pub IsClear : FinMap name_cmp Pool → PlaceValue → Type 0

@@ -11,4 +11,4 @@ pub mod Laws
 pub mod Release
 pub mod Report
 pub mod Cells
-pub mod Telling
+pub mod Hints

@@ -8,7 +8,7 @@ use Rattle.cell_pool.specs.Layout.{byte_of, count_at}
 use Rattle.cell_pool.specs.Roots.{Root, part_at, part_of}
 
 -- The part at the address is of whole doublewords that the subpool of the pool holds.
-pub record StandsAt (st : Storage) (r : Root) (a : ℕ) : Type 0 where
+pub record HoldsPart (st : Storage) (r : Root) (a : ℕ) : Type 0 where
   pub few : count_at (byte_of st) a ≤ 65536
   pub low : a + part_length r.cell_size (count_at (byte_of st) a) ≤ 0x3000000
   pub whole : IsWhole (part_at (byte_of st) r.cell_size a).place

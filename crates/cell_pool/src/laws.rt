@@ -1,10 +1,10 @@
 //! Laws of what is kept of the pools: each function has an empty body, and its contract is the law.
 
-ghost use Rattle.cell_pool.specs.Laws.{PartsKept, GrantKeeps, ReleaseKeeps, ReleaseAllKeeps, WriteKeeps, FewerAgree, NoneAgree, BuildIsStep, DropsSubpool, SplitsBytes};
+ghost use Rattle.cell_pool.specs.Laws.{PartsCarryPools, GrantKeeps, ReleaseKeeps, ReleaseAllKeeps, WriteKeeps, FewerAgree, NoneAgree, BuildIsStep, DropsSubpool, SplitsBytes};
 
 /// What keeps the parts of the pools keeps the pools.
-pub fn parts_kept()
-    ensures { PartsKept }
+pub fn parts_carry_pools()
+    ensures { PartsCarryPools }
 {}
 
 /// A grant keeps the parts of the pools.

@@ -6,7 +6,7 @@ ghost use Rattle.mvs_model.specs.Storage.{AllHeld, Chosen, Grant, IsStorage, NoP
 ghost use Rattle.mvs_model.specs.Pools.{part_length, part_want};
 ghost use Rattle.mvs_model.specs.View.{IsBounded};
 ghost use Rattle.cell_pool.specs.Layout.{head_length};
-ghost use Rattle.cell_pool.specs.Laying.{LaysOut, PutsWord, StandsFor};
+ghost use Rattle.cell_pool.specs.Laying.{LaysOut, PutsWord, IsEquivalentWant};
 
 use crate::walk::bytes_before;
 use crate::words::{fill, put};
@@ -29,7 +29,7 @@ fn part_bytes(size: u32, count: u32) -> u64
 /// Returns the requirements for a part with a number of cells of a size. A length that no region has is replaced by a shorter one
 /// that none has either.
 pub fn part_want(size: CellSize, count: CellCount, side: Side) -> Want
-    ensures { StandsFor (part_want size count side) result }
+    ensures { IsEquivalentWant (part_want size count side) result }
 {
     let bytes = part_bytes(size.get(), count.get());
     let length = bytes.min(0x7FFF_FFF8);
@@ -37,7 +37,7 @@ pub fn part_want(size: CellSize, count: CellCount, side: Side) -> Want
 }
 
 // Returns where a part begins whose first cell is at the hinted address.
-fn part_told(told: Option<Addr>, count: CellCount) -> Option<Addr>
+fn part_at_hint(told: Option<Addr>, count: CellCount) -> Option<Addr>
     ensures { (a : ℕ) → told ≡ Some (a + head_length count) → result ≡ Some a }
 {
     let Some(first) = told else {
@@ -74,7 +74,7 @@ pub(crate) fn obtain_part(
         return None;
     }
     let want = Want::fixed(Length::new(bytes as u32), Exponent::new(3), side);
-    store.obtain(subpool, &want, part_told(told, count))
+    store.obtain(subpool, &want, part_at_hint(told, count))
 }
 
 // Writes a word.

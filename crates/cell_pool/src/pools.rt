@@ -32,7 +32,7 @@ ghost use Rattle.cell_pool.specs.Roots.{extended, pool_of, pools_of, taken_of};
 ghost use Rattle.cell_pool.specs.Agree.{Agree};
 ghost use Rattle.cell_pool.specs.Entries.{IsAmong};
 ghost use Rattle.cell_pool.specs.Extended.{Extended, MayAdd, NoRoom};
-ghost use Rattle.cell_pool.specs.Telling.{CellTakesTold, PartTakesTold};
+ghost use Rattle.cell_pool.specs.Hints.{CellFollowsHint, PartFollowsHint};
 ghost use Rattle.mvs_model.specs.Place.{PlaceValue};
 
 use crate::entry::{Entry, find, find_key, has_none, remove, remove_each, set_root};
@@ -301,7 +301,7 @@ impl Pools {
             (Refused
             (causes_of_build self.old store.old.storage name.now subpool plan.now)) }
         ensures told { (a : ℕ) → told ≡ Some a
-            → OnOk result (PartTakesTold store.old.storage name.now (new_pool subpool plan.now)
+            → OnOk result (PartFollowsHint store.old.storage name.now (new_pool subpool plan.now)
             plan.now.primary a (pools_of self.new store.new.storage)) }
         ensures agree { Agree self.new store.new.storage }
         ensures unchanged { OnErr result (store.new.storage ≡ store.old.storage) }
@@ -476,7 +476,7 @@ impl Pools {
             (state_of store.new.storage o (pools_of self.new store.new.storage)) }
         ensures told { (o : Owners) (a : ℕ)
             → let old = state_of store.old.storage o (pools_of self.old store.old.storage) in
-            told ≡ Some a → IfOk result (CellTakesTold old name.now a first) }
+            told ≡ Some a → IfOk result (CellFollowsHint old name.now a first) }
         ensures agree { Agree self.new store.new.storage }
         ensures unchanged { OnErr result (store.new.storage ≡ store.old.storage) }
         ensures pools_unchanged { OnErr result (self.new ≡ self.old) }

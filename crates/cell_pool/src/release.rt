@@ -3,7 +3,7 @@
 ghost use Rattle.std.specs.Prelude.{◌≡◌};
 ghost use Rattle.mvs_model.specs.Storage.{IsStorage, Release};
 ghost use Rattle.cell_pool.specs.Layout.{byte_of, next_at};
-ghost use Rattle.cell_pool.specs.Release.{DropsParts, StandsAt};
+ghost use Rattle.cell_pool.specs.Release.{DropsParts, HoldsPart};
 ghost use Rattle.cell_pool.specs.Roots.{part_at};
 ghost use Rattle.cell_pool.specs.Walk.{IsChain};
 
@@ -15,7 +15,7 @@ use subpool_store::Store;
 
 // Gives back the part at an address, and says where the next one is.
 fn release_part(store: &mut Store, root: &Root, part: u32) -> u32
-    requires { StandsAt store.old.storage root.now part }
+    requires { HoldsPart store.old.storage root.now part }
     ensures released { Release store.old.storage root.now.subpool
         (part_at (byte_of store.old.storage) root.now.cell_size part).place store.new.storage }
     ensures storage { IsStorage store.new.storage }

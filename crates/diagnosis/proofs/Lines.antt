@@ -5,7 +5,7 @@ use Rattle.std.specs.List.{list_any}
 use Rattle.std.proofs.lemmas.Bool.{not-true}
 use Rattle.mvs_model.specs.declared.line.Fault.{Fault}
 use Rattle.mvs_model.specs.Grammar as grammar
-use Rattle.mvs_model.specs.Reading.{operands_in, operands_of, operation_in, parts_within, is_empty, row_of, rows_of, words, behind_form, first_of, operand_checks, with_left}
+use Rattle.mvs_model.specs.Reading.{operands_in, operands_of, operation_in, parts_within, is_empty, row_of, rows_of, words, operands_after_form, first_of, operand_checks, with_left}
 use Rattle.job_script.specs.declared.operations.Operation.{Operation}
 use Rattle.job_script.specs.declared.operations.Operation.TheVariants as operation
 use Rattle.job_script.specs.Operations.{operation_text}
@@ -17,7 +17,7 @@ use Rattle.job_script.proofs.Taking.{fault_at}
 use Rattle.job_script.proofs.Stating.{operands_by, first_field, field_behind}
 use Rattle.job_script.specs.Rows.{row_at}
 use Rattle.diagnosis.specs.declared.operands.Operands.{Operands}
-use Rattle.diagnosis.specs.Behind.{AreOperands, IsBehindForm}
+use Rattle.diagnosis.specs.AfterForm.{AreOperands, AreAfterForm}
 use Rattle.diagnosis.specs.Blame.{IsField, IsOperandBlamed, IsRefused, before, columns_of, form_before, part_of}
 use Rattle.diagnosis.specs.declared.columns.Columns.{Columns}
 
@@ -74,16 +74,16 @@ pub row_line : (line op : List ℕ) (os : List (List ℕ)) (row : grammar.Row) �
 row_line line op os row e f is = (λ i. row_of (sym e i) (sym f i)) ∙ is
 
 pub line_behind : (row : grammar.Row) (line : List ℕ) (o : Option Operands) (at : ℕ) (text : List ℕ) (os : List (List ℕ)) → IsField line at text → operands_of line ≡ os
-    → MatchOption o (behind_form row os ≡ []) (λ o. (row_at o.row ≡ row) × IsBehindForm row at os o.at o.text.now)
-    → MatchOption o (behind_form row (operands_of line) ≡ []) (λ o. (row_at o.row ≡ row) × AreOperands row line o.at o.text.now)
-line_behind row line None at text os field e none = ap (behind_form row) e ∙ none
-line_behind row line (Some o) at text os field e (same, behind) = (same, record { start = at; field = text; behind = field; form = subst (λ os. IsBehindForm row at os o.at o.text.now) (sym e) behind })
+    → MatchOption o (operands_after_form row os ≡ []) (λ o. (row_at o.row ≡ row) × AreAfterForm row at os o.at o.text.now)
+    → MatchOption o (operands_after_form row (operands_of line) ≡ []) (λ o. (row_at o.row ≡ row) × AreOperands row line o.at o.text.now)
+line_behind row line None at text os field e none = ap (operands_after_form row) e ∙ none
+line_behind row line (Some o) at text os field e (same, behind) = (same, record { start = at; field = text; behind = field; form = subst (λ os. AreAfterForm row at os o.at o.text.now) (sym e) behind })
 
 -- the columns of the first operand that is refused
 pub operand_blamed : (row : grammar.Row) (line : List ℕ) (fault : Fault) (at : ℕ) (text operand : List ℕ) (behind : ℕ) (told : Fault) (columns : Columns)
     → AreOperands row line at text → IsRefused row (parts_within 0 (field_in text)) behind operand told
     → columns ≡ columns_of (length line) (at + behind + (part_of row told operand).0) (part_of row told operand).1
-    → first_of (flat_map (operand_checks row) (with_left (behind_form row (operands_of line)))) ≡ Some fault
+    → first_of (flat_map (operand_checks row) (with_left (operands_after_form row (operands_of line)))) ≡ Some fault
     → (told ≡ fault) × IsOperandBlamed row line fault columns
 operand_blamed row line fault at text operand behind told columns operands refused is first =
     let parts = operands.form.parts ∙ refused.parts in

@@ -13,7 +13,7 @@ before_more [] o = omega arith
 before_more (x ∷ xs) o = let more = before_more xs o in omega (arith, more)
 
 -- what is known when the operands on the left of a text were taken, and how far that is
-pub record GoesOn (old now : Given) (field rest : List ℕ) (at : ℕ) : Type 0 where
+pub record ContinuesRun (old now : Given) (field rest : List ℕ) (at : ℕ) : Type 0 where
   pub on : TakesOn old now field rest
   pub place : at ≡ before on.left
   pub within : at + length rest ≡ length field

@@ -4,7 +4,7 @@ use Rattle.std.specs.List.{list_any}
 use Rattle.mvs_model.specs.declared.line.Fault.{Fault}
 use Rattle.mvs_model.specs.declared.line.Fault.TheVariants.{Repeated}
 use Rattle.mvs_model.specs.Grammar.{Row}
-use Rattle.mvs_model.specs.Reading.{behind_form, first_of, has_key, is_empty, key_of, operand_checks, operands_of, text_of, with_left, words}
+use Rattle.mvs_model.specs.Reading.{operands_after_form, first_of, has_key, is_empty, key_of, operand_checks, operands_of, text_of, with_left, words}
 use Rattle.job_script.specs.Parted.{starts_word}
 use Rattle.diagnosis.specs.declared.columns.Columns.{Columns}
 
@@ -57,7 +57,7 @@ pub record IsOperandBlamed (row : Row) (bytes : List ℕ) (fault : Fault) (told 
   pub at : ℕ
   pub operand : List ℕ
   pub behind : IsField bytes start field
-  pub refused : IsRefused row (behind_form row (operands_of bytes)) at operand fault
+  pub refused : IsRefused row (operands_after_form row (operands_of bytes)) at operand fault
   pub columns : told ≡ columns_of (length bytes) (start + before (form_before row (operands_of bytes)) + at + (part_of row fault operand).0) (part_of row fault operand).1
 
 -- The columns are in the line.

@@ -1,2 +1,2 @@
 pub mod Blame
-pub mod Behind
+pub mod AfterForm

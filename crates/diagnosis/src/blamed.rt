@@ -3,7 +3,7 @@
 ghost use Rattle.std.specs.Prelude.{◌≡◌, ◌≤◌, Some, flat_map, length, IfSome, MatchOption};
 ghost use Rattle.mvs_model.specs.declared.line.Fault.{Fault as LineFault};
 ghost use Rattle.mvs_model.specs.Grammar as grammar;
-ghost use Rattle.mvs_model.specs.Reading.{behind_form, first_of, operand_checks, operands_of, operation_in, row_of, with_left};
+ghost use Rattle.mvs_model.specs.Reading.{operands_after_form, first_of, operand_checks, operands_of, operation_in, row_of, with_left};
 ghost use Rattle.job_script.specs.Rows.{row_at};
 ghost use Rattle.diagnosis.specs.Blame.{AreWithin, IsOperandBlamed};
 
@@ -31,7 +31,7 @@ pub fn blamed_operand(line: &[u8]) -> Option<Blamed<'_>>
     ensures blamed { (row : grammar.Row) (fault : LineFault)
         → row_of (operation_in line.now) (operands_of line.now) ≡ Some row
         → first_of
-        (flat_map (operand_checks row) (with_left (behind_form row (operands_of line.now))))
+        (flat_map (operand_checks row) (with_left (operands_after_form row (operands_of line.now))))
         ≡ Some fault
         → MatchOption result ⊥
         (λ b. (row_at b.row ≡ row) × (b.fault ≡ fault)

@@ -5,10 +5,10 @@ use crate::hint::Hint;
 use crate::lacking::{conflict, missing};
 use crate::near::{near_form, near_operation};
 use crate::operands::{Field, field_of, second_word};
-use crate::said::Said;
+use crate::message::Message;
 use job_script::addresses::is_name;
 use job_script::operations::read_operation;
-use job_script::parted::{behind_blanks, next_operand, parted};
+use job_script::parted::{skip_blanks, next_operand, parted};
 use mvs_model::line::Fault;
 use std::alloc::Global;
 
@@ -17,7 +17,7 @@ use std::alloc::Global;
 pub struct Found<'a> {
     pub at: usize,
     pub count: usize,
-    pub said: Said<'a>,
+    pub said: Message<'a>,
     pub hint: Hint<'a>,
 }
 
@@ -46,16 +46,16 @@ fn invalid_byte(line: &[u8]) -> Found<'static> {
             return Found {
                 at,
                 count: 1,
-                said: Said::Byte(*byte),
+                said: Message::Byte(*byte),
                 hint: byte_hint(line, at, *byte),
             };
         }
     }
-    whole(line, Said::Something)
+    whole(line, Message::Something)
 }
 
 // All of a line.
-fn whole<'a>(line: &[u8], said: Said<'a>) -> Found<'a> {
+fn whole<'a>(line: &[u8], said: Message<'a>) -> Found<'a> {
     Found {
         at: 0,
         count: line.len(),
@@ -107,8 +107,8 @@ fn task_fault<'a>(task: &'a [u8], line: &'a [u8]) -> Found<'a> {
     if task.is_empty() {
         return Found {
             at: 0,
-            count: place_of(line, behind_blanks(line)),
-            said: Said::Blank,
+            count: place_of(line, skip_blanks(line)),
+            said: Message::Blank,
             hint: Hint::Says("column 1 must have the task name"),
         };
     }
@@ -121,7 +121,7 @@ fn task_fault<'a>(task: &'a [u8], line: &'a [u8]) -> Found<'a> {
     Found {
         at: 0,
         count: task.len(),
-        said: Said::Task(task),
+        said: Message::Task(task),
         hint,
     }
 }
@@ -137,7 +137,7 @@ fn form_fault<'a>(alloc: Global, field: &Field<'a>) -> Found<'a> {
     Found {
         at: field.at,
         count: form.len(),
-        said: Said::Form(field.operation, form),
+        said: Message::Form(field.operation, form),
         hint,
     }
 }
@@ -149,7 +149,7 @@ fn unknown(alloc: Global, line: &[u8]) -> Found<'_> {
         return task_fault(task, line);
     }
     let text = match rest {
-        Some(rest) => behind_blanks(rest),
+        Some(rest) => skip_blanks(rest),
         None => &[],
     };
     if text.is_empty() {
@@ -157,7 +157,7 @@ fn unknown(alloc: Global, line: &[u8]) -> Found<'_> {
         return Found {
             at: line.len(),
             count: 1,
-            said: Said::NoOperation,
+            said: Message::NoOperation,
             hint,
         };
     }
@@ -167,7 +167,7 @@ fn unknown(alloc: Global, line: &[u8]) -> Found<'_> {
         _ => Found {
             at: place_of(line, text),
             count: word.len(),
-            said: Said::Operation(word),
+            said: Message::Operation(word),
             hint: operation_hint(alloc, task, word),
         },
     }
@@ -176,7 +176,7 @@ fn unknown(alloc: Global, line: &[u8]) -> Found<'_> {
 // A first statement that is another one than REGION, or a script without a statement.
 fn out_of_place(line: &[u8]) -> Found<'_> {
     if line.is_empty() {
-        return whole(line, Said::NoStatement);
+        return whole(line, Message::NoStatement);
     }
     let (word, rest) = second_word(line);
     let blank = if rest.is_empty() { 0 } else { 1 };
@@ -184,18 +184,18 @@ fn out_of_place(line: &[u8]) -> Found<'_> {
     Found {
         at: end.saturating_sub(word.len()).saturating_sub(blank),
         count: word.len(),
-        said: Said::NotFirst,
+        said: Message::NotFirst,
         hint: Hint::Says("for example JOB REGION BELOW=4"),
     }
 }
 
 // Describes a line that is too long. Only bytes that a line can have are checked, and they are there however it was read.
-fn too_long(line: &[u8]) -> Said<'_> {
+fn too_long(line: &[u8]) -> Message<'_> {
     let front = &line[..line.len().min(LONGEST)];
     if front.contains(&0) {
-        Said::NoText
+        Message::NoText
     } else {
-        Said::TooLong
+        Message::TooLong
     }
 }
 
@@ -211,10 +211,10 @@ pub fn find_fault<'a>(alloc: Global, line: &'a [u8], fault: Fault) -> Found<'a> 
         Fault::InvalidByte => invalid_byte(line),
         Fault::UnknownOperation => unknown(alloc, line),
         Fault::OutOfPlace => out_of_place(line),
-        Fault::MissingOperand => missing(line).unwrap_or(whole(line, Said::Something)),
-        Fault::Conflicting => conflict(line).unwrap_or(whole(line, Said::Something)),
+        Fault::MissingOperand => missing(line).unwrap_or(whole(line, Message::Something)),
+        Fault::Conflicting => conflict(line).unwrap_or(whole(line, Message::Something)),
         Fault::InvalidOperand | Fault::Repeated | Fault::OutOfRange => {
-            whole(line, Said::Something)
+            whole(line, Message::Something)
         }
     }
 }

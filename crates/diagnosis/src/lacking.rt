@@ -5,7 +5,7 @@ ghost use Rattle.job_script.specs.Given.{IsRead};
 use crate::faults::{Found, place_of};
 use crate::hint::Hint;
 use crate::operands::{Field, field_of, second_word};
-use crate::said::{Missing, Said};
+use crate::message::{Missing, Message};
 use crate::words::Called;
 use job_script::given::Given;
 use job_script::items::{between, count};
@@ -89,7 +89,7 @@ fn remark_hint(text: &[u8]) -> Hint<'_> {
 }
 
 // Describes what is missing, at the place after the operands.
-fn missing_at<'a>(line: &[u8], text: &'a [u8], said: Said<'a>) -> Found<'a> {
+fn missing_at<'a>(line: &[u8], text: &'a [u8], said: Message<'a>) -> Found<'a> {
     let (field, _) = parted(text, b' ');
     Found {
         at: place_of(line, text).saturating_add(field.len()),
@@ -100,13 +100,13 @@ fn missing_at<'a>(line: &[u8], text: &'a [u8], said: Said<'a>) -> Found<'a> {
 }
 
 // The operands that a row requires of a field, and that are not there.
-fn missing_of<'a>(called: Called<'a>, row: Row, text: Option<&'a [u8]>) -> Option<Said<'a>> {
+fn missing_of<'a>(called: Called<'a>, row: Row, text: Option<&'a [u8]>) -> Option<Message<'a>> {
     let mut given = Given::none(row);
     match given.take_field(text) {
         Ok(()) => {
             let keywords = lacking(&given);
             let count = given.count;
-            Some(Said::Missing(
+            Some(Message::Missing(
                 called,
                 Missing {
                     row,
@@ -128,7 +128,7 @@ fn form_missing<'a>(operation: Operation, field: &Field<'a>) -> Option<Found<'a>
     Some(Found {
         at: field.at,
         count: form.len(),
-        said: Said::Keyed(operation, form),
+        said: Message::Keyed(operation, form),
         hint: Hint::Nothing,
     })
 }
@@ -139,7 +139,7 @@ pub fn missing(line: &[u8]) -> Option<Found<'_>> {
     let operation = read_operation(word)?;
     let Some(field) = field_of(line) else {
         if operation.takes_form() {
-            return Some(missing_at(line, rest, Said::NoForm(operation)));
+            return Some(missing_at(line, rest, Message::NoForm(operation)));
         }
         let (called, row, _) = row_of(operation, None)?;
         return Some(missing_at(line, rest, missing_of(called, row, None)?));
@@ -152,7 +152,7 @@ pub fn missing(line: &[u8]) -> Option<Found<'_>> {
 }
 
 // The rule that operands break, and a key of it that was given.
-fn broken(given: &Given<'_>) -> Option<(Said<'static>, Key)>
+fn broken(given: &Given<'_>) -> Option<(Message<'static>, Key)>
     requires { IsRead given.now }
 {
     for rule in given.row.rules() {
@@ -160,14 +160,14 @@ fn broken(given: &Given<'_>) -> Option<(Said<'static>, Key)>
             Rule::Together(_, _) => {}
             Rule::Excludes(one, other) => {
                 if given.text(*one).is_some() && given.text(*other).is_some() {
-                    return Some((Said::Excluded(*one, *other), *other));
+                    return Some((Message::Excluded(*one, *other), *other));
                 }
             }
             Rule::SameLength(one, other) => {
                 let lists = (given.text(*one), given.text(*other));
                 if let (Some(these), Some(those)) = lists {
                     if count(between(these)) != count(between(those)) {
-                        return Some((Said::Unequal(*one, *other), *other));
+                        return Some((Message::Unequal(*one, *other), *other));
                     }
                 }
             }
@@ -177,7 +177,7 @@ fn broken(given: &Given<'_>) -> Option<(Said<'static>, Key)>
                 } else {
                     *others
                 };
-                return Some((Said::Both, key));
+                return Some((Message::Both, key));
             }
         }
     }
@@ -201,7 +201,7 @@ fn keyed(text: &[u8], key: &[u8]) -> Option<(usize, usize)> {
 }
 
 // The rule that the operands of a text break.
-fn broken_by(row: Row, text: &[u8]) -> Option<(Said<'static>, Key)> {
+fn broken_by(row: Row, text: &[u8]) -> Option<(Message<'static>, Key)> {
     let mut given = Given::none(row);
     match given.take_field(Some(text)) {
         Ok(()) => broken(&given),

@@ -4,7 +4,7 @@
 
 ghost use Rattle.std.specs.Prelude.{◌≡◌, ◌≤◌, Some, flat_map, length};
 ghost use Rattle.mvs_model.specs.Grammar as grammar;
-ghost use Rattle.mvs_model.specs.Reading.{behind_form, first_of, operand_checks, operands_of, operation_in, row_of, with_left};
+ghost use Rattle.mvs_model.specs.Reading.{operands_after_form, first_of, operand_checks, operands_of, operation_in, row_of, with_left};
 ghost use Rattle.diagnosis.specs.Blame.{AreWithin, IsOperandBlamed};
 
 mod blamed;
@@ -15,7 +15,7 @@ mod lacking;
 mod near;
 mod operands;
 mod refused;
-mod said;
+mod message;
 mod unserved;
 mod values;
 mod words;
@@ -27,7 +27,7 @@ use crate::hint::Hint;
 use crate::lacking::row_of as row_of_field;
 pub use crate::near::edits_between;
 use crate::operands::{field_of, second_word};
-use crate::said::Said;
+use crate::message::Message;
 pub use crate::unserved::{Clue, NotServed};
 use crate::values::{key_hint, keyword_of, range_hint, value_hint};
 use crate::words::Called;
@@ -48,7 +48,7 @@ pub struct Diagnosis<'a> {
     pub fault: Fault,
     pub columns: Columns,
     line: &'a [u8],
-    said: Said<'a>,
+    said: Message<'a>,
     hint: Hint<'a>,
 }
 
@@ -104,13 +104,13 @@ fn operand_hint<'a>(
 }
 
 // Describes an operand that is not accepted, with a hint.
-fn operand_said<'a>(alloc: Global, line: &'a [u8], blamed: &Blamed<'a>) -> (Said<'a>, Hint<'a>) {
+fn operand_message<'a>(alloc: Global, line: &'a [u8], blamed: &Blamed<'a>) -> (Message<'a>, Hint<'a>) {
     match called_in(line) {
         Some(called) => (
-            Said::Operand(called, *blamed),
+            Message::Operand(called, *blamed),
             operand_hint(alloc, line, &called, blamed),
         ),
-        None => (Said::Something, Hint::Nothing),
+        None => (Message::Something, Hint::Nothing),
     }
 }
 
@@ -123,13 +123,13 @@ pub fn diagnose<'a>(alloc: Global, line: &'a [u8], fault: Fault) -> Diagnosis<'a
     ensures operand { (row : grammar.Row)
         → row_of (operation_in line.now) (operands_of line.now) ≡ Some row
         → first_of
-        (flat_map (operand_checks row) (with_left (behind_form row (operands_of line.now))))
+        (flat_map (operand_checks row) (with_left (operands_after_form row (operands_of line.now))))
         ≡ Some fault
         → IsOperandBlamed row line.now fault result.columns }
 {
     match blamed_operand(line) {
         Some(blamed) if blamed.fault == fault => {
-            let (said, hint) = operand_said(alloc, line, &blamed);
+            let (said, hint) = operand_message(alloc, line, &blamed);
             Diagnosis {
                 fault,
                 columns: blamed.columns,

@@ -2,15 +2,15 @@
 
 ghost use Rattle.std.specs.Prelude.{◌≡◌, ◌≤◌, ◌<◌, ◌+◌, ◌^◌, ◌⊎◌, [], Some, drop, length, true, false, IfSome, MatchOption};
 ghost use Rattle.mvs_model.specs.Grammar as grammar;
-ghost use Rattle.mvs_model.specs.Reading.{behind_form, operands_of, operation_in, parts_within, row_of, rows_of, takes_form, words};
+ghost use Rattle.mvs_model.specs.Reading.{operands_after_form, operands_of, operation_in, parts_within, row_of, rows_of, takes_form, words};
 ghost use Rattle.job_script.specs.Operations.{operation_text};
 ghost use Rattle.job_script.specs.Parted.{IsEnd, field_in};
 ghost use Rattle.job_script.specs.Rows.{row_at};
 ghost use Rattle.diagnosis.specs.Blame.{IsField};
-ghost use Rattle.diagnosis.specs.Behind.{AreOperands, IsBehindForm};
+ghost use Rattle.diagnosis.specs.AfterForm.{AreOperands, AreAfterForm};
 
 use job_script::operations::{Operation, read_operation};
-use job_script::parted::{behind_blanks, next_operand, next_word};
+use job_script::parted::{skip_blanks, next_operand, next_word};
 use job_script::rows::Row;
 
 /// The operation of a line, where the field after it begins, and the text from there on.
@@ -55,7 +55,7 @@ pub fn field_of(line: &[u8]) -> Option<Field<'_>>
     if matches!(operation, Operation::Return) {
         return None;
     }
-    let text = behind_blanks(rest);
+    let text = skip_blanks(rest);
     if text.is_empty() {
         return None;
     }
@@ -67,16 +67,16 @@ pub fn field_of(line: &[u8]) -> Option<Field<'_>>
 }
 
 // Returns the operands after the form of an operation that has one.
-fn behind_form<'a>(field: &Field<'a>) -> Option<Operands<'a>>
+fn operands_after_form<'a>(field: &Field<'a>) -> Option<Operands<'a>>
     requires room { field.now.at + length field.now.text.now < 2 ^ 63 }
     requires formed { takes_form (operation_text field.now.operation) ≡ true }
     ensures behind { (row : grammar.Row)
         → row_of (operation_text field.now.operation)
         (parts_within 0 (field_in field.now.text.now))
         ≡ Some row
-        → MatchOption result (behind_form row (parts_within 0 (field_in field.now.text.now)) ≡ [])
+        → MatchOption result (operands_after_form row (parts_within 0 (field_in field.now.text.now)) ≡ [])
         (λ o. (row_at o.row ≡ row)
-        × IsBehindForm row field.now.at (parts_within 0 (field_in field.now.text.now)) o.at
+        × AreAfterForm row field.now.at (parts_within 0 (field_in field.now.text.now)) o.at
         o.text.now) }
     ensures within { IfSome result
         (λ o. o.at + length o.text.now ≤ field.now.at + length field.now.text.now) }
@@ -102,9 +102,9 @@ fn without_form<'a>(field: &Field<'a>) -> Option<Operands<'a>>
         → row_of (operation_text field.now.operation)
         (parts_within 0 (field_in field.now.text.now))
         ≡ Some row
-        → MatchOption result (behind_form row (parts_within 0 (field_in field.now.text.now)) ≡ [])
+        → MatchOption result (operands_after_form row (parts_within 0 (field_in field.now.text.now)) ≡ [])
         (λ o. (row_at o.row ≡ row)
-        × IsBehindForm row field.now.at (parts_within 0 (field_in field.now.text.now)) o.at
+        × AreAfterForm row field.now.at (parts_within 0 (field_in field.now.text.now)) o.at
         o.text.now) }
     ensures within { IfSome result
         (λ o. o.at + length o.text.now ≤ field.now.at + length field.now.text.now) }
@@ -123,7 +123,7 @@ fn without_form<'a>(field: &Field<'a>) -> Option<Operands<'a>>
 pub fn operands_in(line: &[u8]) -> Option<Operands<'_>>
     ensures operands { (row : grammar.Row)
         → row_of (operation_in line.now) (operands_of line.now) ≡ Some row
-        → MatchOption result (behind_form row (operands_of line.now) ≡ [])
+        → MatchOption result (operands_after_form row (operands_of line.now) ≡ [])
         (λ o. (row_at o.row ≡ row) × AreOperands row line.now o.at o.text.now) }
     ensures within { IfSome result (λ o. o.at + length o.text.now ≤ length line.now) }
 {
@@ -131,7 +131,7 @@ pub fn operands_in(line: &[u8]) -> Option<Operands<'_>>
         return None;
     };
     if field.operation.takes_form() {
-        behind_form(&field)
+        operands_after_form(&field)
     } else {
         without_form(&field)
     }

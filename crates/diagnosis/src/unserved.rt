@@ -24,25 +24,25 @@ pub enum Clue {
 
 // What there is not: an active task, or a name that is set.
 #[derive(Clone, Copy)]
-enum Lacked {
+enum Needed {
     Task,
     Name,
 }
 
-impl Lacked {
+impl Needed {
     // Writes what a line before is to do.
     fn write_before<W: fmt::Write>(&self, f: &mut fmt::Formatter<W>, line: u32) -> fmt::Result {
         match self {
-            Lacked::Task => write!(f, " it begins in line {line}, but is not active here"),
-            Lacked::Name => write!(f, " the request in line {line} was not granted"),
+            Needed::Task => write!(f, " it begins in line {line}, but is not active here"),
+            Needed::Name => write!(f, " the request in line {line} was not granted"),
         }
     }
 
     // Writes what a later line does.
-    fn write_behind<W: fmt::Write>(&self, f: &mut fmt::Formatter<W>, line: u32) -> fmt::Result {
+    fn write_later<W: fmt::Write>(&self, f: &mut fmt::Formatter<W>, line: u32) -> fmt::Result {
         match self {
-            Lacked::Task => write!(f, " it is attached in line {line}"),
-            Lacked::Name => write!(f, " it is set in line {line}"),
+            Needed::Task => write!(f, " it is attached in line {line}"),
+            Needed::Name => write!(f, " it is set in line {line}"),
         }
     }
 }
@@ -52,7 +52,7 @@ impl Lacked {
 pub struct NotServed<'a> {
     pub columns: Columns,
     line: &'a [u8],
-    lacked: Lacked,
+    lacked: Needed,
     name: Name,
     clue: Clue,
 }
@@ -68,7 +68,7 @@ fn follows(byte: u8) -> bool {
 }
 
 // Returns whether a name is in a line at a place, as a word of its own.
-fn stands(line: &[u8], at: usize, name: &[u8]) -> bool {
+fn is_word_at(line: &[u8], at: usize, name: &[u8]) -> bool {
     let before = match line.get(at.wrapping_sub(1)) {
         Some(byte) => leads(*byte),
         None => true,
@@ -88,7 +88,7 @@ fn place_of(line: &[u8], name: &[u8]) -> usize {
     let (_, rest) = second_word(line);
     let start = line.len().saturating_sub(rest.len());
     for at in 0..line.len() {
-        if at >= start && stands(line, at, name) {
+        if at >= start && is_word_at(line, at, name) {
             return at;
         }
     }
@@ -104,7 +104,7 @@ impl<'a> NotServed<'a> {
         NotServed {
             columns: Columns::of(line, 0, count),
             line,
-            lacked: Lacked::Task,
+            lacked: Needed::Task,
             name: task,
             clue,
         }
@@ -120,7 +120,7 @@ impl<'a> NotServed<'a> {
         NotServed {
             columns: Columns::of(line, at, count),
             line,
-            lacked: Lacked::Name,
+            lacked: Needed::Name,
             name,
             clue,
         }
@@ -132,7 +132,7 @@ impl<'a> NotServed<'a> {
             Clue::Nothing => Ok(()),
             Clue::Meant(name) => write!(f, " did you mean {}?", Plain(name.text())),
             Clue::Before(line) => self.lacked.write_before(f, *line),
-            Clue::Behind(line) => self.lacked.write_behind(f, *line),
+            Clue::Behind(line) => self.lacked.write_later(f, *line),
         }
     }
 }
@@ -144,8 +144,8 @@ impl fmt::Display for NotServed<'_> {
         let column = self.columns.first.max(1);
         let name = Plain(self.name.text());
         match self.lacked {
-            Lacked::Task => writeln!(f, "{column}: NOT RUN: no task {name} is active")?,
-            Lacked::Name => writeln!(f, "{column}: NO NAME: {name} is not set")?,
+            Needed::Task => writeln!(f, "{column}: NOT RUN: no task {name} is active")?,
+            Needed::Name => writeln!(f, "{column}: NO NAME: {name} is not set")?,
         }
         write_marked(f, self.line, self.columns)?;
         self.write_clue(f)?;

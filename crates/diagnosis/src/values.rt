@@ -38,7 +38,7 @@ fn meant_number(text: &[u8]) -> Option<u64> {
 }
 
 // Returns the text after the digits at its beginning.
-fn behind_digits(text: &[u8]) -> &[u8] {
+fn after_digits(text: &[u8]) -> &[u8] {
     for (i, byte) in text.iter().enumerate() {
         if !byte.is_ascii_digit() {
             return &text[i..];
@@ -55,7 +55,7 @@ fn number_hint(text: &[u8]) -> Hint<'_> {
     if inside(text).is_some() {
         return Hint::Says("one number, without parentheses");
     }
-    let behind = behind_digits(text);
+    let behind = after_digits(text);
     if behind.len() < text.len() && behind.contains(&b'=') {
         return Hint::Comma(behind);
     }

@@ -1,7 +1,7 @@
 //! How an emulator uses the library: each supervisor call of its program is a line, and the answer comes back as a value.
 #![tactic(auto)]
 
-use mvs_job::{Explainer, LineTold, Session};
+use mvs_job::{Explainer, LineEvent, Session};
 use mvs_model::answer::Answer;
 use mvs_model::code::Code;
 use mvs_model::want::Placement;
@@ -40,12 +40,12 @@ fn take_answer(rt: &HostRuntime, session: &Session, answer: &Answer) -> io::Resu
 }
 
 // Handles the events of a line.
-fn take(rt: &HostRuntime, session: &Session, told: &LineTold) -> io::Result<()> {
+fn take(rt: &HostRuntime, session: &Session, told: &LineEvent) -> io::Result<()> {
     match told {
-        LineTold::Nothing => Ok(()),
-        LineTold::Began { .. } => println!(rt; "a step begins"),
-        LineTold::Answered { answer, .. } => take_answer(rt, session, answer),
-        LineTold::Faulted(fault) => println!(rt; "the call is no statement: {fault:?}"),
+        LineEvent::Nothing => Ok(()),
+        LineEvent::Began { .. } => println!(rt; "a step begins"),
+        LineEvent::Answered { answer, .. } => take_answer(rt, session, answer),
+        LineEvent::Faulted(fault) => println!(rt; "the call is no statement: {fault:?}"),
     }
 }
 

@@ -9,10 +9,10 @@ use Rattle.mvs_model.specs.Job.{JobValue}
 use Rattle.mvs_job.specs.declared.consumer.End.{End}
 use Rattle.mvs_job.specs.declared.printing.Stop.{Stop}
 use Rattle.mvs_job.specs.declared.printing.Stop.TheVariants as stop
-use Rattle.mvs_job.specs.declared.walk.LineTold.{LineTold}
+use Rattle.mvs_job.specs.declared.walk.LineEvent.{LineEvent}
 use Rattle.mvs_job.specs.Consuming.{AcceptsEnd, AcceptsLine, IsEnd, WrittenAfter, keeps_nothing}
 use Rattle.mvs_job.specs.Observing.{Hearing}
-use Rattle.mvs_job.specs.Telling.{WalkValue, ended, events_told}
+use Rattle.mvs_job.specs.LineEvents.{WalkValue, ended, events_of_line}
 use Rattle.mvs_job.specs.Trace.{Entry, events_of}
 use Rattle.event_json.specs.Lines.{AreLinesOf, EndsWithAnswer, IsStatement, WritesEvents, WritesLast, event_lines, statement_head, step_end}
 
@@ -49,8 +49,8 @@ if_ok (Err e) P Q h f = tt
 
 -- ---- an entry
 
-module _ {S : Type 0} (heard : Hearing S) (sees : S → Option JobValue → List ℕ → Type 0) (before after : Option (List ℕ)) (first s s' : S) (n : ℕ) (line : List ℕ) (w : WalkValue) (t : LineTold) where
-  pub accepts_line : {X : Type 0} (r : Result X Stop) → WritesEvents before after (events_told n w t) r → AcceptsLine {S = S} {X = X} event_lines heard sees (keeps_nothing first) before after s s' n line w t r
+module _ {S : Type 0} (heard : Hearing S) (sees : S → Option JobValue → List ℕ → Type 0) (before after : Option (List ℕ)) (first s s' : S) (n : ℕ) (line : List ℕ) (w : WalkValue) (t : LineEvent) where
+  pub accepts_line : {X : Type 0} (r : Result X Stop) → WritesEvents before after (events_of_line n w t) r → AcceptsLine {S = S} {X = X} event_lines heard sees (keeps_nothing first) before after s s' n line w t r
   accepts_line (Ok x) (text, are, a) mid history e is seen observed known = ((text, subst (λ v. AreLinesOf v text) (sym is.events) are, a), tt)
   accepts_line (Err stop.Write) (text, are, f) mid history e is seen observed known = ((text, subst (λ v. AreLinesOf v text) (sym is.events) are, f), tt)
   accepts_line (Err stop.Memory) (needs, kept) mid history e is seen observed known = ((subst EndsWithAnswer (sym is.events) needs, kept), tt)

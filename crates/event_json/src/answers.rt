@@ -26,7 +26,7 @@ const MOST_RUNS: u32 = MOST_PAGES_BELOW + MOST_PAGES_ABOVE;
 const DIGITS: &[u8] = b"0123456789ABCDEF";
 
 // Returns the first run of pages after another one, if there is one.
-fn run_behind(job: &Job, run: &MapRun) -> Option<MapRun> {
+fn run_after(job: &Job, run: &MapRun) -> Option<MapRun> {
     let end = run.addr.get().saturating_add(run.len);
     if end >= ADDRESSES {
         return None;
@@ -57,7 +57,7 @@ fn put_subpool(members: &mut Members, job: &Job, addr: Addr) -> Result<(), Alloc
             Some(run) if addr.get() < run.addr.get().saturating_add(run.len) => {
                 return put_holder(members, &run);
             }
-            Some(run) => next = run_behind(job, &run),
+            Some(run) => next = run_after(job, &run),
             None => return Ok(()),
         }
     }
@@ -207,7 +207,7 @@ fn put_map(members: &mut Members, job: &Job) -> Result<(), AllocError>
         members.number("length", run.len)?;
         put_holder(members, &run)?;
         members.end_object()?;
-        next = run_behind(job, &run);
+        next = run_after(job, &run);
     }
     members.end_list()
 }

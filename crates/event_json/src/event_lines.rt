@@ -4,7 +4,7 @@ ghost use Rattle.mvs_job.specs.Consuming.{keeps_nothing};
 ghost use Rattle.event_json.specs.Lines.{event_lines};
 
 use crate::{ScriptLine, write_end, write_ended, write_line};
-use mvs_job::{Consumer, End, Job, LineTold, Observer, Stop, Walk, Why};
+use mvs_job::{Consumer, End, Job, LineEvent, Observer, Stop, Walk, Why};
 use mvs_model::name::Name;
 use mvs_model::reason::{LineReason, Shortfall};
 use mvs_model::refusal::Refusal;
@@ -31,7 +31,7 @@ impl EventLines {
     }
 
     // Returns why a line was not executed as it asks, if lines have reasons.
-    fn reason(&self, walk: &Walk, told: &LineTold) -> Option<LineReason> {
+    fn reason(&self, walk: &Walk, told: &LineEvent) -> Option<LineReason> {
         match &self.why {
             Some(why) => why.line_reason(walk, told),
             None => None,
@@ -75,7 +75,7 @@ impl Consumer for EventLines {
         line_number: u32,
         line: &[u8],
         walk: &Walk,
-        told: &LineTold,
+        told: &LineEvent,
     ) -> Result<(), Stop> {
         let reason = self.reason(walk, told);
         let line = ScriptLine {

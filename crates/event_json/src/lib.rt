@@ -3,7 +3,7 @@
 
 ghost use Rattle.std.specs.Prelude.{◌≡◌, ◌++◌, true, IfOk, OnErr, OnOk, IsErrOf};
 ghost use Rattle.job_script.specs.Writing.{Prints};
-ghost use Rattle.mvs_job.specs.Telling.{closing, events_told, new_walk};
+ghost use Rattle.mvs_job.specs.LineEvents.{closing, events_of_line, new_walk};
 ghost use Rattle.event_json.specs.Lines.{AreLinesOf, IsStatement, WritesEvents, WritesLast, fault_line, statement_head, step_end};
 
 mod answers;
@@ -18,7 +18,7 @@ use crate::reasons::put_reason;
 pub use event_lines::EventLines;
 use job_script::text::Text;
 use job_script::{fault_digit, write_all};
-use mvs_job::{LineTold, Stop, Walk};
+use mvs_job::{LineEvent, Stop, Walk};
 use mvs_model::answer::Answer;
 use mvs_model::card::Card;
 use mvs_model::line::Fault;
@@ -128,7 +128,7 @@ fn region_lines(
 ) -> Result<Vec<u8>, AllocError>
     ensures { IfOk result
         (λ lines. AreLinesOf
-        (events_told line.now.number new_walk (LineTold.Began ended card.now)) lines.items) }
+        (events_of_line line.now.number new_walk (LineEvent.Began ended card.now)) lines.items) }
 {
     let members = region(alloc, line, ended, card)?;
     members.into_line()
@@ -183,24 +183,24 @@ pub(crate) fn write_line<W: Write>(
     writer: &mut Watched<W>,
     line: &ScriptLine<'_>,
     walk: &Walk,
-    told: &LineTold,
+    told: &LineEvent,
 ) -> Result<(), Stop>
     ensures written { WritesEvents (W.contents writer.old.inner) (W.contents writer.new.inner)
-        (events_told line.now.number walk.now told.now) result }
+        (events_of_line line.now.number walk.now told.now) result }
     ensures ok { OnOk result (writer.new.failed ≡ writer.old.failed) }
     ensures write { IsErrOf result Stop.Write → writer.new.failed ≡ true }
 {
     match told {
-        LineTold::Nothing => Ok(()),
-        LineTold::Began { ended, card } => match region_lines(alloc, line, *ended, card) {
+        LineEvent::Nothing => Ok(()),
+        LineEvent::Began { ended, card } => match region_lines(alloc, line, *ended, card) {
             Ok(lines) => write_text(writer, &lines),
             Err(_) => Err(Stop::Memory),
         },
-        LineTold::Answered { task, answer } => match answer_line(alloc, line, walk, task, answer) {
+        LineEvent::Answered { task, answer } => match answer_line(alloc, line, walk, task, answer) {
             Ok(text) => write_text(writer, &text),
             Err(_) => Err(Stop::Memory),
         },
-        LineTold::Faulted(fault) => write_text(
+        LineEvent::Faulted(fault) => write_text(
             writer,
             fault_line(line.number, fault_digit(*fault)).as_slice(),
         ),

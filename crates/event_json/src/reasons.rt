@@ -75,7 +75,7 @@ fn refused_kind(reason: &Reason) -> &'static str {
 }
 
 // Writes the members of a reason into its object.
-fn put_told(members: &mut Members, reason: &Reason) -> Result<(), AllocError>
+fn put_address(members: &mut Members, reason: &Reason) -> Result<(), AllocError>
     ensures { members.new ≡ members.old }
 {
     match reason {
@@ -125,7 +125,7 @@ pub fn put_reason(members: &mut Members, reason: &LineReason) -> Result<(), Allo
     members.text("kind", kind(reason))?;
     match reason {
         LineReason::NotSet(name) => members.name("name", name)?,
-        LineReason::Refused(reason) => put_told(members, reason)?,
+        LineReason::Refused(reason) => put_address(members, reason)?,
     }
     members.end_object()
 }

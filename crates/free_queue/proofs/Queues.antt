@@ -123,8 +123,8 @@ module _ (ws ws1 ws2 : ℕ → Option ℕ) (h next rest a n : ℕ) (is_next : ne
     (taken : (lo : ℕ) (rs : List Run) → Queue lo ws next rs → Covers rs a n → Takes lo rs a n ws1 rest)
     (kept : (lo : ℕ) (rs : List Run) → Queue lo ws next rs → Covers rs a n → (d : ℕ) → (IsFree rs d → ⊥) → Same ws ws1 d)
     (w : Linked ws ws1 ws2 h rest) (lo : ℕ) (rs : List Run) (q : Queue lo ws h rs) (cov : Covers rs a n) where
-  pub take_behind : Takes lo rs a n ws2 h
-  take_behind =
+  pub take_later : Takes lo rs a n ws2 h
+  take_later =
       let o = covered ws h a n lo rs q cov in let past = behind_first ws h a n lo rs o cov pos far in
       let queue = queue_at ws h next lo rs o is_next in
       let stays = kept _ o.rest queue past h (λ f. omega (arith, above ws h lo rs o h f)) in
@@ -243,8 +243,8 @@ module _ (ws ws1 ws2 : ℕ → Option ℕ) (h next rest a n : ℕ) (is_next : ne
     (given : (lo : ℕ) (rs : List Run) → lo ≤ a → Queue lo ws next rs → NoneFree rs a n → Gives lo rs a n ws1 rest)
     (kept : (lo : ℕ) (rs : List Run) → lo ≤ a → Queue lo ws next rs → NoneFree rs a n → (d : ℕ) → (IsFree rs d → ⊥) → (Within a n d → ⊥) → Same ws ws1 d)
     (w : Linked ws ws1 ws2 h rest) (lo : ℕ) (rs : List Run) (le : lo ≤ a) (q : Queue lo ws h rs) (none : NoneFree rs a n) where
-  pub give_behind : Gives lo rs a n ws2 h
-  give_behind =
+  pub give_later : Gives lo rs a n ws2 h
+  give_later =
       let o = opened ws h lo rs q (λ e. omega (arith, e, small, far)) in
       let queue = queue_at ws h next lo rs o is_next in
       let none_past : NoneFree o.rest a n = λ d v g. none d v (from_rest ws h lo rs o d g) in

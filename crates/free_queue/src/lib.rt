@@ -181,7 +181,7 @@ fn take_first(region: &mut Region, page: usize, head: u32, from: u32, n: u32) ->
 }
 
 // Removes bytes of a later free run from the queue, which keeps its head. Of the runs before them only the last is written.
-fn take_behind(region: &mut Region, page: usize, head: u32, from: u32, n: u32)
+fn take_later(region: &mut Region, page: usize, head: u32, from: u32, n: u32)
     requires few { page < most_pages_above }
     requires there { is_open region.old page ≡ true }
     requires some { 0 < n }
@@ -198,7 +198,7 @@ fn take_behind(region: &mut Region, page: usize, head: u32, from: u32, n: u32)
 {
     let next = link(region, page, head);
     if next + len(region, page, next) <= from {
-        take_behind(region, page, next, from, n);
+        take_later(region, page, next, from, n);
     } else {
         let rest = take_first(region, page, next, from, n);
         let own = len(region, page, head);
@@ -222,7 +222,7 @@ fn take(region: &mut Region, page: usize, head: u32, from: u32, n: u32) -> u32
         → Covers rs from n → Takes lo rs from n (page_of region.new page) result }
 {
     if head + len(region, page, head) <= from {
-        take_behind(region, page, head, from, n);
+        take_later(region, page, head, from, n);
         head
     } else {
         take_first(region, page, head, from, n)
@@ -274,7 +274,7 @@ fn give_first(region: &mut Region, page: usize, head: u32, from: u32, n: u32) ->
 
 // Adds bytes that are not free after the first free run, which is not adjacent: they are then free, and the queue keeps its head.
 // Of the runs before them only the last is written.
-fn give_behind(region: &mut Region, page: usize, head: u32, from: u32, n: u32)
+fn give_later(region: &mut Region, page: usize, head: u32, from: u32, n: u32)
     requires few { page < most_pages_above }
     requires there { is_open region.old page ≡ true }
     requires some { 0 < n }
@@ -293,7 +293,7 @@ fn give_behind(region: &mut Region, page: usize, head: u32, from: u32, n: u32)
 {
     let next = link(region, page, head);
     if ends_before(region, page, next, from) {
-        give_behind(region, page, next, from, n);
+        give_later(region, page, next, from, n);
     } else {
         let rest = give_first(region, page, next, from, n);
         let own = len(region, page, head);
@@ -319,7 +319,7 @@ fn give(region: &mut Region, page: usize, head: u32, from: u32, n: u32) -> u32
         → Gives lo rs from n (page_of region.new page) result }
 {
     if ends_before(region, page, head, from) {
-        give_behind(region, page, head, from, n);
+        give_later(region, page, head, from, n);
         head
     } else {
         give_first(region, page, head, from, n)

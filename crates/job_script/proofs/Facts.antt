@@ -16,7 +16,7 @@ use Rattle.job_script.specs.declared.rows.Row.TheVariants as row
 use Rattle.job_script.specs.Rows.{row_at}
 use Rattle.job_script.specs.Given.{IsRead, IsPlaced, by_place}
 use Rattle.job_script.specs.Values.{IsExtent, IsNumbers, IsNames, IsLocations, IsSomeBytes}
-use Rattle.job_script.specs.Said.{IsByte, AreGiven, if_list}
+use Rattle.job_script.specs.LineMeaning.{IsByte, AreGiven, if_list}
 use Rattle.job_script.proofs.Taking.{taken_text}
 
 pub at_key : (g : Given) → IsRead g → (r : Row) → g.row ≡ r → (key text : List ℕ) → (by_place g).under key ≡ Some text → IsTaken (row_at r) key text

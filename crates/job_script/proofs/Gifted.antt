@@ -3,7 +3,7 @@ use Rattle.std.proofs.Common.{◌≡◌, ℕ, List, [], ◌∷◌, ◌++◌, map
 use Rattle.std.specs.Prelude.{◌&&◌, is_some, if◌then◌else◌}
 use Rattle.mvs_model.specs.Reading.{number, numbers_in, is_list, items, is_number}
 use Rattle.job_script.specs.Items.{items_in}
-use Rattle.job_script.specs.Said.{AreGiven, AreGifts, if_list}
+use Rattle.job_script.specs.LineMeaning.{AreGiven, AreGifts, if_list}
 use Rattle.job_script.proofs.Conflicts.{no_comma}
 use Rattle.job_script.proofs.SameNumbers.{number_digits}
 use Rattle.mvs_model.proofs.ReadingTaken.{and_true}

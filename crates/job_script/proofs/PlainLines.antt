@@ -21,11 +21,11 @@ use Rattle.mvs_model.specs.Grammar as grammar
 use Rattle.mvs_model.specs.Reading.{LineOf, hex_bytes, is_digit, is_empty, is_name, is_name_byte, is_one_of, location, number, quoted}
 use Rattle.mvs_model.specs.Spelling.{Fits, IsWord, closes, joined, keyword_text}
 use Rattle.mvs_model.specs.Spellings as spellings
-use Rattle.mvs_model.specs.Spellings.{Says, SaysFixed, SaysPlaced, SaysRelease, filled, length_kind, number_said, placed_operands}
+use Rattle.mvs_model.specs.Spellings.{SpellsStatement, SpellsFixed, SpellsPlaced, SpellsRelease, filled, length_kind, number_spelling, placed_operands}
 use Rattle.mvs_model.proofs.ReadingTaken.{and_true, nat_same}
 use Rattle.mvs_model.proofs.Spelling.{plain, printed}
-use Rattle.mvs_model.proofs.Spellings.{each_is_said}
-use Rattle.job_script.specs.Fronts.{IsAddressFront, IsFront, IsNumberFront, IsPooled, IsSized, IsSubpoolFront, SaysBehind, form_word, get_text, is_remark, is_single, loc_text, may_place}
+use Rattle.mvs_model.proofs.Spellings.{each_is_spelled}
+use Rattle.job_script.specs.Fronts.{IsAddressFront, IsFront, IsNumberFront, IsPooled, IsSized, IsSubpoolFront, SpellsAfter, form_word, get_text, is_remark, is_single, loc_text, may_place}
 use Rattle.job_script.specs.Values.{IsSomeBytes}
 use Rattle.job_script.proofs.Remarks.{begins_word, with_remark, without_blank}
 
@@ -48,7 +48,7 @@ loc_operand loc.Below = codes "LOC=BELOW" ∷ []
 loc_operand loc.Res = []
 
 abbrev subpool_number : Option (List ℕ) → ℕ
-subpool_number sp = number_said 0 sp
+subpool_number sp = number_spelling 0 sp
 
 fits_subpool : (text : List ℕ) (n : ℕ) (sp : Option (List ℕ)) (rest : List ℕ) → IsSubpoolFront text n sp rest → FitsSubpool sp
 fits_subpool text n None rest e = tt
@@ -104,7 +104,7 @@ obtaining f n area sp l = says.Request (written.Obtain f (subpool_number sp) (as
 abbrev Obtains : List ℕ → Form → Loc → Type 0
 Obtains word f l =
     (n area : List ℕ) (sp : Option (List ℕ)) → Fits length_kind n → Fits grammar.Name area → FitsSubpool sp
-    → Says (codes "GETMAIN") (word ∷ (codes "LV=" ++ n) ∷ (codes "A=" ++ area) ∷ (subpool_operand sp ++ loc_operand l)) (obtaining f n area sp l)
+    → SpellsStatement (codes "GETMAIN") (word ∷ (codes "LV=" ++ n) ∷ (codes "A=" ++ area) ∷ (subpool_operand sp ++ loc_operand l)) (obtaining f n area sp l)
 
 -- the word of a location, where one is written
 abbrev loc_word : Loc → Option (List ℕ)
@@ -122,17 +122,17 @@ word_fits loc.Any = loc_fits (codes "ANY") refl (record { some = refl; printed =
 word_fits loc.Below = loc_fits (codes "BELOW") refl (record { some = refl; printed = refl }) refl
 word_fits loc.Res = tt
 
-fixed : (word : List ℕ) (f : Form) → SaysFixed word f → Obtains word f loc.Res
+fixed : (word : List ℕ) (f : Form) → SpellsFixed word f → Obtains word f loc.Res
 fixed word f said n area None fits_n fits_area fits_sp = said n area None None (record { each = (fits_n, (fits_area, (tt, (tt, tt)))) })
 fixed word f said n area (Some sp) fits_n fits_area fits_sp = said n area (Some sp) None (record { each = (fits_n, (fits_area, (fits_sp, (tt, tt)))) })
 
-placed : (word : List ℕ) (f : Form) (l : Loc) → SaysPlaced word f → Obtains word f l
+placed : (word : List ℕ) (f : Form) (l : Loc) → SpellsPlaced word f → Obtains word f l
 placed word f l said n area sp fits_n fits_area fits_sp =
     at sp l (said n area sp None (loc_word l) None None refl refl (record { each = (fits_n, (fits_area, (fits_sp, (tt, (word_fits l, (tt, (tt, tt))))))) })) where
       at : (sp : Option (List ℕ)) (l : Loc)
-          → Says (codes "GETMAIN") (word ∷ map keyword_text (filled (placed_operands length_kind n area sp None (loc_word l) None None)))
-          (says.Request (written.Obtain f (number_said 0 sp) (spellings.asked (number n) (number n) None (loc_word l) None None) false (padded area)))
-          → Says (codes "GETMAIN") (word ∷ (codes "LV=" ++ n) ∷ (codes "A=" ++ area) ∷ (subpool_operand sp ++ loc_operand l)) (obtaining f n area sp l)
+          → SpellsStatement (codes "GETMAIN") (word ∷ map keyword_text (filled (placed_operands length_kind n area sp None (loc_word l) None None)))
+          (says.Request (written.Obtain f (number_spelling 0 sp) (spellings.spelled_ask (number n) (number n) None (loc_word l) None None) false (padded area)))
+          → SpellsStatement (codes "GETMAIN") (word ∷ (codes "LV=" ++ n) ∷ (codes "A=" ++ area) ∷ (subpool_operand sp ++ loc_operand l)) (obtaining f n area sp l)
       at None loc.Res said = said
       at None loc.Any said = said
       at None loc.Below said = said
@@ -141,14 +141,14 @@ placed word f l said n area sp fits_n fits_area fits_sp =
       at (Some sp) loc.Below said = said
 
 obtains_unplaced : (l : Loc) → may_place form.R l ≡ true → Obtains (codes "R") form.R l
-obtains_unplaced loc.Res m = fixed (codes "R") form.R each_is_said.getmain_r
+obtains_unplaced loc.Res m = fixed (codes "R") form.R each_is_spelled.getmain_r
 obtains_unplaced loc.Any m = absurd (let g : false ≡ true = m in cc)
 obtains_unplaced loc.Below m = absurd (let g : false ≡ true = m in cc)
 
 obtains : (f : Form) (l : Loc) → is_single f ≡ true → may_place f l ≡ true → Obtains (form_word f) f l
 obtains f l e =
-    one_of_three (λ f. may_place f l ≡ true → Obtains (form_word f) f l) (obtains_unplaced l) (λ m. placed (codes "RC") form.Rc l each_is_said.getmain_rc)
-    (λ m. placed (codes "RU") form.Ru l each_is_said.getmain_ru) f e
+    one_of_three (λ f. may_place f l ≡ true → Obtains (form_word f) f l) (obtains_unplaced l) (λ m. placed (codes "RC") form.Rc l each_is_spelled.getmain_rc)
+    (λ m. placed (codes "RU") form.Ru l each_is_spelled.getmain_ru) f e
 
 -- ---- releases
 
@@ -158,16 +158,16 @@ releasing f n address sp = says.Request (written.Release f (subpool_number sp) (
 abbrev Releases : List ℕ → Form → Type 0
 Releases word f =
     (n address : List ℕ) (sp : Option (List ℕ)) → Fits length_kind n → Fits grammar.Address address → FitsSubpool sp
-    → Says (codes "FREEMAIN") (word ∷ (codes "LV=" ++ n) ∷ (codes "A=" ++ address) ∷ (subpool_operand sp ++ loc_operand loc.Res)) (releasing f n address sp)
+    → SpellsStatement (codes "FREEMAIN") (word ∷ (codes "LV=" ++ n) ∷ (codes "A=" ++ address) ∷ (subpool_operand sp ++ loc_operand loc.Res)) (releasing f n address sp)
 
-place : (word : List ℕ) (f : Form) → SaysRelease word f → Releases word f
+place : (word : List ℕ) (f : Form) → SpellsRelease word f → Releases word f
 place word f said n address None fits_n fits_address fits_sp = said n address None (record { each = (fits_n, (fits_address, (tt, tt))) })
 place word f said n address (Some sp) fits_n fits_address fits_sp = said n address (Some sp) (record { each = (fits_n, (fits_address, (fits_sp, tt))) })
 
 releases : (f : Form) → is_single f ≡ true → Releases (form_word f) f
 releases =
-    one_of_three (λ f. Releases (form_word f) f) (place (codes "R") form.R each_is_said.freemain_r) (place (codes "RC") form.Rc each_is_said.freemain_rc)
-    (place (codes "RU") form.Ru each_is_said.freemain_ru)
+    one_of_three (λ f. Releases (form_word f) f) (place (codes "R") form.R each_is_spelled.freemain_r) (place (codes "RC") form.Rc each_is_spelled.freemain_rc)
+    (place (codes "RU") form.Ru each_is_spelled.freemain_ru)
 
 -- ---- lines
 
@@ -206,7 +206,7 @@ joined_begins x [] is = ap begins_word (sym (append-nil x)) ∙ printed_begins x
 joined_begins x (y ∷ ys) is = printed_begins x (44 ∷ joined (y ∷ ys)) is
 
 -- what operands say says the field in which they are joined
-to_line : (operation field x : List ℕ) (xs : List (List ℕ)) (behind : List ℕ) (task : Name) (s t : Statement) → Says operation (x ∷ xs) s → IsWord operation → IsWord x
+to_line : (operation field x : List ℕ) (xs : List (List ℕ)) (behind : List ℕ) (task : Name) (s t : Statement) → SpellsStatement operation (x ∷ xs) s → IsWord operation → IsWord x
     → field ≡ joined (x ∷ xs) ++ behind → is_remark behind ≡ true → t ≡ s → SaysLine operation field task (line.Statement task t)
 to_line operation field x xs behind task s t said is_word first whole remark same text named is short =
     let short_too : nat_lt 255 (length (text ++ (32 ∷ (operation ++ (32 ∷ (joined (x ∷ xs) ++ behind)))))) ≡ false = ap (λ f. nat_lt 255 (length (text ++ (32 ∷ (operation ++ (32 ∷ f)))))) (sym whole) ∙ short in
@@ -236,7 +236,7 @@ sized_field field f n digits rest area after sub sp last l behind sized whole en
 pub obtain_line : (field : List ℕ) (task : Name) (f : Form) (n : ℕ) (digits rest text after : List ℕ) (area : Name) (sub : ℕ) (sp : Option (List ℕ)) (last : List ℕ) (l : Loc) (behind : List ℕ) (ask : AskValue)
     → IsSized field f n digits rest → IsFront grammar.Name rest text after → area ≡ padded text → IsSubpoolFront after sub sp last → last ≡ loc_text l ++ behind → may_place f l ≡ true → is_remark behind ≡ true
     → ask ≡ record { least = n; most = n; start = 3; within = None; loc = l }
-    → SaysBehind (codes " GETMAIN " ++ field) task (line.Statement task (says.Request (written.Obtain f sub ask false area)))
+    → SpellsAfter (codes " GETMAIN " ++ field) task (line.Statement task (says.Request (written.Obtain f sub ask false area)))
 obtain_line field task f n digits rest text after area sub sp last l behind ask sized front is end placed may remark asks =
     to_line (codes "GETMAIN") field (form_word f) ((codes "LV=" ++ digits) ∷ (codes "A=" ++ text) ∷ (subpool_operand sp ++ loc_operand l)) behind task (obtaining f digits text sp l) _
     (obtains f l sized.form_is may digits text sp sized.fits front.alone.fits (fits_subpool after sub sp last end)) (word (codes "GETMAIN") refl refl) (form_is_word f sized.form_is)
@@ -245,7 +245,7 @@ obtain_line field task f n digits rest text after area sub sp last l behind ask 
 
 pub release_line : (field : List ℕ) (task : Name) (f : Form) (n : ℕ) (digits rest name text after : List ℕ) (offset : ℕ) (address : Location) (len sub : ℕ) (sp : Option (List ℕ)) (behind : List ℕ)
     → IsSized field f n digits rest → IsAddressFront rest name offset text after → address ≡ Named (padded name) offset → len ≡ n → IsSubpoolFront after sub sp behind → is_remark behind ≡ true
-    → SaysBehind (codes " FREEMAIN " ++ field) task (line.Statement task (says.Request (written.Release f sub address len)))
+    → SpellsAfter (codes " FREEMAIN " ++ field) task (line.Statement task (says.Request (written.Release f sub address len)))
 release_line field task f n digits rest name text after offset address len sub sp behind sized address_front is same end remark =
     to_line (codes "FREEMAIN") field (form_word f) ((codes "LV=" ++ digits) ∷ (codes "A=" ++ text) ∷ (subpool_operand sp ++ loc_operand loc.Res)) behind task (releasing f digits text sp) _
     (releases f sized.form_is digits text sp sized.fits address_front.front.alone.fits (fits_subpool after sub sp behind end)) (word (codes "FREEMAIN") refl refl) (form_is_word f sized.form_is)
@@ -258,23 +258,23 @@ pooled_field field name rest text behind pooled whole =
     pooled.whole ∙ ap (λ t. codes "CPID=" ++ (name ++ (codes ",CELL=" ++ t))) whole ∙ ap (λ t. codes "CPID=" ++ t) (sym (append_assoc name (codes ",CELL=" ++ text) behind))
 
 pub get_line : (conditional : Bool) (field : List ℕ) (task pool cell : Name) (name rest text behind : List ℕ) → IsPooled field name rest → pool ≡ padded name → IsFront grammar.Name rest text behind → cell ≡ padded text → is_remark behind ≡ true
-    → SaysBehind (get_text conditional ++ field) task (line.Statement task (says.Request (written.Get pool conditional cell)))
+    → SpellsAfter (get_text conditional ++ field) task (line.Statement task (says.Request (written.Get pool conditional cell)))
 get_line true field task pool cell name rest text behind pooled pool_is front is remark =
     to_line (codes "CPOOL") (codes "GET,C," ++ field) (codes "GET") (codes "C" ∷ (codes "CPID=" ++ name) ∷ (codes "CELL=" ++ text) ∷ []) behind task _ _
-    (each_is_said.get_c name text (record { each = (pooled.fits, (front.alone.fits, tt)) })) (word (codes "CPOOL") refl refl) (word (codes "GET") refl refl)
+    (each_is_spelled.get_c name text (record { each = (pooled.fits, (front.alone.fits, tt)) })) (word (codes "CPOOL") refl refl) (word (codes "GET") refl refl)
     (ap (λ t. codes "GET,C," ++ t) (pooled_field field name rest text behind pooled front.whole)) remark
     (λ i. says.Request (written.Get (pool_is i) true (is i)))
 get_line false field task pool cell name rest text behind pooled pool_is front is remark =
     to_line (codes "CPOOL") (codes "GET," ++ field) (codes "GET") ((codes "CPID=" ++ name) ∷ (codes "CELL=" ++ text) ∷ []) behind task _ _
-    (each_is_said.get name text (record { each = (pooled.fits, (front.alone.fits, tt)) })) (word (codes "CPOOL") refl refl) (word (codes "GET") refl refl)
+    (each_is_spelled.get name text (record { each = (pooled.fits, (front.alone.fits, tt)) })) (word (codes "CPOOL") refl refl) (word (codes "GET") refl refl)
     (ap (λ t. codes "GET," ++ t) (pooled_field field name rest text behind pooled front.whole)) remark
     (λ i. says.Request (written.Get (pool_is i) false (is i)))
 
 pub free_line : (field : List ℕ) (task pool : Name) (cell : Location) (name rest area text behind : List ℕ) (offset : ℕ) → IsPooled field name rest → pool ≡ padded name → IsAddressFront rest area offset text behind → cell ≡ Named (padded area) offset → is_remark behind ≡ true
-    → SaysBehind (codes " CPOOL FREE," ++ field) task (line.Statement task (says.Request (written.Free pool cell)))
+    → SpellsAfter (codes " CPOOL FREE," ++ field) task (line.Statement task (says.Request (written.Free pool cell)))
 free_line field task pool cell name rest area text behind offset pooled pool_is place is remark =
     to_line (codes "CPOOL") (codes "FREE," ++ field) (codes "FREE") ((codes "CPID=" ++ name) ∷ (codes "CELL=" ++ text) ∷ []) behind task _ _
-    (each_is_said.free name text (record { each = (pooled.fits, (place.front.alone.fits, tt)) })) (word (codes "CPOOL") refl refl) (word (codes "FREE") refl refl)
+    (each_is_spelled.free name text (record { each = (pooled.fits, (place.front.alone.fits, tt)) })) (word (codes "CPOOL") refl refl) (word (codes "FREE") refl refl)
     (ap (λ t. codes "FREE," ++ t) (pooled_field field name rest text behind pooled place.front.whole)) remark
     (λ i. says.Request (written.Free (pool_is i) ((is ∙ place.location_is) i)))
 
@@ -286,19 +286,19 @@ short_name name e =
     let c = and_true (not (is_empty name)) (nat_le (length name) 8) b.0 in
     grind (arith, nat_tests, c.1)
 
-pub return_line : (field : List ℕ) (task : Name) → (length field == 0) ≡ true → SaysBehind (codes " RETURN" ++ field) task (line.Statement task (says.Request written.Return))
+pub return_line : (field : List ℕ) (task : Name) → (length field == 0) ≡ true → SpellsAfter (codes " RETURN" ++ field) task (line.Statement task (says.Request written.Return))
 return_line [] task none text named is short =
     let long : length (text ++ codes " RETURN ") ≡ length text + 8 = length-append text (codes " RETURN ") in
     let small : length text ≤ 8 = short_name text named in
     let with_blank : nat_lt 255 (length (text ++ codes " RETURN ")) ≡ false = grind (arith, nat_tests) in
     without_blank false text (codes "RETURN") (line.Statement task (says.Request written.Return)) named (word (codes "RETURN") refl refl) short
-    (subst (λ u. LineOf false (text ++ codes " RETURN ") (line.Statement u (says.Request written.Return))) (sym is) (each_is_said.return text named with_blank))
+    (subst (λ u. LineOf false (text ++ codes " RETURN ") (line.Statement u (says.Request written.Return))) (sym is) (each_is_spelled.return text named with_blank))
 return_line (b ∷ field) task none text named is short = absurd (let zero : suc (length field) ≡ 0 = nat_same (suc (length field)) 0 none in omega arith)
 
 pub put_line : (field : List ℕ) (task : Name) (to : Location) (bytes : List ℕ) (name text rest after value behind : List ℕ) (offset : ℕ) → IsAddressFront field name offset text rest → to ≡ Named (padded name) offset → rest ≡ 44 ∷ after
-    → IsFront (grammar.Bytes 100) after value behind → bytes ≡ hex_bytes (quoted value) → is_remark behind ≡ true → SaysBehind (codes " PUT " ++ field) task (line.Statement task (says.Request (written.Put to bytes)))
+    → IsFront (grammar.Bytes 100) after value behind → bytes ≡ hex_bytes (quoted value) → is_remark behind ≡ true → SpellsAfter (codes " PUT " ++ field) task (line.Statement task (says.Request (written.Put to bytes)))
 put_line field task to bytes name text rest after value behind offset place is comma value_front said remark =
-    to_line (codes "PUT") field text (value ∷ []) behind task _ _ (each_is_said.put text value place.front.alone value_front.alone) (word (codes "PUT") refl refl) place.front.alone.fits.operand.word
+    to_line (codes "PUT") field text (value ∷ []) behind task _ _ (each_is_spelled.put text value place.front.alone value_front.alone) (word (codes "PUT") refl refl) place.front.alone.fits.operand.word
     (place.front.whole ∙ ap (λ t. text ++ t) (comma ∙ ap (λ t. 44 ∷ t) value_front.whole) ∙ sym (append_assoc text (44 ∷ value) behind)) remark
     (λ i. says.Request (written.Put ((is ∙ place.location_is) i) (said i)))
 
@@ -306,28 +306,28 @@ pub some_bytes : (text value rest : List ℕ) → IsFront (grammar.Bytes 100) te
 some_bytes text value rest front = record { are = front.alone.fits.of_kind; few = grind (arith, nat_tests, front.alone.fits.within) }
 
 pub show_line : (field : List ℕ) (task : Name) (from : Location) (len n : ℕ) (name text rest after digits behind : List ℕ) (offset : ℕ) → IsAddressFront field name offset text rest → from ≡ Named (padded name) offset → rest ≡ 44 ∷ after
-    → IsNumberFront 1 4096 after n digits behind → len ≡ n → is_remark behind ≡ true → SaysBehind (codes " SHOW " ++ field) task (line.Statement task (says.Request (written.Show from len)))
+    → IsNumberFront 1 4096 after n digits behind → len ≡ n → is_remark behind ≡ true → SpellsAfter (codes " SHOW " ++ field) task (line.Statement task (says.Request (written.Show from len)))
 show_line field task from len n name text rest after digits behind offset place is comma count same remark =
-    to_line (codes "SHOW") field text (digits ∷ []) behind task _ _ (each_is_said.show text digits place.front.alone count.front.alone) (word (codes "SHOW") refl refl) place.front.alone.fits.operand.word
+    to_line (codes "SHOW") field text (digits ∷ []) behind task _ _ (each_is_spelled.show text digits place.front.alone count.front.alone) (word (codes "SHOW") refl refl) place.front.alone.fits.operand.word
     (place.front.whole ∙ ap (λ t. text ++ t) (comma ∙ ap (λ t. 44 ∷ t) count.front.whole) ∙ sym (append_assoc text (44 ∷ digits) behind)) remark
     (λ i. says.Request (written.Show ((is ∙ place.location_is) i) ((same ∙ count.value) i)))
 
 pub where_line : (field : List ℕ) (task area : Name) (text behind : List ℕ) → IsFront grammar.Name field text behind → area ≡ padded text → is_remark behind ≡ true
-    → SaysBehind (codes " WHERE " ++ field) task (line.Statement task (says.Where area))
+    → SpellsAfter (codes " WHERE " ++ field) task (line.Statement task (says.Where area))
 where_line field task area text behind front is remark =
-    to_line (codes "WHERE") field text [] behind task _ _ (each_is_said.where_is text front.alone) (word (codes "WHERE") refl refl) front.alone.fits.operand.word front.whole remark (λ i. says.Where (is i))
+    to_line (codes "WHERE") field text [] behind task _ _ (each_is_spelled.where_is text front.alone) (word (codes "WHERE") refl refl) front.alone.fits.operand.word front.whole remark (λ i. says.Where (is i))
 
-pub report_line : (field : List ℕ) (task : Name) → is_remark field ≡ true → SaysBehind (codes " REPORT SP" ++ field) task (line.Statement task says.ReportSubpools)
+pub report_line : (field : List ℕ) (task : Name) → is_remark field ≡ true → SpellsAfter (codes " REPORT SP" ++ field) task (line.Statement task says.ReportSubpools)
 report_line field task remark =
-    to_line (codes "REPORT") (codes "SP" ++ field) (codes "SP") [] field task _ _ each_is_said.report_sp (word (codes "REPORT") refl refl) (word (codes "SP") refl refl) refl remark refl
+    to_line (codes "REPORT") (codes "SP" ++ field) (codes "SP") [] field task _ _ each_is_spelled.report_sp (word (codes "REPORT") refl refl) (word (codes "SP") refl refl) refl remark refl
 
 -- what a text says that is known
-pub of_text : {X : Type 0} {text known : List ℕ} (o : Option X) (task : Name) (l : Line) → text ≡ known → IfSome o (λ _. SaysBehind known task l) → IfSome o (λ _. SaysBehind text task l)
-of_text o task l is said = subst (λ t. IfSome o (λ _. SaysBehind t task l)) (sym is) said
+pub of_text : {X : Type 0} {text known : List ℕ} (o : Option X) (task : Name) (l : Line) → text ≡ known → IfSome o (λ _. SpellsAfter known task l) → IfSome o (λ _. SpellsAfter text task l)
+of_text o task l is said = subst (λ t. IfSome o (λ _. SpellsAfter t task l)) (sym is) said
 
 -- the line of a task, and what stands behind its name
 pub whole_line : {X : Type 0} (o : Option X) (line task rest : List ℕ) (name : Name) (l : Line) → nat_lt 255 (length line) ≡ false → IsFront grammar.Name line task rest → name ≡ padded task
-    → IfSome o (λ _. SaysBehind rest name l) → IfSome o (λ _. LineOf false line l)
+    → IfSome o (λ _. SpellsAfter rest name l) → IfSome o (λ _. LineOf false line l)
 whole_line None line task rest name l short front is said = tt
 whole_line (Some x) line task rest name l short front is said =
     subst (λ t. LineOf false t l) (sym front.whole) (said task front.alone.fits.of_kind is (ap (λ t. nat_lt 255 (length t)) (sym front.whole) ∙ short))

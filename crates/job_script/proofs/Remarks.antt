@@ -8,7 +8,7 @@ use Rattle.std.proofs.lemmas.Bool.{not-true}
 use Rattle.mvs_model.specs.declared.line.Fault.{Fault}
 use Rattle.mvs_model.specs.declared.line.Fault.TheVariants.{TooLong, InvalidByte}
 use Rattle.mvs_model.specs.declared.line.Line.{Line}
-use Rattle.mvs_model.specs.Reading.{◌when◌, LineOf, is_empty, is_name, operands_of, operation_in, says_nothing, statement_checks, task_in, words}
+use Rattle.mvs_model.specs.Reading.{◌when◌, LineOf, is_empty, is_name, operands_of, operation_in, is_blank_or_comment, statement_checks, task_in, words}
 use Rattle.mvs_model.specs.Spelling.{IsWord}
 use Rattle.mvs_model.proofs.Reading.{none_first}
 use Rattle.mvs_model.proofs.ReadingWords.{only_words}
@@ -64,7 +64,7 @@ first_word (b ∷ bs) e =
 
 -- what is looked for behind the length and the bytes of a line
 abbrev further : Bool → List ℕ → List (Fault × Bool)
-further first line = if says_nothing line then [] else statement_checks first (task_in line) (operation_in line) (operands_of line)
+further first line = if is_blank_or_comment line then [] else statement_checks first (task_in line) (operation_in line) (operands_of line)
 
 bytes_and_more : (first : Bool) (line : List ℕ) (l : Line) → LineOf first line l → (nat_lt 255 (length line) ≡ false) × (list_all plain line ≡ true)
 bytes_and_more first line l is =
@@ -97,7 +97,7 @@ with_remark first task operation field remark l named is_word begins are_plain s
     (only_words first text (text ++ (32 ∷ remark)) (record {
       length_same = is_short first text l is ∙ sym short;
       bytes_same = is_plain first text l is ∙ sym (all_append plain text (32 ∷ remark) (is_plain first text l is) are_plain);
-      nothing_same = says_something task _ named ∙ sym (ap says_nothing apart ∙ says_something task _ named);
+      nothing_same = says_something task _ named ∙ sym (ap is_blank_or_comment apart ∙ says_something task _ named);
       task_same = front ∙ sym front_too;
       operation_same = (λ i. slice_get (one i) 1) ∙ sym (λ i. slice_get (both i) 1);
       field_same = (λ i. slice_get (one i) 2) ∙ sym (λ i. slice_get (both i) 2);

@@ -11,7 +11,7 @@ use Rattle.mvs_model.specs.declared.line.Line.{Line}
 use Rattle.mvs_model.specs.declared.line.Line.TheVariants as line
 use Rattle.mvs_model.specs.declared.line.Statement.{Statement}
 use Rattle.mvs_model.specs.Grammar as grammar
-use Rattle.mvs_model.specs.Reading.{ByKey, by_key, first_of, operand_checks, with_left, lacks_positional, lacks_keyword, is_half, is_conflict, statement_of, ◌when◌, ◌>>=◌, is_empty, has_key, takes_form, form_in, row_of, behind_form, row_checks, operands_in, parts_within}
+use Rattle.mvs_model.specs.Reading.{ByKey, by_key, first_of, operand_checks, with_left, lacks_positional, lacks_keyword, is_half, is_conflict, statement_of, ◌when◌, ◌>>=◌, is_empty, has_key, takes_form, form_in, row_of, operands_after_form, row_checks, operands_in, parts_within}
 use Rattle.mvs_model.proofs.Reading.{IsEnough, all_enough, none_first, or_false}
 use Rattle.job_script.specs.declared.given.Given.{Given}
 use Rattle.job_script.specs.declared.rows.Row.{Row}
@@ -22,9 +22,9 @@ use Rattle.job_script.specs.Rows.{row_at}
 use Rattle.job_script.specs.Given.{IsGiven, by_place, field_now}
 use Rattle.job_script.specs.Parted.{field_in}
 use Rattle.job_script.specs.Operations.{operation_text, row_with}
-use Rattle.job_script.specs.Rowed.{RowReading, FormReading, checks_behind, form_checks, as_field}
-use Rattle.job_script.specs.Said.{said_line}
-use Rattle.job_script.proofs.Taking.{first_behind, first_front}
+use Rattle.job_script.specs.Rowed.{RowReading, FormReading, checks_after_form, form_checks, as_field}
+use Rattle.job_script.specs.LineMeaning.{line_of_task}
+use Rattle.job_script.proofs.Taking.{is_first_after, first_front}
 use Rattle.std.proofs.lemmas.Bool.{and_right}
 
 -- each row requires what its statement needs
@@ -66,9 +66,9 @@ pub row_not_taken : (row : grammar.Row) (task : Name) (form : List ℕ) (os : Li
 row_not_taken row task form os fault e = first_front (flat_map (operand_checks row) (with_left os)) (rest_checks row (by_key os)) fault e
 
 -- the operands of a row, as they were given
-moved : (g : Given) (r : Row) (os : List (List ℕ)) → IsGiven g os → g.row ≡ r → (o : Option Fault) → first_of (rest_checks (row_at g.row) (by_place g)) ≡ o → first_of (checks_behind (row_at r) os) ≡ o
+moved : (g : Given) (r : Row) (os : List (List ℕ)) → IsGiven g os → g.row ≡ r → (o : Option Fault) → first_of (rest_checks (row_at g.row) (by_place g)) ≡ o → first_of (checks_after_form (row_at r) os) ≡ o
 moved g r os given is o e =
-    first_behind (flat_map (operand_checks (row_at r)) (with_left os)) (rest_checks (row_at r) (by_key os)) (ap (λ r. first_of (flat_map (operand_checks (row_at r)) (with_left os))) (sym is) ∙ given.taken)
+    is_first_after (flat_map (operand_checks (row_at r)) (with_left os)) (rest_checks (row_at r) (by_key os)) (ap (λ r. first_of (flat_map (operand_checks (row_at r)) (with_left os))) (sym is) ∙ given.taken)
     ∙ (λ i. first_of (rest_checks (row_at (sym is i)) (sym given.same i)))
     ∙ e
 
@@ -76,12 +76,12 @@ pub row_lacks : (g : Given) (r : Row) (task : Name) (form : List ℕ) (os : List
 row_lacks g r task form os fault given is e = moved g r os given is (Some fault) e
 
 said_some : (task : Name) (o : Option Statement) (result : Result Line Fault) (row : grammar.Row) (form : List ℕ) (os : List (List ℕ)) → is_some o ≡ true → o ≡ statement_of row.meaning form (by_key os)
-    → first_of (checks_behind row os) ≡ None → result ≡ said_line task o → RowReading row task form os result
+    → first_of (checks_after_form row os) ≡ None → result ≡ line_of_task task o → RowReading row task form os result
 said_some task None result row form os there is none e = absurd (let f : false ≡ true = there in cc)
 said_some task (Some s) result row form os there is none e = subst (RowReading row task form os) (sym e) (none, ap (option_map (line.Statement task)) (sym is))
 
 pub row_said : (g : Given) (r : Row) (task : Name) (form : List ℕ) (os : List (List ℕ)) (result : Result Line Fault) → IsGiven g os → g.row ≡ r → first_of (rest_checks (row_at g.row) (by_place g)) ≡ None
-    → result ≡ said_line task (statement_of (row_at g.row).meaning form (by_place g)) → RowReading (row_at r) task form os result
+    → result ≡ line_of_task task (statement_of (row_at g.row).meaning form (by_place g)) → RowReading (row_at r) task form os result
 row_said g r task form os result given is none e =
     let row = row_at r in
     let here : first_of (rest_checks row (by_key os)) ≡ None = (λ i. first_of (rest_checks (row_at (sym is i)) (sym given.same i))) ∙ none in
@@ -89,7 +89,7 @@ row_said g r task form os result given is none e =
     let b = or_false (lacks_positional row (by_key os) || lacks_keyword row (by_key os)) (list_any (is_half (by_key os)) row.rules) a.0 in
     let c = or_false (lacks_positional row (by_key os)) (lacks_keyword row (by_key os)) b.0 in
     said_some task (statement_of row.meaning form (by_key os)) result row form os (row_enough r form os c.0 c.1 b.1) refl (moved g r os given is None none)
-    (e ∙ (λ i. said_line task (statement_of (row_at (is i)).meaning form (given.same i))))
+    (e ∙ (λ i. line_of_task task (statement_of (row_at (is i)).meaning form (given.same i))))
 
 -- ---- forms
 
@@ -103,11 +103,11 @@ form_unknown operation task os e none = not_missing operation os e ∙ ap (λ o.
 
 -- what a row makes of the operands behind the form is what the operation makes of all
 pub form_known : (operation : List ℕ) (task : Name) (os behind : List (List ℕ)) (form : List ℕ) (r : grammar.Row) (result : Result Line Fault)
-    → (takes_form operation && (is_empty os || has_key (form_in operation os))) ≡ false → row_of operation os ≡ Some r → behind_form r os ≡ behind
+    → (takes_form operation && (is_empty os || has_key (form_in operation os))) ≡ false → row_of operation os ≡ Some r → operands_after_form r os ≡ behind
     → statement_of r.meaning (form_in operation os) (by_key behind) ≡ statement_of r.meaning form (by_key behind) → RowReading r task form behind result → FormReading operation task os result
 form_known operation task os behind form r (Ok l) e is b f reading = (
-  not_missing operation os e ∙ ap (λ o. first_of (UnknownOperation when not (is_some o) ∷ row_checks os o)) is ∙ ap (λ xs. first_of (checks_behind r xs)) b ∙ reading.0,
-  ap (λ o. o >>= λ row. statement_of row.meaning (form_in operation os) (by_key (behind_form row os)) >>= λ statement. Some (line.Statement task statement)) is
+  not_missing operation os e ∙ ap (λ o. first_of (UnknownOperation when not (is_some o) ∷ row_checks os o)) is ∙ ap (λ xs. first_of (checks_after_form r xs)) b ∙ reading.0,
+  ap (λ o. o >>= λ row. statement_of row.meaning (form_in operation os) (by_key (operands_after_form row os)) >>= λ statement. Some (line.Statement task statement)) is
       ∙ ap (λ xs. statement_of r.meaning (form_in operation os) (by_key xs) >>= λ statement. Some (line.Statement task statement)) b
       ∙ ap (λ o. o >>= λ statement. Some (line.Statement task statement)) f ∙ mapped (statement_of r.meaning form (by_key behind)) ∙ reading.1,
 ) where
@@ -115,13 +115,13 @@ form_known operation task os behind form r (Ok l) e is b f reading = (
   mapped None = refl
   mapped (Some s) = refl
 form_known operation task os behind form r (Err fault) e is b f reading =
-    not_missing operation os e ∙ ap (λ o. first_of (UnknownOperation when not (is_some o) ∷ row_checks os o)) is ∙ ap (λ xs. first_of (checks_behind r xs)) b ∙ reading
+    not_missing operation os e ∙ ap (λ o. first_of (UnknownOperation when not (is_some o) ∷ row_checks os o)) is ∙ ap (λ xs. first_of (checks_after_form r xs)) b ∙ reading
 
 -- the operands behind a form
-pub behind_one : (r : grammar.Row) (form : List ℕ) (behind : List (List ℕ)) → is_empty r.forms ≡ false → behind_form r (form ∷ behind) ≡ behind
+pub behind_one : (r : grammar.Row) (form : List ℕ) (behind : List (List ℕ)) → is_empty r.forms ≡ false → operands_after_form r (form ∷ behind) ≡ behind
 behind_one r form behind e = ap (λ b. if b then form ∷ behind else behind) e
 
-pub behind_none : (r : grammar.Row) (os : List (List ℕ)) → is_empty r.forms ≡ true → behind_form r os ≡ os
+pub behind_none : (r : grammar.Row) (os : List (List ℕ)) → is_empty r.forms ≡ true → operands_after_form r os ≡ os
 behind_none r os e = ap (λ b. if b then os else drop 1 os) e
 
 -- an operation that takes no form has one row, whatever its operands are

@@ -7,7 +7,7 @@ use Rattle.std.proofs.KnownBytes.{Appends-trans}
 use Rattle.mvs_model.specs.declared.name.Name.{Name}
 use Rattle.mvs_model.specs.Name.{trimmed}
 use Rattle.mvs_model.specs.Texts.{reply_line, data_lines}
-use Rattle.job_script.specs.Writing.{AppendsFront, data_said}
+use Rattle.job_script.specs.Writing.{AppendsFront, data_text}
 use Rattle.job_script.proofs.Appending.{front_longer, front_more}
 
 -- a line behind its number and its task
@@ -16,7 +16,7 @@ behind_head number t head said e = ap (λ h. h ++ said ++ codes "\n") e
 
 -- one line, and then the others
 pub lines_next : (number : ℕ) (t : Name) (offset : ℕ) (rest : List ℕ) → 0 < length rest
-    → data_lines number t ((length rest + 31) / 32) offset rest ≡ reply_line number t (data_said offset (take 32 rest)) ++ data_lines number t ((length (drop 32 rest) + 31) / 32) (offset + 32) (drop 32 rest)
+    → data_lines number t ((length rest + 31) / 32) offset rest ≡ reply_line number t (data_text offset (take 32 rest)) ++ data_lines number t ((length (drop 32 rest) + 31) / 32) (offset + 32) (drop 32 rest)
 unfolding data_lines
 lines_next number t offset rest some =
     let count : (length rest + 31) / 32 ≡ (length (drop 32 rest) + 31) / 32 + 1 = omega (arith, length-drop 32 rest) in
@@ -37,13 +37,13 @@ cut_back rest more mid e cut = cut ∙ ap (λ n. drop n rest) (e ∙ min_comm (l
 
 module _ (a b c : Option (List ℕ)) (front total : List ℕ) (number : ℕ) (t : Name) (offset : ℕ) (rest line : List ℕ) (some : 0 < length rest) (is : line ≡ take 32 rest) (so_far : Appends a b front) (all : front ++ data_lines number t ((length rest + 31) / 32) offset rest ≡ total) where
   abbrev said : List ℕ
-  said = reply_line number t (data_said offset line)
+  said = reply_line number t (data_text offset line)
 
   abbrev behind : List ℕ
   behind = data_lines number t ((length (drop 32 rest) + 31) / 32) (offset + 32) (drop 32 rest)
 
   one_more : (front ++ said) ++ behind ≡ total
-  one_more = append_assoc front said behind ∙ ap (λ l. front ++ (reply_line number t (data_said offset l) ++ behind)) is ∙ ap (λ z. front ++ z) (sym (lines_next number t offset rest some)) ∙ all
+  one_more = append_assoc front said behind ∙ ap (λ l. front ++ (reply_line number t (data_text offset l) ++ behind)) is ∙ ap (λ z. front ++ z) (sym (lines_next number t offset rest some)) ∙ all
 
   -- a line that is written in part leaves a front of all
   pub data_front : AppendsFront b c said → AppendsFront a c total

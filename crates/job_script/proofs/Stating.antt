@@ -11,7 +11,7 @@ use Rattle.mvs_model.specs.Reading.{first_of, statement_checks, task_in, operati
 use Rattle.job_script.specs.declared.operations.Operation.{Operation}
 use Rattle.job_script.specs.declared.operations.Operation.TheVariants as operation
 use Rattle.job_script.specs.Operations.{operation_text}
-use Rattle.job_script.specs.Rowed.{FormReading, form_checks, said_by, as_field}
+use Rattle.job_script.specs.Rowed.{FormReading, form_checks, operation_meaning, as_field}
 use Rattle.job_script.specs.Stated.{is_in_place, field_of, StatementReading}
 
 -- a name is a word
@@ -127,7 +127,7 @@ pub statement_read : (first : Bool) (line task : List ℕ) (o : Operation) (fiel
     → FormReading (operation_text o) (padded task) (operands_in (as_field field)) result → StatementReading first line result
 statement_read first line task o field (Ok l) s n p reading = (
   (λ i. first_of (statement_checks first (s.task_is i) (s.operation_is i) (s.operands_are i))) ∙ to_form first task o (operands_in (as_field field)) n p ∙ reading.0,
-  (λ i. said_by (s.operation_is i) (padded (s.task_is i)) (s.operands_are i)) ∙ reading.1,
+  (λ i. operation_meaning (s.operation_is i) (padded (s.task_is i)) (s.operands_are i)) ∙ reading.1,
 )
 statement_read first line task o field (Err fault) s n p reading =
     (λ i. first_of (statement_checks first (s.task_is i) (s.operation_is i) (s.operands_are i))) ∙ to_form first task o (operands_in (as_field field)) n p ∙ reading

@@ -196,11 +196,11 @@ left_push : (left : List (List ℕ)) (operand : List ℕ) → with_left (left ++
 left_push [] operand = refl
 left_push (x ∷ left) operand = ap (λ ps. ([], x) ∷ onto x ps) (left_push left operand) ∙ ap (λ ps. ([], x) ∷ ps) (onto_append x (with_left left) ((left, operand) ∷ []))
 
-pub first_behind : (front behind : List (Fault × Bool)) → first_of front ≡ None → first_of (front ++ behind) ≡ first_of behind
-first_behind [] behind e = refl
-first_behind (check ∷ front) behind e =
+pub is_first_after : (front behind : List (Fault × Bool)) → first_of front ≡ None → first_of (front ++ behind) ≡ first_of behind
+is_first_after [] behind e = refl
+is_first_after (check ∷ front) behind e =
     let a = none_first check front e in
-    ap (λ b. if b then Some check.0 else first_of (front ++ behind)) a.0 ∙ first_behind front behind a.1
+    ap (λ b. if b then Some check.0 else first_of (front ++ behind)) a.0 ∙ is_first_after front behind a.1
 
 pub first_front : (front behind : List (Fault × Bool)) (fault : Fault) → first_of front ≡ Some fault → first_of (front ++ behind) ≡ Some fault
 first_front [] behind fault e = absurd (let f : None ≡ Some fault = e in cc)
@@ -217,8 +217,8 @@ taken_more : (row : grammar.Row) (left : List (List ℕ)) (operand : List ℕ) �
 taken_more row left operand none here =
     ap (λ ps. first_of (flat_map (operand_checks row) ps)) (left_push left operand)
     ∙ ap first_of (flat_map-append (operand_checks row) (with_left left) ((left, operand) ∷ []))
-    ∙ first_behind (flat_map (operand_checks row) (with_left left)) (operand_checks row (left, operand) ++ []) none
-    ∙ first_behind (operand_checks row (left, operand)) [] here
+    ∙ is_first_after (flat_map (operand_checks row) (with_left left)) (operand_checks row (left, operand) ++ []) none
+    ∙ is_first_after (operand_checks row (left, operand)) [] here
 
 -- the first operand that is not taken decides
 pub fault_at : (row : grammar.Row) (left : List (List ℕ)) (operand : List ℕ) (rest : List (List ℕ)) (fault : Fault) → NoneAgainst row left → first_of (operand_checks row (left, operand)) ≡ Some fault
@@ -227,7 +227,7 @@ fault_at row left operand rest fault none here =
     let s = left_split left operand rest in
     ap (λ ps. first_of (flat_map (operand_checks row) ps)) s.1
     ∙ ap first_of (flat_map-append (operand_checks row) (with_left left) ((left, operand) ∷ s.0))
-    ∙ first_behind (flat_map (operand_checks row) (with_left left)) (operand_checks row (left, operand) ++ flat_map (operand_checks row) s.0) none
+    ∙ is_first_after (flat_map (operand_checks row) (with_left left)) (operand_checks row (left, operand) ++ flat_map (operand_checks row) s.0) none
     ∙ first_front (operand_checks row (left, operand)) (flat_map (operand_checks row) s.0) fault here
 
 -- ---- one operand more

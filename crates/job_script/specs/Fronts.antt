@@ -81,8 +81,8 @@ pub record IsPooled (field name rest : List ℕ) : Type 0 where
   pub whole : field ≡ codes "CPID=" ++ (name ++ (codes ",CELL=" ++ rest))
 
 -- The line of a task that continues with a text has this meaning, if it has at most 255 bytes.
-abbrev pub SaysBehind : List ℕ → Name → Line → Type 0
-SaysBehind behind task l =
+abbrev pub SpellsAfter : List ℕ → Name → Line → Type 0
+SpellsAfter behind task l =
     (text : List ℕ) → is_name text ≡ true → task ≡ padded text → nat_lt 255 (length (text ++ behind)) ≡ false → LineOf false (text ++ behind) l
 
 -- CPOOL GET up to its operands, conditional or not

@@ -7,7 +7,7 @@ pub mod Operations
 pub mod Given
 pub mod Rules
 pub mod Values
-pub mod Said
+pub mod LineMeaning
 pub mod Rowed
 pub mod Stated
 pub mod Fronts

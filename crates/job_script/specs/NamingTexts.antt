@@ -4,29 +4,29 @@ use Rattle.mvs_model.specs.declared.name.Name.{Name}
 use Rattle.mvs_model.specs.Name.{trimmed}
 use Rattle.mvs_model.specs.Place.{PlaceValue}
 use Rattle.mvs_model.specs.Texts.{hex}
-use Rattle.job_script.specs.FactTexts.{place_said}
+use Rattle.job_script.specs.FactTexts.{place_text}
 use Rattle.job_script.specs.ReasonTexts.{one_line}
 
 -- the line that obtained a place
-abbrev pub by_line_said : ℕ → List ℕ
-by_line_said number = codes " obtained in line " ++ decimal number ++ codes ". (rule 37)"
+abbrev pub by_line_text : ℕ → List ℕ
+by_line_text number = codes " obtained in line " ++ decimal number ++ codes ". (rule 37)"
 
 -- of an address at which the place of a name begins
-abbrev pub first_said : Name → PlaceValue → ℕ → List ℕ
-first_said name p number = hex 8 p.addr ++ codes " is " ++ trimmed name ++ codes ", " ++ decimal p.len ++ codes " bytes" ++ by_line_said number
+abbrev pub first_text : Name → PlaceValue → ℕ → List ℕ
+first_text name p number = hex 8 p.addr ++ codes " is " ++ trimmed name ++ codes ", " ++ decimal p.len ++ codes " bytes" ++ by_line_text number
 
 -- the distance of an address in a place
-abbrev pub into_said : ℕ → List ℕ
-into_said n = decimal n ++ (if n == 1 then codes " byte into " else codes " bytes into ")
+abbrev pub into_text : ℕ → List ℕ
+into_text n = decimal n ++ (if n == 1 then codes " byte into " else codes " bytes into ")
 
 -- for an address in it
-abbrev pub inside_said : ℕ → Name → PlaceValue → ℕ → List ℕ
-inside_said a name p number = hex 8 a ++ codes " is " ++ into_said (a - p.addr) ++ trimmed name ++ codes ", " ++ place_said p ++ by_line_said number
+abbrev pub inside_text : ℕ → Name → PlaceValue → ℕ → List ℕ
+inside_text a name p number = hex 8 a ++ codes " is " ++ into_text (a - p.addr) ++ trimmed name ++ codes ", " ++ place_text p ++ by_line_text number
 
 -- of an address that a name has in its place, which the line of a number obtained
-abbrev pub naming_said : ℕ → Name → PlaceValue → ℕ → List ℕ
-naming_said a name p number = if a == p.addr then first_said name p number else inside_said a name p number
+abbrev pub naming_words : ℕ → Name → PlaceValue → ℕ → List ℕ
+naming_words a name p number = if a == p.addr then first_text name p number else inside_text a name p number
 
 -- the line of it, which is a comment in the language of scripts
 abbrev pub naming_line : ℕ → Name → PlaceValue → ℕ → List ℕ
-naming_line a name p number = one_line (codes "* " ++ naming_said a name p number)
+naming_line a name p number = one_line (codes "* " ++ naming_words a name p number)

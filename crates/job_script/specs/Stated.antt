@@ -8,7 +8,7 @@ use Rattle.mvs_model.specs.Name.{padded}
 use Rattle.mvs_model.specs.Reading.{◌when◌, first_of, statement_checks, task_in, operation_in, operands_of, words}
 use Rattle.job_script.specs.declared.operations.Operation.{Operation}
 use Rattle.job_script.specs.declared.operations.Operation.TheVariants as operation
-use Rattle.job_script.specs.Rowed.{said_by}
+use Rattle.job_script.specs.Rowed.{operation_meaning}
 
 -- what may be wrong with the bytes of a line
 abbrev pub byte_checks : List ℕ → List (Fault × Bool)
@@ -26,5 +26,5 @@ field_of _ rest = unwrap_or (slice_get (words rest) 0) []
 -- The line, which says something, is read as a statement, or the first fault is answered.
 abbrev pub StatementReading : Bool → List ℕ → Result Line Fault → Type 0
 StatementReading first bytes (Ok l) =
-    (first_of (statement_checks first (task_in bytes) (operation_in bytes) (operands_of bytes)) ≡ None) × (said_by (operation_in bytes) (padded (task_in bytes)) (operands_of bytes) ≡ Some l)
+    (first_of (statement_checks first (task_in bytes) (operation_in bytes) (operands_of bytes)) ≡ None) × (operation_meaning (operation_in bytes) (padded (task_in bytes)) (operands_of bytes) ≡ Some l)
 StatementReading first bytes (Err fault) = first_of (statement_checks first (task_in bytes) (operation_in bytes) (operands_of bytes)) ≡ Some fault

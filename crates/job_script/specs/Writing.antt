@@ -6,8 +6,8 @@ use Rattle.mvs_model.specs.Texts.{hex}
 use Rattle.mvs_model.specs.Watched.{WatchedValue}
 
 -- a line of bytes: the offset of the first one, and two digits for each
-abbrev pub data_said : ℕ → List ℕ → List ℕ
-data_said offset bytes = codes "DATA +" ++ hex 4 offset ++ codes " " ++ flat_map (hex 2) bytes
+abbrev pub data_text : ℕ → List ℕ → List ℕ
+data_text offset bytes = codes "DATA +" ++ hex 4 offset ++ codes " " ++ flat_map (hex 2) bytes
 
 -- known bytes grow by a front of some bytes
 abbrev pub AppendsFront : Option (List ℕ) → Option (List ℕ) → List ℕ → Type 0

@@ -6,7 +6,7 @@ ghost use Rattle.mvs_model.specs.Numbers.{most_shown};
 ghost use Rattle.mvs_model.specs.Reading.{statement_of};
 ghost use Rattle.job_script.specs.Given.{IsRead, by_place};
 ghost use Rattle.job_script.specs.Values.{IsSomeBytes};
-ghost use Rattle.job_script.specs.Said.{filled, said_line, Holds, IsRanged, IsNamed, IsLocated};
+ghost use Rattle.job_script.specs.LineMeaning.{filled, line_of_task, Holds, IsRanged, IsNamed, IsLocated};
 
 use crate::addresses::{location, name};
 use crate::digits::bounded;
@@ -22,7 +22,7 @@ impl Given<'_> {
         requires to { Holds (IsLocated) ((by_place self.now).at 0) }
         requires bytes { Holds (IsSomeBytes) ((by_place self.now).at 1) }
         ensures { filled line.new result
-            ≡ said_line task (statement_of Puts [] (by_place self.now)) }
+            ≡ line_of_task task (statement_of Puts [] (by_place self.now)) }
     {
         let to = self.required_at(0)?;
         let digits = self.required_at(1)?;
@@ -42,7 +42,7 @@ impl Given<'_> {
         requires from { Holds (IsLocated) ((by_place self.now).at 0) }
         requires len { Holds (IsRanged 1 most_shown) ((by_place self.now).at 1) }
         ensures { filled line.new result
-            ≡ said_line task (statement_of Shows [] (by_place self.now)) }
+            ≡ line_of_task task (statement_of Shows [] (by_place self.now)) }
     {
         let from = self.required_at(0)?;
         let len = self.required_at(1)?;
@@ -63,7 +63,7 @@ impl Given<'_> {
         requires from { Holds (IsLocated) ((by_place self.now).at 1) }
         requires len { Holds (IsRanged 1 65536) ((by_place self.now).at 2) }
         ensures { filled line.new result
-            ≡ said_line task (statement_of Moves [] (by_place self.now)) }
+            ≡ line_of_task task (statement_of Moves [] (by_place self.now)) }
     {
         let to = self.required_at(0)?;
         let from = self.required_at(1)?;
@@ -84,7 +84,7 @@ impl Given<'_> {
         requires read { IsRead self.now }
         requires area { Holds (IsNamed) ((by_place self.now).at 0) }
         ensures { filled line.new result
-            ≡ said_line task (statement_of AsksWhere [] (by_place self.now)) }
+            ≡ line_of_task task (statement_of AsksWhere [] (by_place self.now)) }
     {
         let area = self.required_at(0)?;
         *line = Line::Statement(task, Statement::Where(name(area)));

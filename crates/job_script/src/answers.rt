@@ -3,8 +3,8 @@
 ghost use Rattle.std.specs.Prelude.{◌≡◌, ◌≤◌, ◌+◌, ◌++◌, List, length, false, codes};
 ghost use Rattle.mvs_model.specs.Name.{trimmed};
 ghost use Rattle.mvs_model.specs.State.{State};
-ghost use Rattle.mvs_model.specs.Lent.{lends, lent};
-ghost use Rattle.mvs_model.specs.Texts.{abend_lines, answer_text, code_text, reply_line, said};
+ghost use Rattle.mvs_model.specs.FullAnswers.{has_long_data, full_answer};
+ghost use Rattle.mvs_model.specs.Texts.{abend_lines, answer_text, code_text, reply_line, one_line_text};
 ghost use Rattle.job_script.specs.Writing.{Prints};
 
 use crate::print::{push_head, write_all};
@@ -97,11 +97,11 @@ pub fn print_abend<W: Write>(
 }
 
 // Appends the text of an answer of one line that is not an abend.
-fn push_said(text: &mut Text, answer: &Answer)
+fn push_short_answer(text: &mut Text, answer: &Answer)
     requires room { length text.old ≤ 100 }
-    requires whole { lends answer.now ≡ false }
+    requires whole { has_long_data answer.now ≡ false }
     ensures text { (st : State) (fallen : List Name) (t : Name)
-        → text.new ≡ text.old ++ said (lent st fallen t answer.now) }
+        → text.new ≡ text.old ++ one_line_text (full_answer st fallen t answer.now) }
     ensures len { length text.new ≤ length text.old + 20 }
 {
     match answer {
@@ -127,20 +127,20 @@ fn push_said(text: &mut Text, answer: &Answer)
 }
 
 /// Prints an answer of one line.
-pub fn print_said<W: Write>(
+pub fn print_short_answer<W: Write>(
     writer: &mut Watched<W>,
     line_number: u32,
     task: &Name,
     answer: &Answer,
 ) -> Result<(), Failed>
-    requires { lends answer.now ≡ false }
+    requires { has_long_data answer.now ≡ false }
     ensures { (st : State) (fallen : List Name)
         → Prints W.contents writer.old writer.new result
-        (answer_text line_number task.now (lent st fallen task.now answer.now)) }
+        (answer_text line_number task.now (full_answer st fallen task.now answer.now)) }
 {
     let mut text = Text::new();
     push_head(&mut text, line_number, task);
-    push_said(&mut text, answer);
+    push_short_answer(&mut text, answer);
     text.push_all(b"\n");
     write_all(writer, text.as_slice())
 }

@@ -3,7 +3,7 @@
 ghost use Rattle.std.specs.Prelude.{◌≡◌, ◌≤◌, ◌+◌, ◌*◌, ◌/◌, ◌++◌, length, codes};
 ghost use Rattle.mvs_model.specs.Numbers.{line_bytes, most_shown};
 ghost use Rattle.mvs_model.specs.Texts.{data_lines, hex, line_count};
-ghost use Rattle.job_script.specs.Writing.{Prints, data_said};
+ghost use Rattle.job_script.specs.Writing.{Prints, data_text};
 
 use crate::print::{push_head, write_all};
 use crate::text::Text;
@@ -23,7 +23,7 @@ fn print_data_line<W: Write>(
     requires head { length text.old ≤ 20 }
     requires bytes { length bytes.now ≤ line_bytes }
     ensures printed { Prints W.contents writer.old writer.new result
-        (text.old ++ data_said offset bytes.now ++ codes "\n") }
+        (text.old ++ data_text offset bytes.now ++ codes "\n") }
     ensures kept { text.new ≡ text.old }
 {
     let head = text.len();

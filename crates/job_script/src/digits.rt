@@ -84,7 +84,7 @@ fn are_zeros(text: &[u8]) -> bool
 }
 
 // Whether two numbers that are written with as many digits, or the first with more, are the same.
-fn is_same_behind_zeros(longer: &[u8], shorter: &[u8]) -> bool
+fn is_same_after_zeros(longer: &[u8], shorter: &[u8]) -> bool
     requires length { length shorter.now ≤ length longer.now }
     requires longer { list_all is_digit longer.now ≡ true }
     requires shorter { list_all is_digit shorter.now ≡ true }
@@ -101,9 +101,9 @@ pub fn is_same_number(one: &[u8], other: &[u8]) -> bool
     ensures { result ≡ (number one.now == number other.now) }
 {
     if one.len() < other.len() {
-        is_same_behind_zeros(other, one)
+        is_same_after_zeros(other, one)
     } else {
-        is_same_behind_zeros(one, other)
+        is_same_after_zeros(one, other)
     }
 }
 

@@ -1,7 +1,7 @@
 //! The line that says what a request did.
 
 ghost use Rattle.std.specs.Prelude.{◌≡◌, ◌≤◌, ◌+◌, ◌++◌, decimal, length};
-ghost use Rattle.job_script.specs.FactTexts.{added_said, asked_said, between_said, cell_said, cells_said, fact_line, fact_said, given_said, no_greater_said, obtained_said, pages_do, part_said, place_said, rounded_said, shared_said, subpool_said, taken_said};
+ghost use Rattle.job_script.specs.FactTexts.{added_text, requested_text, between_text, cell_text, cells_text, fact_line, fact_text, given_text, no_greater_text, obtained_text, pages_do, part_text, place_text, rounded_text, shared_text, subpool_words, taken_cell_text};
 ghost use Rattle.job_script.specs.Writing.{Prints};
 
 use crate::freed::push_pages;
@@ -27,7 +27,7 @@ fn push_number(text: &mut Text, number: SubNo)
 // Appends a subpool: its owner's number for it, and the owner.
 fn push_subpool(text: &mut Text, number: SubNo, owner: &Name)
     requires { length text.old ≤ 100 }
-    ensures text { text.new ≡ text.old ++ subpool_said number owner.now }
+    ensures text { text.new ≡ text.old ++ subpool_words number owner.now }
     ensures len { length text.new ≤ length text.old + 26 }
 {
     text.push_all(b"SP ");
@@ -39,7 +39,7 @@ fn push_subpool(text: &mut Text, number: SubNo, owner: &Name)
 // Appends a place.
 pub(crate) fn push_place(text: &mut Text, place: Place)
     requires { length text.old ≤ 100 }
-    ensures text { text.new ≡ text.old ++ place_said place }
+    ensures text { text.new ≡ text.old ++ place_text place }
     ensures len { length text.new ≤ length text.old + 28 }
 {
     text.push_decimal(place.len());
@@ -50,7 +50,7 @@ pub(crate) fn push_place(text: &mut Text, place: Place)
 // Appends the number of bytes that were added.
 fn push_added(text: &mut Text, added: u32)
     requires { length text.old ≤ 80 }
-    ensures text { text.new ≡ text.old ++ added_said added }
+    ensures text { text.new ≡ text.old ++ added_text added }
     ensures len { length text.new ≤ length text.old + 50 }
 {
     text.push_all(b", ");
@@ -61,7 +61,7 @@ fn push_added(text: &mut Text, added: u32)
 // Appends how much of a length was added by rounding.
 fn push_rounded(text: &mut Text, len: u32, asked: u32)
     requires { length text.old ≤ 80 }
-    ensures text { text.new ≡ text.old ++ rounded_said len asked }
+    ensures text { text.new ≡ text.old ++ rounded_text len asked }
     ensures len { length text.new ≤ length text.old + 50 }
 {
     if len == asked {
@@ -74,7 +74,7 @@ fn push_rounded(text: &mut Text, len: u32, asked: u32)
 // Appends the range of lengths that was requested.
 fn push_between(text: &mut Text, least: u32, most: u32)
     requires { length text.old ≤ 80 }
-    ensures text { text.new ≡ text.old ++ between_said least most }
+    ensures text { text.new ≡ text.old ++ between_text least most }
     ensures len { length text.new ≤ length text.old + 50 }
 {
     text.push_all(b", ");
@@ -85,9 +85,9 @@ fn push_between(text: &mut Text, least: u32, most: u32)
 }
 
 // Appends how a length compares with the requested one.
-fn push_asked(text: &mut Text, len: u32, least: u32, most: u32)
+fn push_requested(text: &mut Text, len: u32, least: u32, most: u32)
     requires { length text.old ≤ 80 }
-    ensures text { text.new ≡ text.old ++ asked_said len least most }
+    ensures text { text.new ≡ text.old ++ requested_text len least most }
     ensures len { length text.new ≤ length text.old + 50 }
 {
     if least == most {
@@ -112,7 +112,7 @@ fn push_pages_do(text: &mut Text, pages: u32, one: &[u8], more: &[u8])
 // Appends the number of pages that were assigned.
 fn push_taken(text: &mut Text, pages: u32)
     requires { length text.old ≤ 2 }
-    ensures text { text.new ≡ text.old ++ taken_said pages }
+    ensures text { text.new ≡ text.old ++ taken_cell_text pages }
     ensures len { length text.new ≤ length text.old + 56 }
 {
     if pages == 0 {
@@ -130,7 +130,7 @@ fn push_taken(text: &mut Text, pages: u32)
 // Appends a number of cells.
 fn push_cells(text: &mut Text, cells: u32)
     requires { length text.old ≤ 100 }
-    ensures text { text.new ≡ text.old ++ cells_said cells }
+    ensures text { text.new ≡ text.old ++ cells_text cells }
     ensures len { length text.new ≤ length text.old + 16 }
 {
     text.push_decimal(cells);
@@ -144,7 +144,7 @@ fn push_cells(text: &mut Text, cells: u32)
 // Appends an area that was obtained.
 fn push_obtained(text: &mut Text, area: &Name, place: Place, number: SubNo, owner: &Name)
     requires { length text.old ≤ 2 }
-    ensures text { text.new ≡ text.old ++ obtained_said area.now place number owner.now }
+    ensures text { text.new ≡ text.old ++ obtained_text area.now place number owner.now }
     ensures len { length text.new ≤ length text.old + 70 }
 {
     text.push_name(area);
@@ -157,7 +157,7 @@ fn push_obtained(text: &mut Text, area: &Name, place: Place, number: SubNo, owne
 // Appends a cell that was allocated.
 fn push_cell(text: &mut Text, cell: &Name, pool: &Name, place: Place)
     requires { length text.old ≤ 2 }
-    ensures text { text.new ≡ text.old ++ cell_said cell.now pool.now place }
+    ensures text { text.new ≡ text.old ++ cell_text cell.now pool.now place }
     ensures len { length text.new ≤ length text.old + 100 }
 {
     text.push_name(cell);
@@ -171,7 +171,7 @@ fn push_cell(text: &mut Text, cell: &Name, pool: &Name, place: Place)
 // Appends a new part of a pool.
 fn push_part(text: &mut Text, pool: &Name, cells: u32, size: u32, place: Place)
     requires { length text.old ≤ 2 }
-    ensures text { text.new ≡ text.old ++ part_said pool.now cells size place }
+    ensures text { text.new ≡ text.old ++ part_text pool.now cells size place }
     ensures len { length text.new ≤ length text.old + 120 }
 {
     text.push_all(b"Pool ");
@@ -188,7 +188,7 @@ fn push_part(text: &mut Text, pool: &Name, cells: u32, size: u32, place: Place)
 // Appends that a subtask owns what its attaching task gave.
 fn push_given(text: &mut Text, subtask: &Name, number: SubNo, mother: &Name)
     requires { length text.old ≤ 2 }
-    ensures text { text.new ≡ text.old ++ given_said subtask.now number mother.now }
+    ensures text { text.new ≡ text.old ++ given_text subtask.now number mother.now }
     ensures len { length text.new ≤ length text.old + 80 }
 {
     text.push_name(subtask);
@@ -202,7 +202,7 @@ fn push_given(text: &mut Text, subtask: &Name, number: SubNo, mother: &Name)
 // Appends that no greater length fits.
 fn push_no_greater(text: &mut Text, below: u32, above: u32)
     requires { length text.old ≤ 2 }
-    ensures text { text.new ≡ text.old ++ no_greater_said below above }
+    ensures text { text.new ≡ text.old ++ no_greater_text below above }
     ensures len { length text.new ≤ length text.old + 120 }
 {
     text.push_all(b"No greater length fits; free pages before: ");
@@ -216,7 +216,7 @@ fn push_no_greater(text: &mut Text, below: u32, above: u32)
 fn push_subpool_is(text: &mut Text, number: SubNo, owner: &Name, is: &[u8])
     requires old { length text.old ≤ 20 }
     requires is { length is.now ≤ 60 }
-    ensures text { text.new ≡ text.old ++ (subpool_said number owner.now ++ is.now) }
+    ensures text { text.new ≡ text.old ++ (subpool_words number owner.now ++ is.now) }
     ensures len { length text.new ≤ length text.old + 86 }
 {
     push_subpool(text, number, owner);
@@ -226,7 +226,7 @@ fn push_subpool_is(text: &mut Text, number: SubNo, owner: &Name, is: &[u8])
 // Appends that a subtask shares a subpool.
 fn push_shared(text: &mut Text, subtask: &Name, number: SubNo, owner: &Name)
     requires { length text.old ≤ 2 }
-    ensures text { text.new ≡ text.old ++ shared_said subtask.now number owner.now }
+    ensures text { text.new ≡ text.old ++ shared_text subtask.now number owner.now }
     ensures len { length text.new ≤ length text.old + 120 }
 {
     text.push_name(subtask);
@@ -238,7 +238,7 @@ fn push_shared(text: &mut Text, subtask: &Name, number: SubNo, owner: &Name)
 // Appends a fact.
 fn push_fact(text: &mut Text, fact: &Fact)
     requires { length text.old ≤ 2 }
-    ensures text { text.new ≡ text.old ++ fact_said fact.now }
+    ensures text { text.new ≡ text.old ++ fact_text fact.now }
     ensures len { length text.new ≤ length text.old + 157 }
 {
     match fact {
@@ -251,7 +251,7 @@ fn push_fact(text: &mut Text, fact: &Fact)
             owner,
         } => {
             push_obtained(text, area, *place, *number, owner);
-            push_asked(text, place.len(), *least, *most);
+            push_requested(text, place.len(), *least, *most);
         }
         Fact::NoGreater { below, above } => push_no_greater(text, *below, *above),
         Fact::NewSubpool { number, owner } => {

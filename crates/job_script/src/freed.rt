@@ -1,7 +1,7 @@
 //! The lines about the subpools that are freed at the end of a task, and about those that remain.
 
 ghost use Rattle.std.specs.Prelude.{◌≡◌, ◌≤◌, ◌+◌, ◌++◌, length};
-ghost use Rattle.job_script.specs.FactTexts.{freed_line, freed_said, pages_said, stays_line, stays_said};
+ghost use Rattle.job_script.specs.FactTexts.{freed_line, freed_text_of, pages_text, stays_line, stays_text};
 ghost use Rattle.job_script.specs.Writing.{Prints};
 
 use crate::print::write_all;
@@ -15,7 +15,7 @@ use std::io::Write;
 // Appends a number of pages.
 pub(crate) fn push_pages(text: &mut Text, pages: u32)
     requires { length text.old ≤ 100 }
-    ensures text { text.new ≡ text.old ++ pages_said pages }
+    ensures text { text.new ≡ text.old ++ pages_text pages }
     ensures len { length text.new ≤ length text.old + 16 }
 {
     text.push_decimal(pages);
@@ -29,7 +29,7 @@ pub(crate) fn push_pages(text: &mut Text, pages: u32)
 // Appends that a subpool is freed.
 fn push_freed(text: &mut Text, number: u32, owner: &Name, bytes: u32, pages: u32)
     requires { length text.old ≤ 2 }
-    ensures text { text.new ≡ text.old ++ freed_said number owner.now bytes pages }
+    ensures text { text.new ≡ text.old ++ freed_text_of number owner.now bytes pages }
     ensures len { length text.new ≤ length text.old + 100 }
 {
     text.push_all(b"SP ");
@@ -64,7 +64,7 @@ pub fn print_freed<W: Write>(
 // Appends that a subpool remains which a task shared.
 fn push_stays(text: &mut Text, number: u32, owner: &Name, task: &Name)
     requires { length text.old ≤ 2 }
-    ensures text { text.new ≡ text.old ++ stays_said number owner.now task.now }
+    ensures text { text.new ≡ text.old ++ stays_text number owner.now task.now }
     ensures len { length text.new ≤ length text.old + 80 }
 {
     text.push_all(b"SP ");

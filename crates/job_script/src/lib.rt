@@ -4,15 +4,15 @@
 ghost use Rattle.std.specs.Prelude.{◌≡◌, ◌<◌, ◌≤◌, ◌==◌, ◌&&◌, nat_le, true, false, length};
 ghost use Rattle.std.specs.List.{list_all};
 ghost use Rattle.mvs_model.specs.Lines.{IsLine};
-ghost use Rattle.mvs_model.specs.Reading.{IsReading, first_of, says_nothing};
+ghost use Rattle.mvs_model.specs.Reading.{IsReading, first_of, is_blank_or_comment};
 ghost use Rattle.job_script.specs.Kinds.{fault_in};
 ghost use Rattle.job_script.specs.Operations.{operation_text};
 ghost use Rattle.job_script.specs.Parted.{field_in};
-ghost use Rattle.job_script.specs.Said.{filled};
+ghost use Rattle.job_script.specs.LineMeaning.{filled};
 ghost use Rattle.job_script.specs.Stated.{is_in_place, byte_checks, field_of, StatementReading};
 
 use crate::addresses::{is_name, name};
-pub use crate::answers::{print_abend, print_said};
+pub use crate::answers::{print_abend, print_short_answer};
 pub use crate::data_lines::print_data;
 pub use crate::fact_lines::print_fact;
 pub use crate::freed::{print_freed, print_stays};
@@ -20,7 +20,7 @@ pub use crate::line_buffer::{LineBuffer, Pushed};
 pub use crate::names::Names;
 pub use crate::naming::print_naming;
 use crate::operations::{Operation, read_operation};
-use crate::parted::{behind_blanks, next_word, parted};
+use crate::parted::{skip_blanks, next_word, parted};
 use crate::plain::read_plain;
 pub use crate::print::{fault_digit, print_fault, print_region, print_step_end, write_all};
 pub use crate::reasons::print_reason;
@@ -109,8 +109,8 @@ fn is_blank(line: &[u8]) -> bool
 }
 
 // Whether the line is blank or a comment.
-fn says_nothing(line: &[u8]) -> bool
-    ensures { result ≡ says_nothing line.now }
+fn is_blank_or_comment(line: &[u8]) -> bool
+    ensures { result ≡ is_blank_or_comment line.now }
 {
     match line {
         [] => true,
@@ -131,7 +131,7 @@ fn field_of<'a>(operation: Operation, rest: &'a [u8]) -> &'a [u8]
 {
     match operation {
         Operation::Return => &[],
-        _ => behind_blanks(rest),
+        _ => skip_blanks(rest),
     }
 }
 
@@ -171,7 +171,7 @@ fn check_bytes(line: &[u8]) -> Result<(), Fault>
 
 // Reads a line that is blank or a comment.
 fn read_nothing(line: &[u8], first: bool, read: &mut Line) -> Result<(), Fault>
-    requires { says_nothing line.now ≡ true }
+    requires { is_blank_or_comment line.now ≡ true }
     ensures { IsReading first line.now (filled read.new result) }
 {
     check_bytes(line)?;
@@ -183,7 +183,7 @@ fn read_nothing(line: &[u8], first: bool, read: &mut Line) -> Result<(), Fault>
 
 // Reads a line that says something.
 fn read_something(line: &[u8], first: bool, read: &mut Line) -> Result<(), Fault>
-    requires { says_nothing line.now ≡ false }
+    requires { is_blank_or_comment line.now ≡ false }
     ensures { IsReading first line.now (filled read.new result) }
 {
     if !first && read_plain(line, read).is_some() {
@@ -200,7 +200,7 @@ pub fn read_line(line: &[u8], first: bool, read: &mut Line) -> Result<(), Fault>
     ensures reading { IsReading first line.now (filled read.new result) }
     ensures in_range { IsLine first (filled read.new result) }
 {
-    if says_nothing(line) {
+    if is_blank_or_comment(line) {
         read_nothing(line, first, read)
     } else {
         read_something(line, first, read)

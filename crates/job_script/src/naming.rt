@@ -1,7 +1,7 @@
 //! The line that says which name has an address in its place, and which line obtained that.
 
 ghost use Rattle.std.specs.Prelude.{◌≡◌, ◌≤◌, ◌+◌, ◌-◌, ◌++◌, length};
-ghost use Rattle.job_script.specs.NamingTexts.{by_line_said, first_said, inside_said, into_said, naming_line, naming_said};
+ghost use Rattle.job_script.specs.NamingTexts.{by_line_text, first_text, inside_text, into_text, naming_line, naming_words};
 ghost use Rattle.job_script.specs.Writing.{Prints};
 
 use crate::fact_lines::push_place;
@@ -16,7 +16,7 @@ use std::io::Write;
 // Appends the line that obtained a place.
 fn push_by_line(text: &mut Text, number: u32)
     requires { length text.old ≤ 100 }
-    ensures text { text.new ≡ text.old ++ by_line_said number }
+    ensures text { text.new ≡ text.old ++ by_line_text number }
     ensures len { length text.new ≤ length text.old + 45 }
 {
     text.push_all(b" obtained in line ");
@@ -27,7 +27,7 @@ fn push_by_line(text: &mut Text, number: u32)
 // Appends that the place of a name begins at its address.
 fn push_first(text: &mut Text, name: &Name, place: Place, number: u32)
     requires { length text.old ≤ 2 }
-    ensures text { text.new ≡ text.old ++ first_said name.now place number }
+    ensures text { text.new ≡ text.old ++ first_text name.now place number }
     ensures len { length text.new ≤ length text.old + 150 }
 {
     text.push_word(place.addr().get());
@@ -42,7 +42,7 @@ fn push_first(text: &mut Text, name: &Name, place: Place, number: u32)
 // Appends the distance of an address in a place.
 fn push_into(text: &mut Text, bytes: u32)
     requires { length text.old ≤ 20 }
-    ensures text { text.new ≡ text.old ++ into_said bytes }
+    ensures text { text.new ≡ text.old ++ into_text bytes }
     ensures len { length text.new ≤ length text.old + 30 }
 {
     text.push_decimal(bytes);
@@ -63,7 +63,7 @@ fn distance(addr: Addr, from: Addr) -> u32
 // Appends that an address is in the place of a name.
 fn push_inside(text: &mut Text, addr: Addr, name: &Name, place: Place, number: u32)
     requires { length text.old ≤ 2 }
-    ensures text { text.new ≡ text.old ++ inside_said addr name.now place number }
+    ensures text { text.new ≡ text.old ++ inside_text addr name.now place number }
     ensures len { length text.new ≤ length text.old + 150 }
 {
     text.push_word(addr.get());
@@ -78,7 +78,7 @@ fn push_inside(text: &mut Text, addr: Addr, name: &Name, place: Place, number: u
 // Appends the name that has an address in its place.
 fn push_naming(text: &mut Text, addr: Addr, name: &Name, place: Place, number: u32)
     requires { length text.old ≤ 2 }
-    ensures text { text.new ≡ text.old ++ naming_said addr name.now place number }
+    ensures text { text.new ≡ text.old ++ naming_words addr name.now place number }
     ensures len { length text.new ≤ length text.old + 150 }
 {
     if addr.get() == place.addr().get() {

@@ -32,7 +32,7 @@ pub fn parted(text: &[u8], byte: u8) -> (&[u8], Option<&[u8]>)
 }
 
 /// The text from its first byte on that is no blank.
-pub fn behind_blanks(text: &[u8]) -> &[u8]
+pub fn skip_blanks(text: &[u8]) -> &[u8]
     ensures words { words result.now ≡ words text.now }
     ensures end { IsEnd text.now result.now }
     ensures start { starts_word result.now ≡ true }
@@ -51,7 +51,7 @@ pub fn next_word(text: &[u8]) -> (&[u8], &[u8])
     ensures rest { words result.1.now ≡ drop 1 (words text.now) }
     ensures end { IsEnd text.now result.1.now }
 {
-    let (word, rest) = parted(behind_blanks(text), b' ');
+    let (word, rest) = parted(skip_blanks(text), b' ');
     match rest {
         None => (word, &[]),
         Some(rest) => (word, rest),

@@ -4,7 +4,7 @@
 
 ghost use Rattle.std.specs.Prelude.{◌≡◌, ◌≢◌, ◌++◌, ◌∷◌, ℕ, List, Option, codes, true, false, IfSome};
 ghost use Rattle.mvs_model.specs.Reading.{LineOf};
-ghost use Rattle.job_script.specs.Fronts.{IsPooled, IsSized, IsSubpoolFront, SaysBehind, form_word, get_text, is_single, loc_text, may_place};
+ghost use Rattle.job_script.specs.Fronts.{IsPooled, IsSized, IsSubpoolFront, SpellsAfter, form_word, get_text, is_single, loc_text, may_place};
 
 use crate::LONGEST;
 use crate::addresses::name;
@@ -92,7 +92,7 @@ fn pool_in_front(field: &[u8]) -> Option<(&[u8], &[u8])>
 
 // GETMAIN of one area.
 fn read_obtain(task: Name, field: &[u8], line: &mut Line) -> Option<()>
-    ensures { IfSome result (λ _. SaysBehind (codes " GETMAIN " ++ field.now) task line.new) }
+    ensures { IfSome result (λ _. SpellsAfter (codes " GETMAIN " ++ field.now) task line.new) }
 {
     let (form, len, rest) = sized_in_front(field)?;
     let (area, rest) = name_in_front(rest)?;
@@ -116,7 +116,7 @@ fn read_obtain(task: Name, field: &[u8], line: &mut Line) -> Option<()>
 
 // FREEMAIN of one area.
 fn read_release(task: Name, field: &[u8], line: &mut Line) -> Option<()>
-    ensures { IfSome result (λ _. SaysBehind (codes " FREEMAIN " ++ field.now) task line.new) }
+    ensures { IfSome result (λ _. SpellsAfter (codes " FREEMAIN " ++ field.now) task line.new) }
 {
     let (form, len, rest) = sized_in_front(field)?;
     let (area, offset, rest) = address_in_front(rest)?;
@@ -138,7 +138,7 @@ fn read_release(task: Name, field: &[u8], line: &mut Line) -> Option<()>
 
 // CPOOL GET.
 fn read_get(task: Name, conditional: bool, field: &[u8], line: &mut Line) -> Option<()>
-    ensures { IfSome result (λ _. SaysBehind (get_text conditional ++ field.now) task line.new) }
+    ensures { IfSome result (λ _. SpellsAfter (get_text conditional ++ field.now) task line.new) }
 {
     let (pool, rest) = pool_in_front(field)?;
     let (cell, rest) = name_in_front(rest)?;
@@ -158,7 +158,7 @@ fn read_get(task: Name, conditional: bool, field: &[u8], line: &mut Line) -> Opt
 
 // CPOOL FREE.
 fn read_free(task: Name, field: &[u8], line: &mut Line) -> Option<()>
-    ensures { IfSome result (λ _. SaysBehind (codes " CPOOL FREE," ++ field.now) task line.new) }
+    ensures { IfSome result (λ _. SpellsAfter (codes " CPOOL FREE," ++ field.now) task line.new) }
 {
     let (pool, rest) = pool_in_front(field)?;
     let (cell, offset, rest) = address_in_front(rest)?;
@@ -177,7 +177,7 @@ fn read_free(task: Name, field: &[u8], line: &mut Line) -> Option<()>
 
 // CPOOL GET and FREE.
 fn read_cell(task: Name, field: &[u8], line: &mut Line) -> Option<()>
-    ensures { IfSome result (λ _. SaysBehind (codes " CPOOL " ++ field.now) task line.new) }
+    ensures { IfSome result (λ _. SpellsAfter (codes " CPOOL " ++ field.now) task line.new) }
 {
     if let Some(rest) = behind(field, b"GET,C,") {
         return read_get(task, true, rest, line);
@@ -191,7 +191,7 @@ fn read_cell(task: Name, field: &[u8], line: &mut Line) -> Option<()>
 
 // Parses RETURN, with nothing after it.
 fn read_return(task: Name, field: &[u8], line: &mut Line) -> Option<()>
-    ensures { IfSome result (λ _. SaysBehind (codes " RETURN" ++ field.now) task line.new) }
+    ensures { IfSome result (λ _. SpellsAfter (codes " RETURN" ++ field.now) task line.new) }
 {
     if !field.is_empty() {
         return None;
@@ -202,7 +202,7 @@ fn read_return(task: Name, field: &[u8], line: &mut Line) -> Option<()>
 
 // PUT, to an area that has a name.
 fn read_put(task: Name, field: &[u8], line: &mut Line) -> Option<()>
-    ensures { IfSome result (λ _. SaysBehind (codes " PUT " ++ field.now) task line.new) }
+    ensures { IfSome result (λ _. SpellsAfter (codes " PUT " ++ field.now) task line.new) }
 {
     let (area, offset, rest) = address_in_front(field)?;
     let rest = behind(rest, b",")?;
@@ -222,7 +222,7 @@ fn read_put(task: Name, field: &[u8], line: &mut Line) -> Option<()>
 
 // SHOW, of an area that has a name.
 fn read_show(task: Name, field: &[u8], line: &mut Line) -> Option<()>
-    ensures { IfSome result (λ _. SaysBehind (codes " SHOW " ++ field.now) task line.new) }
+    ensures { IfSome result (λ _. SpellsAfter (codes " SHOW " ++ field.now) task line.new) }
 {
     let (area, offset, rest) = address_in_front(field)?;
     let rest = behind(rest, b",")?;
@@ -242,7 +242,7 @@ fn read_show(task: Name, field: &[u8], line: &mut Line) -> Option<()>
 
 // WHERE.
 fn read_where(task: Name, field: &[u8], line: &mut Line) -> Option<()>
-    ensures { IfSome result (λ _. SaysBehind (codes " WHERE " ++ field.now) task line.new) }
+    ensures { IfSome result (λ _. SpellsAfter (codes " WHERE " ++ field.now) task line.new) }
 {
     let (area, rest) = name_in_front(field)?;
     if !is_remark(rest) {
@@ -254,7 +254,7 @@ fn read_where(task: Name, field: &[u8], line: &mut Line) -> Option<()>
 
 // REPORT SP.
 fn read_report(task: Name, field: &[u8], line: &mut Line) -> Option<()>
-    ensures { IfSome result (λ _. SaysBehind (codes " REPORT SP" ++ field.now) task line.new) }
+    ensures { IfSome result (λ _. SpellsAfter (codes " REPORT SP" ++ field.now) task line.new) }
 {
     if !is_remark(field) {
         return None;
@@ -264,8 +264,8 @@ fn read_report(task: Name, field: &[u8], line: &mut Line) -> Option<()>
 }
 
 // Parses what follows the name of a task. The first letters of an operation decide which it can be.
-fn read_behind(task: Name, text: &[u8], read: &mut Line) -> Option<()>
-    ensures { IfSome result (λ _. SaysBehind text.now task read.new) }
+fn read_after_task(task: Name, text: &[u8], read: &mut Line) -> Option<()>
+    ensures { IfSome result (λ _. SpellsAfter text.now task read.new) }
 {
     match text {
         [_, b'G', ..] => read_obtain(task, behind(text, b" GETMAIN ")?, read),
@@ -287,5 +287,5 @@ pub fn read_plain(line: &[u8], read: &mut Line) -> Option<()>
         return None;
     }
     let (task, rest) = name_in_front(line)?;
-    read_behind(name(task), rest, read)
+    read_after_task(name(task), rest, read)
 }

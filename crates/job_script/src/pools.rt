@@ -4,7 +4,7 @@ ghost use Rattle.std.specs.Prelude.{◌≡◌, [], codes};
 ghost use Rattle.mvs_model.specs.Grammar.{BuildsPool, GetsCell, FreesCell, DeletesPool};
 ghost use Rattle.mvs_model.specs.Reading.{is_conditional, statement_of};
 ghost use Rattle.job_script.specs.Given.{IsRead, by_place};
-ghost use Rattle.job_script.specs.Said.{filled, said_line, Holds, IsRanged, IsNamed, IsLocated};
+ghost use Rattle.job_script.specs.LineMeaning.{filled, line_of_task, Holds, IsRanged, IsNamed, IsLocated};
 
 use crate::addresses::{location, name};
 use crate::digits::bounded;
@@ -34,7 +34,7 @@ impl Given<'_> {
         requires count { Holds (IsRanged 1 65536) ((by_place self.now).under (codes "PCELLCT")) }
         requires more { Holds (IsRanged 1 65536) ((by_place self.now).under (codes "SCELLCT")) }
         ensures { filled line.new result
-            ≡ said_line task (statement_of BuildsPool [] (by_place self.now)) }
+            ≡ line_of_task task (statement_of BuildsPool [] (by_place self.now)) }
     {
         let pool = self.required(Key::Cpid)?;
         let size = self.required(Key::Csize)?;
@@ -60,7 +60,7 @@ impl Given<'_> {
         requires pool { Holds (IsNamed) ((by_place self.now).under (codes "CPID")) }
         requires cell { Holds (IsNamed) ((by_place self.now).under (codes "CELL")) }
         ensures { filled line.new result
-            ≡ said_line task (statement_of GetsCell [] (by_place self.now)) }
+            ≡ line_of_task task (statement_of GetsCell [] (by_place self.now)) }
     {
         let pool = self.required(Key::Cpid)?;
         let cell = self.required(Key::Cell)?;
@@ -81,7 +81,7 @@ impl Given<'_> {
         requires pool { Holds (IsNamed) ((by_place self.now).under (codes "CPID")) }
         requires cell { Holds (IsLocated) ((by_place self.now).under (codes "CELL")) }
         ensures { filled line.new result
-            ≡ said_line task (statement_of FreesCell [] (by_place self.now)) }
+            ≡ line_of_task task (statement_of FreesCell [] (by_place self.now)) }
     {
         let pool = self.required(Key::Cpid)?;
         let cell = self.required(Key::Cell)?;
@@ -100,7 +100,7 @@ impl Given<'_> {
         requires read { IsRead self.now }
         requires pool { Holds (IsNamed) ((by_place self.now).under (codes "CPID")) }
         ensures { filled line.new result
-            ≡ said_line task (statement_of DeletesPool [] (by_place self.now)) }
+            ≡ line_of_task task (statement_of DeletesPool [] (by_place self.now)) }
     {
         let pool = self.required(Key::Cpid)?;
         *line = Line::Statement(

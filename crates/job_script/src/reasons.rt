@@ -4,7 +4,7 @@ ghost use Rattle.std.specs.Prelude.{◌≡◌, ◌≤◌, ◌<◌, ◌+◌, ◌+
 ghost use Rattle.std.specs.List.{position_or_len};
 ghost use Rattle.mvs_model.specs.Name.{trimmed};
 ghost use Rattle.mvs_model.specs.Reasons.{number_of};
-ghost use Rattle.job_script.specs.ReasonTexts.{cell_of, holder_said, least_of, members_before, named, named_said, no_access_said, no_cell_said, no_member_said, no_part_said, no_subpool_said, not_held_said, not_owned_said, off_said, one_line, overlap_said, reason_line, reason_said, room_said, shortage_said, spot_said, subtask_said, why_said};
+ghost use Rattle.job_script.specs.ReasonTexts.{cell_of, holder_text, least_of, members_before, named, names_text, no_access_text, no_cell_text, no_member_text, no_part_text, no_subpool_text, not_held_text, not_owned_text, off_text, one_line, overlap_text, reason_line, reason_words, room_text, shortage_text, spot_text, subtask_text, why_text};
 ghost use Rattle.job_script.specs.Writing.{Prints};
 
 use crate::print::write_all;
@@ -72,7 +72,7 @@ fn push_named(text: &mut Text, request: &Request)
 // Appends the holder of a doubleword.
 fn push_holder(text: &mut Text, holder: &Holder)
     requires { length text.old ≤ 100 }
-    ensures text { text.new ≡ text.old ++ holder_said holder.now }
+    ensures text { text.new ≡ text.old ++ holder_text holder.now }
     ensures len { length text.new ≤ length text.old + 40 }
 {
     match holder {
@@ -94,7 +94,7 @@ fn push_holder(text: &mut Text, holder: &Holder)
 // Appends the free runs and pages, and the beginning of the rule.
 fn push_room(text: &mut Text, room: &Room)
     requires { length text.old ≤ 157 }
-    ensures text { text.new ≡ text.old ++ room_said room.now }
+    ensures text { text.new ≡ text.old ++ room_text room.now }
     ensures len { length text.new ≤ length text.old + 80 }
 {
     text.push_all(b"; free runs: ");
@@ -109,7 +109,7 @@ fn push_room(text: &mut Text, room: &Room)
 // Appends that a length does not fit.
 fn push_shortage(text: &mut Text, request: &Request, room: &Room)
     requires { length text.old ≤ 2 }
-    ensures text { text.new ≡ text.old ++ shortage_said request.now room.now }
+    ensures text { text.new ≡ text.old ++ shortage_text request.now room.now }
     ensures len { length text.new ≤ length text.old + 237 }
 {
     text.push_decimal(least(request));
@@ -136,7 +136,7 @@ fn push_before(text: &mut Text, member: u32)
 // Appends that a member of a list does not fit.
 fn push_no_member(text: &mut Text, member: u32, short: &Shortfall)
     requires { length text.old ≤ 2 }
-    ensures text { text.new ≡ text.old ++ no_member_said member short.now }
+    ensures text { text.new ≡ text.old ++ no_member_text member short.now }
     ensures len { length text.new ≤ length text.old + 237 }
 {
     text.push_all(b"Member ");
@@ -155,7 +155,7 @@ fn push_no_member(text: &mut Text, member: u32, short: &Shortfall)
 // Appends that a part of a pool does not fit.
 fn push_no_part(text: &mut Text, request: &Request, cells: u32, size: u32, room: &Room)
     requires { length text.old ≤ 2 }
-    ensures text { text.new ≡ text.old ++ no_part_said request.now cells size room.now }
+    ensures text { text.new ≡ text.old ++ no_part_text request.now cells size room.now }
     ensures len { length text.new ≤ length text.old + 237 }
 {
     text.push_all(b"Pool ");
@@ -174,7 +174,7 @@ fn push_no_part(text: &mut Text, request: &Request, cells: u32, size: u32, room:
 // Appends that an address is not on a doubleword.
 fn push_off(text: &mut Text, addr: Addr)
     requires { length text.old ≤ 2 }
-    ensures text { text.new ≡ text.old ++ off_said addr }
+    ensures text { text.new ≡ text.old ++ off_text addr }
     ensures len { length text.new ≤ length text.old + 237 }
 {
     let addr = addr.get();
@@ -189,7 +189,7 @@ fn push_off(text: &mut Text, addr: Addr)
 // Appends that the subpool of a task does not hold a doubleword.
 fn push_not_held(text: &mut Text, task: &Name, number: u32, addr: Addr, holder: &Holder)
     requires { length text.old ≤ 2 }
-    ensures text { text.new ≡ text.old ++ not_held_said task.now number addr holder.now }
+    ensures text { text.new ≡ text.old ++ not_held_text task.now number addr holder.now }
     ensures len { length text.new ≤ length text.old + 237 }
 {
     text.push_word(addr.get());
@@ -204,7 +204,7 @@ fn push_not_held(text: &mut Text, task: &Name, number: u32, addr: Addr, holder: 
 // Appends that members of a list overlap.
 fn push_overlap(text: &mut Text, one: Addr, other: Addr, addr: Addr)
     requires { length text.old ≤ 2 }
-    ensures text { text.new ≡ text.old ++ overlap_said one other addr }
+    ensures text { text.new ≡ text.old ++ overlap_text one other addr }
     ensures len { length text.new ≤ length text.old + 237 }
 {
     text.push_all(b"The members at ");
@@ -257,7 +257,7 @@ fn push_task(text: &mut Text, task: &Name, behind: &[u8])
 // Appends where an address is, if no taken cell begins there.
 fn push_spot(text: &mut Text, spot: &CellSpot)
     requires { length text.old ≤ 100 }
-    ensures text { text.new ≡ text.old ++ spot_said spot.now }
+    ensures text { text.new ≡ text.old ++ spot_text spot.now }
     ensures len { length text.new ≤ length text.old + 40 }
 {
     match spot {
@@ -273,7 +273,7 @@ fn push_spot(text: &mut Text, spot: &CellSpot)
 // Appends that no taken cell begins at the address of a request.
 fn push_no_cell(text: &mut Text, request: &Request, spot: &CellSpot)
     requires { length text.old ≤ 2 }
-    ensures text { text.new ≡ text.old ++ no_cell_said request.now spot.now }
+    ensures text { text.new ≡ text.old ++ no_cell_text request.now spot.now }
     ensures len { length text.new ≤ length text.old + 237 }
 {
     text.push_all(b"No allocated cell of pool ");
@@ -288,7 +288,7 @@ fn push_no_cell(text: &mut Text, request: &Request, spot: &CellSpot)
 // Appends that a task has no subpool with the number of a request.
 fn push_no_subpool(text: &mut Text, request: &Request, keeper: &Name)
     requires { length text.old ≤ 2 }
-    ensures text { text.new ≡ text.old ++ no_subpool_said request.now keeper.now }
+    ensures text { text.new ≡ text.old ++ no_subpool_text request.now keeper.now }
     ensures len { length text.new ≤ length text.old + 237 }
 {
     text.push_name(keeper);
@@ -300,7 +300,7 @@ fn push_no_subpool(text: &mut Text, request: &Request, keeper: &Name)
 // Appends that a task only shares a subpool that it gives.
 fn push_not_owned(text: &mut Text, task: &Name, number: SubNo, owner: &Name)
     requires { length text.old ≤ 2 }
-    ensures text { text.new ≡ text.old ++ not_owned_said task.now number owner.now }
+    ensures text { text.new ≡ text.old ++ not_owned_text task.now number owner.now }
     ensures len { length text.new ≤ length text.old + 237 }
 {
     text.push_name(task);
@@ -314,7 +314,7 @@ fn push_not_owned(text: &mut Text, task: &Name, number: SubNo, owner: &Name)
 // Appends that a subtask of a task is active.
 fn push_subtask(text: &mut Text, task: &Name, subtask: &Name)
     requires { length text.old ≤ 2 }
-    ensures text { text.new ≡ text.old ++ subtask_said task.now subtask.now }
+    ensures text { text.new ≡ text.old ++ subtask_text task.now subtask.now }
     ensures len { length text.new ≤ length text.old + 237 }
 {
     text.push_name(subtask);
@@ -326,7 +326,7 @@ fn push_subtask(text: &mut Text, task: &Name, subtask: &Name)
 // Appends that a byte cannot be accessed.
 fn push_no_access(text: &mut Text, addr: Addr, holder: &Holder)
     requires { length text.old ≤ 2 }
-    ensures text { text.new ≡ text.old ++ no_access_said addr holder.now }
+    ensures text { text.new ≡ text.old ++ no_access_text addr holder.now }
     ensures len { length text.new ≤ length text.old + 237 }
 {
     text.push_word(addr.get());
@@ -337,7 +337,7 @@ fn push_no_access(text: &mut Text, addr: Addr, holder: &Holder)
 // Appends why a request for cells or of a subtask is refused.
 fn push_named_reason(text: &mut Text, request: &Request, reason: &Reason)
     requires { length text.old ≤ 2 }
-    ensures text { text.new ≡ text.old ++ named_said request.now reason.now }
+    ensures text { text.new ≡ text.old ++ names_text request.now reason.now }
     ensures len { length text.new ≤ length text.old + 237 }
 {
     match reason {
@@ -377,7 +377,7 @@ fn push_named_reason(text: &mut Text, request: &Request, reason: &Reason)
 // Appends why a request of a task is refused.
 fn push_reason(text: &mut Text, task: &Name, request: &Request, reason: &Reason)
     requires { length text.old ≤ 2 }
-    ensures text { text.new ≡ text.old ++ reason_said task.now request.now reason.now }
+    ensures text { text.new ≡ text.old ++ reason_words task.now request.now reason.now }
     ensures len { length text.new ≤ length text.old + 237 }
 {
     match reason {
@@ -419,7 +419,7 @@ fn push_reason(text: &mut Text, task: &Name, request: &Request, reason: &Reason)
 // Appends why a line of a task is not executed as it asks.
 fn push_why(text: &mut Text, task: &Name, request: &Request, reason: &LineReason)
     requires { length text.old ≤ 2 }
-    ensures text { text.new ≡ text.old ++ why_said task.now request.now reason.now }
+    ensures text { text.new ≡ text.old ++ why_text task.now request.now reason.now }
     ensures len { length text.new ≤ length text.old + 237 }
 {
     match reason {

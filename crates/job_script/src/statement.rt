@@ -7,7 +7,7 @@ ghost use Rattle.job_script.specs.Given.{IsRead, by_place, field_now};
 ghost use Rattle.job_script.specs.Operations.{operation_text};
 ghost use Rattle.job_script.specs.Rowed.{RowReading, FormReading, as_field};
 ghost use Rattle.job_script.specs.Rows.{row_at};
-ghost use Rattle.job_script.specs.Said.{filled, said_line};
+ghost use Rattle.job_script.specs.LineMeaning.{filled, line_of_task};
 ghost use Rattle.job_script.specs.Parted.{field_in};
 
 use crate::given::Given;
@@ -25,7 +25,7 @@ impl Given<'_> {
         requires apart { list_any (is_conflict (by_place self.now)) (row_at self.now.row).rules
             ≡ false }
         ensures { filled line.new result
-            ≡ said_line task
+            ≡ line_of_task task
             (statement_of (row_at self.now.row).meaning form.now (by_place self.now)) }
     {
         match self.row {

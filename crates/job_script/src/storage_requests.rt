@@ -3,11 +3,11 @@
 ghost use Rattle.std.specs.Prelude.{◌≡◌, [], codes, if◌then◌else◌};
 ghost use Rattle.mvs_model.specs.Grammar.{IsRegion, Obtains, ObtainsList, Releases, ReleasesArea, ReleasesList};
 ghost use Rattle.mvs_model.specs.Numbers.{most_pages_above, most_pages_below};
-ghost use Rattle.mvs_model.specs.Reading.{number_or, is_word, subpool, start_of, loc_of, residence_of, asking, form_of, statement_of};
+ghost use Rattle.mvs_model.specs.Reading.{number_or, is_word, subpool, start_of, loc_of, residence_of, ask_for, form_of, statement_of};
 ghost use Rattle.job_script.specs.Rows.{key_text};
 ghost use Rattle.job_script.specs.Given.{IsRead, by_place};
 ghost use Rattle.job_script.specs.Values.{IsExtent, IsNumbers, IsNames, IsLocations};
-ghost use Rattle.job_script.specs.Said.{filled, said_line, loc_named, Holds, IsRanged, IsNamed, IsLocated, IsByte};
+ghost use Rattle.job_script.specs.LineMeaning.{filled, line_of_task, loc_named, Holds, IsRanged, IsNamed, IsLocated, IsByte};
 
 use crate::addresses::{location, name};
 use crate::digits::bounded;
@@ -151,7 +151,7 @@ impl Given<'_> {
     fn ask(&self, lengths: &[u8]) -> Ask
         requires read { IsRead self.now }
         requires extent { IsExtent lengths.now }
-        ensures { result ≡ asking lengths.now (by_place self.now) }
+        ensures { result ≡ ask_for lengths.now (by_place self.now) }
     {
         let (largest, smallest) = extent(lengths);
         let ask = Ask::fixed(largest, self.start(), self.loc()).at_least(smallest);
@@ -170,7 +170,7 @@ impl Given<'_> {
             ((by_place self.now).under (codes "ABOVE")) }
         requires fill { Holds (IsByte) ((by_place self.now).under (codes "FILL")) }
         ensures { filled line.new result
-            ≡ said_line task (statement_of IsRegion [] (by_place self.now)) }
+            ≡ line_of_task task (statement_of IsRegion [] (by_place self.now)) }
     {
         let below = self.required(Key::Below)?;
         let fill = match self.text(Key::Fill) {
@@ -202,7 +202,7 @@ impl Given<'_> {
         requires lengths { Holds IsExtent ((by_place self.now).under (key_text lengths)) }
         requires area { Holds IsNamed ((by_place self.now).under (key_text area)) }
         ensures { filled line.new result
-            ≡ said_line task
+            ≡ line_of_task task
             (statement_of (Obtains (key_text lengths) (key_text area)) form.now
             (by_place self.now)) }
     {
@@ -227,7 +227,7 @@ impl Given<'_> {
         requires lengths { Holds (IsNumbers) ((by_place self.now).under (codes "LA")) }
         requires areas { Holds (IsNames) ((by_place self.now).under (codes "A")) }
         ensures { filled line.new result
-            ≡ said_line task (statement_of ObtainsList form.now (by_place self.now)) }
+            ≡ line_of_task task (statement_of ObtainsList form.now (by_place self.now)) }
     {
         let list = self.required(Key::La)?;
         let areas = self.required(Key::A)?;
@@ -257,7 +257,7 @@ impl Given<'_> {
         requires len { Holds (IsRanged 1 2147483647) ((by_place self.now).under (key_text len)) }
         requires address { Holds IsLocated ((by_place self.now).under (key_text address)) }
         ensures { filled line.new result
-            ≡ said_line task
+            ≡ line_of_task task
             (statement_of (Releases (key_text len) (key_text address)) form.now
             (by_place self.now)) }
     {
@@ -292,7 +292,7 @@ impl Given<'_> {
         requires read { IsRead self.now }
         requires area { Holds (IsNamed) ((by_place self.now).under (codes "A")) }
         ensures { filled line.new result
-            ≡ said_line task (statement_of ReleasesArea form.now (by_place self.now)) }
+            ≡ line_of_task task (statement_of ReleasesArea form.now (by_place self.now)) }
     {
         let area = self.required(Key::A)?;
         *line = Line::Statement(
@@ -312,7 +312,7 @@ impl Given<'_> {
         requires lengths { Holds (IsNumbers) ((by_place self.now).under (codes "LA")) }
         requires addresses { Holds (IsLocations) ((by_place self.now).under (codes "A")) }
         ensures { filled line.new result
-            ≡ said_line task (statement_of ReleasesList form.now (by_place self.now)) }
+            ≡ line_of_task task (statement_of ReleasesList form.now (by_place self.now)) }
     {
         let list = self.required(Key::La)?;
         let addresses = self.required(Key::A)?;

@@ -8,7 +8,7 @@ ghost use Rattle.mvs_model.specs.Reading.{presents, statement_of, set_of, number
 ghost use Rattle.job_script.specs.Rows.{key_text};
 ghost use Rattle.job_script.specs.Given.{IsRead, by_place};
 ghost use Rattle.job_script.specs.Items.{items_in};
-ghost use Rattle.job_script.specs.Said.{filled, said_line, Holds, IsRanged, IsNamed, AreGifts, AreGiven};
+ghost use Rattle.job_script.specs.LineMeaning.{filled, line_of_task, Holds, IsRanged, IsNamed, AreGifts, AreGiven};
 
 use crate::addresses::name;
 use crate::digits::{bounded, number};
@@ -85,7 +85,7 @@ impl Given<'_> {
             && is_some ((by_place self.now).under (codes "SHSPL"))) ≡ false }
         requires apart { IsGifts (presents (by_place self.now)) }
         ensures { filled line.new result
-            ≡ said_line task (statement_of Attaches [] (by_place self.now)) }
+            ≡ line_of_task task (statement_of Attaches [] (by_place self.now)) }
     {
         let subtask = self.required(Key::Task)?;
         let given = self.set_under(Key::Gspv, Key::Gspl);
@@ -110,7 +110,7 @@ impl Given<'_> {
         requires read { IsRead self.now }
         requires code { Holds (IsRanged 0 4095) ((by_place self.now).at 0) }
         ensures { filled line.new result
-            ≡ said_line task (statement_of Abends [] (by_place self.now)) }
+            ≡ line_of_task task (statement_of Abends [] (by_place self.now)) }
     {
         let code = self.required_at(0)?;
         *line = Line::Statement(task, Statement::Request(Written::Abend(bounded(code))));

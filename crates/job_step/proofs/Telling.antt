@@ -26,35 +26,35 @@ use Rattle.request_forms.specs.Taking.{Takes, TakesArea, TakesAreas, TakesCell, 
 use Rattle.mvs_model.specs.declared.reason.Shortfall.{Shortfall}
 use Rattle.mvs_model.specs.Reasons.{MemberLacks}
 use Rattle.request_forms.proofs.Refused.{concerns}
-use Rattle.job_step.specs.Told.{IsLeft, Told}
+use Rattle.job_step.specs.Replying.{IsLeft, RepliesWith}
 
 module _ {A : Type 0} (reply_of : A → Reply) (old : State) (t : Name) (request : Request) (answer : Result A Refusal) (new : State) (reply : Reply) (result : Result (Unit {0}) Refusal) where
-  pub told : Tries reply_of old t request answer new → Told reply_of answer reply result → Tries (λ _. reply) old t request result new
+  pub told : Tries reply_of old t request answer new → RepliesWith reply_of answer reply result → Tries (λ _. reply) old t request result new
   told = at answer where
-    at : (a : Result A Refusal) → Tries reply_of old t request a new → Told reply_of a reply result → Tries (λ _. reply) old t request result new
+    at : (a : Result A Refusal) → Tries reply_of old t request a new → RepliesWith reply_of a reply result → Tries (λ _. reply) old t request result new
     at (Ok a) h is = subst (λ r. Tries (λ _. reply) old t request r new) (sym is.1) (h.0, subst (λ r. Does old t request r new) (sym is.0) h.1)
     at (Err refusal) h is = subst (λ r. Tries (λ _. reply) old t request r new) (sym is) h
 
 -- an area that takes the address that is told
-pub area_told : (told : List ℕ) (old : State) (t : Name) (form : Form) (number : ℕ) (ask : AskValue) (answer : Result PlaceValue Refusal) (reply : Reply) (result : Result (Unit {0}) Refusal) (new : State) → Told Obtained answer reply result
+pub area_told : (told : List ℕ) (old : State) (t : Name) (form : Form) (number : ℕ) (ask : AskValue) (answer : Result PlaceValue Refusal) (reply : Reply) (result : Result (Unit {0}) Refusal) (new : State) → RepliesWith Obtained answer reply result
     → IfOk answer (TakesArea old t form number ask (first_of told)) → OnOk result (Takes told old t (Obtain form number ask) reply new)
 area_told told old t form number ask (Ok p) reply result new is takes = subst (λ r. OnOk r (Takes told old t (Obtain form number ask) reply new)) (sym is.1) (subst (λ x. Takes told old t (Obtain form number ask) x new) (sym is.0) takes)
 area_told told old t form number ask (Err refusal) reply result new is takes = subst (λ r. OnOk r (Takes told old t (Obtain form number ask) reply new)) (sym is) tt
 
 -- and areas of a list that take theirs
-pub areas_told : (told : List ℕ) (old : State) (t : Name) (form : Form) (number : ℕ) (lengths : List ℕ) (start : ℕ) (answer : Result (List PlaceValue) Refusal) (reply : Reply) (result : Result (Unit {0}) Refusal) (new : State) → Told Listed answer reply result
+pub area_values : (told : List ℕ) (old : State) (t : Name) (form : Form) (number : ℕ) (lengths : List ℕ) (start : ℕ) (answer : Result (List PlaceValue) Refusal) (reply : Reply) (result : Result (Unit {0}) Refusal) (new : State) → RepliesWith Listed answer reply result
     → IfOk answer (λ ps. TakesAreas old t number lengths start told ps new) → OnOk result (Takes told old t (ObtainList form number lengths start) reply new)
-areas_told told old t form number lengths start (Ok ps) reply result new is takes = subst (λ r. OnOk r (Takes told old t (ObtainList form number lengths start) reply new)) (sym is.1) (subst (λ x. Takes told old t (ObtainList form number lengths start) x new) (sym is.0) takes)
-areas_told told old t form number lengths start (Err refusal) reply result new is takes = subst (λ r. OnOk r (Takes told old t (ObtainList form number lengths start) reply new)) (sym is) tt
+area_values told old t form number lengths start (Ok ps) reply result new is takes = subst (λ r. OnOk r (Takes told old t (ObtainList form number lengths start) reply new)) (sym is.1) (subst (λ x. Takes told old t (ObtainList form number lengths start) x new) (sym is.0) takes)
+area_values told old t form number lengths start (Err refusal) reply result new is takes = subst (λ r. OnOk r (Takes told old t (ObtainList form number lengths start) reply new)) (sym is) tt
 
 -- a cell that takes the address that is told
-pub cell_told : (told : List ℕ) (old : State) (t name : Name) (conditional : Bool) (answer : Result PlaceValue Refusal) (reply : Reply) (result : Result (Unit {0}) Refusal) (new : State) → Told Cell answer reply result
+pub cell_told : (told : List ℕ) (old : State) (t name : Name) (conditional : Bool) (answer : Result PlaceValue Refusal) (reply : Reply) (result : Result (Unit {0}) Refusal) (new : State) → RepliesWith Cell answer reply result
     → IfOk answer (TakesCell old name told) → OnOk result (Takes told old t (Get name conditional) reply new)
 cell_told told old t name conditional (Ok p) reply result new is takes = subst (λ r. OnOk r (Takes told old t (Get name conditional) reply new)) (sym is.1) (subst (λ x. Takes told old t (Get name conditional) x new) (sym is.0) takes)
 cell_told told old t name conditional (Err refusal) reply result new is takes = subst (λ r. OnOk r (Takes told old t (Get name conditional) reply new)) (sym is) tt
 
 -- and a pool whose first cell takes it
-pub pool_told : (told : List ℕ) (old : State) (t name : Name) (number size primary secondary : ℕ) (loc : Loc) (answer : Result (Unit {0}) Refusal) (reply : Reply) (result : Result (Unit {0}) Refusal) (new : State) → Told (λ _. Rc0) answer reply result
+pub pool_told : (told : List ℕ) (old : State) (t name : Name) (number size primary secondary : ℕ) (loc : Loc) (answer : Result (Unit {0}) Refusal) (reply : Reply) (result : Result (Unit {0}) Refusal) (new : State) → RepliesWith (λ _. Rc0) answer reply result
     → OnOk answer (TakesPool old t number name (record { cell_size = size; primary = primary; secondary = secondary; side = side_of loc (residence_of old.owners t) }) (first_of told) new) → OnOk result (Takes told old t (Build name number size primary secondary loc) reply new)
 pool_told told old t name number size primary secondary loc (Ok _) reply result new is takes = subst (λ r. OnOk r (Takes told old t (Build name number size primary secondary loc) reply new)) (sym is.1) (subst (λ x. Takes told old t (Build name number size primary secondary loc) x new) (sym is.0) takes)
 pool_told told old t name number size primary secondary loc (Err refusal) reply result new is takes = subst (λ r. OnOk r (Takes told old t (Build name number size primary secondary loc) reply new)) (sym is) tt
@@ -84,7 +84,7 @@ refusal_is : (x y : Refusal) → ◌≡◌ {A = Result (Unit {0}) Refusal} (Err 
 refusal_is x y e = cc
 
 -- what a member of a list lacks is left where the reply is written
-pub areas_left : (old : State) (t : Name) (form : Form) (number : ℕ) (lengths : List ℕ) (start : ℕ) (answer : Result (List PlaceValue) Refusal) (reply : Reply) (result : Result (Unit {0}) Refusal) (left : Shortfall) → Told Listed answer reply result
+pub areas_left : (old : State) (t : Name) (form : Form) (number : ℕ) (lengths : List ℕ) (start : ℕ) (answer : Result (List PlaceValue) Refusal) (reply : Reply) (result : Result (Unit {0}) Refusal) (left : Shortfall) → RepliesWith Listed answer reply result
     → ((k : ℕ) → answer ≡ Err (refusals.Member k) → MemberLacks old t (ObtainList form number lengths start) k left) → IsLeft old t (ObtainList form number lengths start) result left
 areas_left old t form number lengths start (Ok ps) reply result left is h = λ k e. absurd (let f : ◌≡◌ {A = Result (Unit {0}) Refusal} (Ok tt) (Err (refusals.Member k)) = sym is.1 ∙ e in cc)
 areas_left old t form number lengths start (Err refusal) reply result left is h = λ k e. h k (ap (λ x. Err x) (refusal_is refusal (refusals.Member k) (sym is ∙ e)))

@@ -1,3 +1,3 @@
 -- How far a step has come, and what a call answered.
 pub mod Step
-pub mod Told
+pub mod Replying

@@ -2,6 +2,6 @@
 #![tactic(auto)]
 
 mod step;
-mod tell;
+mod replying;
 
 pub use step::Step;

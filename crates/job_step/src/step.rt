@@ -15,13 +15,13 @@ ghost use Rattle.mvs_model.specs.Steps.{Attempts, Step as MachineStep, Tries};
 ghost use Rattle.mvs_model.specs.Reasons.{Explains, MemberLacks};
 ghost use Rattle.mvs_model.specs.declared.refusal.Refusal.TheVariants.{Member};
 ghost use Rattle.mvs_model.specs.Replies.{is_abend};
-ghost use Rattle.job_step.specs.Told.{IsLeft};
+ghost use Rattle.job_step.specs.Replying.{IsLeft};
 ghost use Rattle.request_forms.specs.Machine.{IsTask, task_name};
 ghost use Rattle.request_forms.specs.Taking.{Takes};
 ghost use Rattle.request_forms.specs.Reports.{HasNone, IsMapEnd, IsMapRun, IsSubpoolLine};
 
-use crate::tell::{
-    tell_area, tell_areas, tell_attached, tell_cell, tell_done, tell_ended, tell_zero,
+use crate::replying::{
+    reply_area, reply_areas, reply_attached, reply_cell, reply_done, reply_ended, reply_zero,
 };
 use mvs_model::card::Card;
 use mvs_model::code::Code;
@@ -34,7 +34,7 @@ use mvs_model::report::{MapRun, SubpoolLine};
 use mvs_model::request::{Reply, Request};
 use mvs_model::table::reply_to;
 use mvs_model::want::Placement;
-use request_forms::{Machine, first_told, no_shortfall};
+use request_forms::{Machine, first_hint, no_shortfall};
 use std::alloc::Global;
 use std::marker::Model;
 use task_owner::TaskId;
@@ -86,7 +86,7 @@ fn act_on_list(
     else {
         unreachable!();
     };
-    tell_areas(
+    reply_areas(
         machine.obtain_list(t, *number, lengths, *start, told, left),
         reply,
     )
@@ -112,19 +112,19 @@ fn act(
     ensures left { IsLeft machine.old.state (task_name machine.old t) request.now result left.new }
 {
     match request {
-        Request::Obtain { form, number, ask } => tell_area(
-            machine.obtain(t, *form, *number, ask, first_told(told)),
+        Request::Obtain { form, number, ask } => reply_area(
+            machine.obtain(t, *form, *number, ask, first_hint(told)),
             reply,
         ),
         Request::ObtainList { .. } => act_on_list(machine, t, request, told, reply, left),
         Request::Release { number, place, .. } => {
-            tell_zero(machine.release(t, *number, *place), reply)
+            reply_zero(machine.release(t, *number, *place), reply)
         }
         Request::ReleaseList { number, places, .. } => {
-            tell_zero(machine.release_list(t, *number, places), reply)
+            reply_zero(machine.release_list(t, *number, places), reply)
         }
         Request::ReleaseWhole { number, .. } => {
-            tell_zero(machine.release_whole(t, *number), reply)
+            reply_zero(machine.release_whole(t, *number), reply)
         }
         Request::Build {
             pool,
@@ -135,26 +135,26 @@ fn act(
             loc,
         } => {
             let plan = machine.plan(t, *size, *primary, *secondary, *loc);
-            tell_zero(
-                machine.build(t, *number, pool, &plan, first_told(told)),
+            reply_zero(
+                machine.build(t, *number, pool, &plan, first_hint(told)),
                 reply,
             )
         }
         Request::Get { pool, conditional } => {
-            tell_cell(machine.get(pool, *conditional, told), reply)
+            reply_cell(machine.get(pool, *conditional, told), reply)
         }
-        Request::Free { pool, cell } => tell_zero(machine.free(pool, *cell), reply),
-        Request::Delete { pool } => tell_zero(machine.delete(pool), reply),
+        Request::Free { pool, cell } => reply_zero(machine.free(pool, *cell), reply),
+        Request::Delete { pool } => reply_zero(machine.delete(pool), reply),
         Request::Attach {
             name: subtask,
             gifts,
             residence,
-        } => tell_attached(machine.attach(t, subtask, gifts, *residence), reply),
-        Request::Return => tell_ended(machine.finish(t), reply),
+        } => reply_attached(machine.attach(t, subtask, gifts, *residence), reply),
+        Request::Return => reply_ended(machine.finish(t), reply),
         Request::Abend(code) => Err(Refusal::Asked(code.get() as u16)),
-        Request::Show { from, len } => tell_done(machine.show(*from, *len), reply),
-        Request::Put { to, bytes } => tell_done(machine.put(*to, bytes), reply),
-        Request::Move { to, from, len } => tell_done(machine.move_bytes(*to, *from, *len), reply),
+        Request::Show { from, len } => reply_done(machine.show(*from, *len), reply),
+        Request::Put { to, bytes } => reply_done(machine.put(*to, bytes), reply),
+        Request::Move { to, from, len } => reply_done(machine.move_bytes(*to, *from, *len), reply),
     }
 }
 

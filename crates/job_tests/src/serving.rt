@@ -68,7 +68,7 @@ fn serves_the_lines_of_two_steps(rt: HostRuntime) -> Result<(), Fail> {
     for line in STEPS {
         serve(&rt, &mut session, line, &mut writer)?;
     }
-    assert!(rt; session.goes_on());
+    assert!(rt; session.continues());
     let closing = session.close();
     print_closing(&mut writer, 9, closing.ended)?;
     assert_eq!(rt; closing.outcome, Outcome::Clean);
@@ -82,7 +82,7 @@ fn ends_at_a_fault(rt: HostRuntime) -> Result<(), Fail> {
     let mut session = Session::new(rt.alloc(), Placement::Low);
     let mut writer = writer_of(&rt, 1_000);
     serve(&rt, &mut session, b"JOB WHERE X", &mut writer)?;
-    assert!(rt; !session.goes_on());
+    assert!(rt; !session.continues());
     assert!(rt; writer.into_inner().bytes.as_slice() == b"1 JS09\nJOB FAULT RC 12\n".as_slice());
     Ok(())
 }
@@ -94,7 +94,7 @@ fn writes_bytes_and_serves_a_request(rt: HostRuntime) -> Result<(), Fail> {
     let mut writer = writer_of(&rt, 1_000);
     serve(&rt, &mut session, STEPS[0], &mut writer)?;
     serve(&rt, &mut session, STEPS[1], &mut writer)?;
-    assert!(rt; session.goes_on());
+    assert!(rt; session.continues());
     assert!(rt; session.write(Place::new(Addr::new(0x6001), 2), &[0xab, 0xcd]));
     assert!(rt; !session.write(Place::new(Addr::new(0x6007), 2), &[0xab, 0xcd]));
     serve(&rt, &mut session, STEPS[2], &mut writer)?;
@@ -105,7 +105,7 @@ fn writes_bytes_and_serves_a_request(rt: HostRuntime) -> Result<(), Fail> {
             .as_slice()
             .ends_with(b"3 DEBUG DATA +0000 00ABCD00\n")
     );
-    assert!(rt; session.goes_on());
+    assert!(rt; session.continues());
     assert!(rt; session.request(&Name::of(b"DEBUG"), &Request::Return));
     assert!(rt; matches!(session.walk().reply(), Reply::Ended));
     Ok(())

@@ -21,7 +21,7 @@ use Rattle.mvs_model.specs.Replies.{answer_of, is_abend}
 use Rattle.mvs_model.specs.Steps.{Step}
 use Rattle.mvs_model.specs.Answers.{Answer, NotRun}
 use Rattle.mvs_model.specs.Job.{JobValue}
-use Rattle.mvs_model.specs.Runs.{Any, Asks, Makes, Says, Tells}
+use Rattle.mvs_model.specs.Runs.{Any, Asks, Makes, AnswersTo, OnlyAnswers}
 use Rattle.mvs_model.proofs.Orders.{name_cmp_total}
 use Rattle.mvs_model.proofs.OneSteps.{by_two}
 use Rattle.mvs_model.proofs.Tests.{false_true, true_false}
@@ -160,7 +160,7 @@ module _ (one other : JobValue) (t : Name) (x y : Answer) (a b : JobValue) (like
   asks k (Some r) None e f s m n = true_false s
   asks k (Some r) (Some q) e f s m n = steps k r q m n (turned one.state t k r m.reply a.state one.names e m.step) (turned other.state t k q n.reply b.state other.names f n.step)
 
-  says : (s : Statement) → Says Any one t s x a → Says Any other t s y b → AreAlike a b
+  says : (s : Statement) → AnswersTo Any one t s x a → AnswersTo Any other t s y b → AreAlike a b
   says (statement.Region below above fill residence) m n = absurd m
   says (statement.Request k) m n = asks k (resolved one.names k) (resolved other.names k) refl refl (resolved_alike one.names other.names like.named k) m n
   says (statement.Where name) m n = alike_at m.1 n.1
@@ -169,6 +169,6 @@ module _ (one other : JobValue) (t : Name) (x y : Answer) (a b : JobValue) (like
 
 pub alike_law : StaysAlike
 alike_law one other t s x y a b like d e w =
-    by_two (not (is_active one.state.owners t)) d (subst (λ o. MatchBool (not (is_active o t)) (Tells other NotRun y b) (Says Any other t s y b)) (sym like.owners) e)
+    by_two (not (is_active one.state.owners t)) d (subst (λ o. MatchBool (not (is_active o t)) (OnlyAnswers other NotRun y b) (AnswersTo Any other t s y b)) (sym like.owners) e)
     (λ m n. alike_at one other t x y a b like w m.1 n.1)
     (λ m n. says one other t x y a b like w s m n)

@@ -29,7 +29,7 @@ use Rattle.mvs_model.specs.Answers.{Answer, Event, Told, At}
 use Rattle.mvs_model.specs.Job.{JobValue}
 use Rattle.mvs_model.specs.Runs.{Condition, Any, Makes, Does}
 use Rattle.mvs_model.specs.View.{IsBounded}
-use Rattle.mvs_model.specs.Determined.{granted_at, TakesTold}
+use Rattle.mvs_model.specs.Determined.{granted_at, FollowsHint}
 use Rattle.mvs_laws.proofs.Kept.{enters_tasks}
 use Rattle.mvs_model.proofs.OneOwners.{one_subpool}
 use Rattle.mvs_model.proofs.OneSteps.{by_two, none_granted, one_grant, one_step}
@@ -83,7 +83,7 @@ pub record Apart (told : List ℕ) (old a b : JobValue) (t area : Name) (v : Boo
   names_other : b.names ≡ insert old.names area other
   abended : a.abended ≡ b.abended
   former : a.former ≡ b.former
-  takes : (k : ℕ) → told ≡ k ∷ [] → TakesTold old.state keeps number want k one
+  takes : (k : ℕ) → told ≡ k ∷ [] → FollowsHint old.state keeps number want k one
 
 module _ (told : List ℕ) (old : JobValue) (t : Name) (answer other : Answer) (a b : JobValue) (form : Form) (number : ℕ) (ask : AskValue) (v : Bool) (area : Name) (ranged : IsAsk ask) where
   abbrev k : Written

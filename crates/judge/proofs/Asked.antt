@@ -18,9 +18,9 @@ use Rattle.mvs_model.proofs.Reading.{one_reading}
 use Rattle.judge.specs.declared.kinds.Kind.{Kind}
 use Rattle.judge.specs.declared.kinds.Kind.TheVariants.{Area, Areas, Closed, Several}
 use Rattle.judge.specs.Deciding.{HasNoQuestion, IsGrant, IsKind, IsKindOf, IsList, IsOther}
-use Rattle.judge.specs.Judging.{AskEach, IsAsked, IsAskedFor, IsAreaAsked, IsForList, IsFound, IsListAsked, IsListAt, IsOpen, IsOpenAt, IsQuestion, leaves_open}
+use Rattle.judge.specs.Judging.{AskEach, GrantsAreShown, GrantIsShown, AreaIsShown, IsForList, IsFound, ListIsShown, IsListAt, IsOpen, IsOpenAt, IsQuestion, leaves_open}
 
-asked_behind : (served left : List (List ℕ)) → IsAsked (served ++ left) → IsAsked left
+asked_behind : (served left : List (List ℕ)) → GrantsAreShown (served ++ left) → GrantsAreShown left
 asked_behind [] left a = a
 asked_behind (bytes ∷ served) left a = asked_behind served left a.1
 
@@ -38,11 +38,11 @@ abbrev IsListFirst : List (List ℕ) → Type 0
 IsListFirst [] = ⊥
 IsListFirst (bytes ∷ lines) = (l : Line) × LineOf false bytes l × IsForList l
 
-list_first : (number : ℕ) (step : Option JobValue) (left : List (List ℕ)) (rest : List ℕ) → IsAsked left → IsOpen number step left rest → IsListFirst left
+list_first : (number : ℕ) (step : Option JobValue) (left : List (List ℕ)) (rest : List ℕ) → GrantsAreShown left → IsOpen number step left rest → IsListFirst left
 list_first number step [] rest a x = absurd x
 list_first number step (bytes ∷ lines) rest a (l, is, opens, other) =
     let of_step = subst (λ first. LineOf first bytes l) (not_first (is_first step) l opens (line_ranged (is_first step) bytes l is)) is in
-    (l, of_step, (other (subst (IsAskedFor l) (append-nil lines) (a.0 l of_step opens))).0)
+    (l, of_step, (other (subst (GrantIsShown l) (append-nil lines) (a.0 l of_step opens))).0)
 
 get_behind : (xs : List (List ℕ)) (y : List ℕ) (ys : List (List ℕ)) → slice_get (xs ++ y ∷ ys) (length xs) ≡ Some y
 get_behind [] y ys = refl
@@ -54,11 +54,11 @@ list_at all served (bytes ∷ lines) number cut counted x =
     let n : number - 1 ≡ length served = omega (arith, counted) in
     (bytes, (λ i. slice_get (cut i) (n i)) ∙ get_behind served bytes lines, x.0, x.1, x.2)
 
-pub asked_decides : (script output text : List ℕ) (outcome : Outcome) (f : Finding) (number : ℕ) → IsAsked (lines_of script) → IsFound script output text outcome f → f ≡ Undecided number → IsListAt (lines_of script) number
+pub asked_decides : (script output text : List ℕ) (outcome : Outcome) (f : Finding) (number : ℕ) → GrantsAreShown (lines_of script) → IsFound script output text outcome f → f ≡ Undecided number → IsListAt (lines_of script) number
 asked_decides script output text outcome f number a found is = at (subst (IsFound script output text outcome) is found).0 where
   at : IsOpenAt script output number → IsListAt (lines_of script) number
   at (events, step, left, rest, reached, front, before, opens) =
-      list_at (lines_of script) reached.served left number reached.lines reached.counted (list_first number step left rest (asked_behind reached.served left (subst IsAsked reached.lines a)) opens)
+      list_at (lines_of script) reached.served left number reached.lines reached.counted (list_first number step left rest (asked_behind reached.served left (subst GrantsAreShown reached.lines a)) opens)
 
 -- ---- lines that are open
 
@@ -88,20 +88,20 @@ is_area _ = false
 pub open_area : (number : ℕ) (step : Option JobValue) (bytes : List ℕ) (lines : List (List ℕ)) (rest : List ℕ) (task area : Name) (variable : Bool) → IsGrant step bytes task area variable → HasNoQuestion lines task area → IsOpen number step (bytes ∷ lines) rest
 unfolding task_in area_in is_area
 open_area number step bytes lines rest task area variable (l, is, grant) none = (l, is, ap leaves_open grant.3, λ asked. absurd (by_kind asked)) where
-  at : (lines : List (List ℕ)) → HasNoQuestion lines task area → IsAreaAsked l lines → ⊥
+  at : (lines : List (List ℕ)) → HasNoQuestion lines task area → AreaIsShown l lines → ⊥
   at [] none x = x
   at (question ∷ lines) none (t, a, v, asks, is_question) =
       let same_task : t ≡ task = ap (task_in task) (sym asks.3 ∙ grant.3) in
       let same_area : a ≡ area = ap (area_in area) (sym asks.3 ∙ grant.3) in
       none (subst (λ t. IsQuestion question t area) same_task (subst (λ a. IsQuestion question t a) same_area is_question))
 
-  by_kind : IsAreaAsked l lines ⊎ IsListAsked l lines → ⊥
+  by_kind : AreaIsShown l lines ⊎ ListIsShown l lines → ⊥
   by_kind (inl x) = at lines none x
   by_kind (inr (t, areas, asks, each)) = let e : true ≡ false = ap is_area (sym grant.3 ∙ asks.4) in cc
 
 pub open_other : (number : ℕ) (step : Option JobValue) (bytes : List ℕ) (lines : List (List ℕ)) (rest : List ℕ) → IsOther step bytes → IsOpen number step (bytes ∷ lines) rest
 open_other number step bytes lines rest (l, is, (opens, no_area, no_list)) = (l, is, opens, λ asked. absurd (at lines asked)) where
-  at : (lines : List (List ℕ)) → IsAskedFor l lines → ⊥
+  at : (lines : List (List ℕ)) → GrantIsShown l lines → ⊥
   at [] (inl x) = x
   at (question ∷ lines) (inl (t, a, v, asks, is_question)) = no_area t a v asks
   at lines (inr (t, areas, asks, each)) = no_list t areas asks
@@ -110,7 +110,7 @@ open_other number step bytes lines rest (l, is, (opens, no_area, no_list)) = (l,
 pub open_list : (number : ℕ) (step : Option JobValue) (bytes : List ℕ) (lines : List (List ℕ)) (rest : List ℕ) (task : Name) (areas : List Name) → IsList step bytes task areas → (AskEach lines task areas → ⊥) → IsOpen number step (bytes ∷ lines) rest
 unfolding task_in areas_in is_area
 open_list number step bytes lines rest task areas (l, is, asks) none = (l, is, ap leaves_open asks.4, λ asked. absurd (at lines none asked)) where
-  at : (lines : List (List ℕ)) → (AskEach lines task areas → ⊥) → IsAskedFor l lines → ⊥
+  at : (lines : List (List ℕ)) → (AskEach lines task areas → ⊥) → GrantIsShown l lines → ⊥
   at [] none (inl x) = x
   at (question ∷ lines) none (inl (t, a, v, area, is_question)) = let e : true ≡ false = ap is_area (sym area.3 ∙ asks.4) in cc
   at lines none (inr (t, names, other, each)) =

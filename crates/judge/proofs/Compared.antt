@@ -14,7 +14,7 @@ use Rattle.mvs_model.specs.Reports.{subpool_lines_of}
 use Rattle.mvs_model.specs.Answers.{Answer, NotRun, NoName, Subpools}
 use Rattle.mvs_model.specs.Texts.{answer_text, reply_line, subpool_text}
 use Rattle.mvs_model.specs.Job.{JobValue}
-use Rattle.mvs_model.specs.Runs.{Any, Asks, Does, Says, Tells}
+use Rattle.mvs_model.specs.Runs.{Any, Asks, Does, AnswersTo, OnlyAnswers}
 use Rattle.mvs_model.proofs.Tests.{false_true, true_false}
 use Rattle.judge.proofs.Alike.{alike_law}
 use Rattle.judge.proofs.SettledBy.{acted, settled_law}
@@ -51,7 +51,7 @@ module _ (old : JobValue) (t : Name) (x : Answer) (new : JobValue) (number : ℕ
       let r = rest_at number t p.addr in
       subst (Found old.state.owners number t (statement.Where name)) (sym e) (tt, (codes "AT " ++ r.more, r.is, inl (r.more, refl)))
 
-  says_found : is_active old.state.owners t ≡ true → (s : Statement) → is_followed s ≡ true → ShowsSome s → is_settled s x ≡ false → Says Any old t s x new → Found old.state.owners number t s x
+  says_found : is_active old.state.owners t ≡ true → (s : Statement) → is_followed s ≡ true → ShowsSome s → is_settled s x ≡ false → AnswersTo Any old t s x new → Found old.state.owners number t s x
   says_found active (statement.Region below above fill residence) f some u m = absurd m
   says_found active (statement.Request k) f some u m = asks_found active k (resolved old.names k) refl some u m
   says_found active (statement.Where name) f some u m = where_found name (get old.names name) m.0 u
@@ -81,7 +81,7 @@ module _ (old : JobValue) (t : Name) (x : Answer) (new : JobValue) (number : ℕ
   begins : (fronts : List (List ℕ)) (text v : List ℕ) → ((rest : List ℕ) × (text ≡ head number t ++ rest) × BeginsOneOf fronts rest) → (rest : List ℕ) × (text ++ v ≡ head number t ++ rest) × BeginsOneOf fronts rest
   begins fronts text v x = (x.0 ++ v, ap (λ z. z ++ v) x.1 ∙ append_assoc (head number t) x.0 v, one_more fronts x.0 v x.2)
 
-  says_begins : is_active old.state.owners t ≡ true → (s : Statement) → ShowsSome s → is_settled s x ≡ false → Says Any old t s x new → (v : List ℕ) → BeginsOpen number t s (answer_text number t x ++ v)
+  says_begins : is_active old.state.owners t ≡ true → (s : Statement) → ShowsSome s → is_settled s x ≡ false → AnswersTo Any old t s x new → (v : List ℕ) → BeginsOpen number t s (answer_text number t x ++ v)
   says_begins active (statement.Region below above fill residence) some u m v = absurd m
   says_begins active (statement.Request k) some u m v = begins (openings (statement.Request k)) (answer_text number t x) v (says_found active (statement.Request k) refl some u m).1
   says_begins active (statement.Where name) some u m v = begins (openings (statement.Where name)) (answer_text number t x) v (says_found active (statement.Where name) refl some u m).1
@@ -95,7 +95,7 @@ module _ (old : JobValue) (t : Name) (x : Answer) (new : JobValue) (number : ℕ
 -- REPORT SP of an active task
 reported : (old : JobValue) (t : Name) (x : Answer) (new : JobValue) → Does Any old t statement.ReportSubpools x new → is_settled statement.ReportSubpools x ≡ false → (x ≡ Subpools (subpool_lines_of old.state t)) × (new ≡ old)
 reported old t x new m f = at (is_active old.state.owners t) m where
-  at : (active : Bool) → MatchBool (not active) (Tells old NotRun x new) (Tells old (Subpools (subpool_lines_of old.state t)) x new) → (x ≡ Subpools (subpool_lines_of old.state t)) × (new ≡ old)
+  at : (active : Bool) → MatchBool (not active) (OnlyAnswers old NotRun x new) (OnlyAnswers old (Subpools (subpool_lines_of old.state t)) x new) → (x ≡ Subpools (subpool_lines_of old.state t)) × (new ≡ old)
   at true m = m
   at false m = true_false (sym (ap (is_settled statement.ReportSubpools) m.0) ∙ f)
 

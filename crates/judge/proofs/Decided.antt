@@ -21,10 +21,10 @@ use Rattle.mvs_model.specs.Card.{CardValue, IsCard}
 use Rattle.mvs_model.specs.Lines.{lines_of}
 use Rattle.mvs_model.specs.Start.{start}
 use Rattle.std.specs.List.{list_all}
-use Rattle.mvs_model.specs.Reading.{LineOf, FaultOf, hex_number, is_hex_digit, line_said}
+use Rattle.mvs_model.specs.Reading.{LineOf, FaultOf, hex_number, is_hex_digit, line_meaning}
 use Rattle.mvs_laws.specs.Going.{Reaches}
 use Rattle.mvs_model.specs.Runs.{Any, Condition, IsPrinting, machine, job_machine}
-use Rattle.mvs_model.specs.Texts.{answer_text, printing, reply_line, said, hex}
+use Rattle.mvs_model.specs.Texts.{answer_text, printing, reply_line, one_line_text, hex}
 use Rattle.mvs_model.specs.View.{IsBounded}
 use Rattle.mvs_model.specs.Walk.{Arrives, Closes, Serves, ServesLine, Faults, is_first}
 use Rattle.mvs_model.specs.Want.{AskValue, IsAsk}
@@ -36,13 +36,13 @@ use Rattle.mvs_model.proofs.Reading.{one_reading}
 use Rattle.mvs_model.proofs.ReadingRanges.{line_ranged}
 use Rattle.mvs_model.proofs.ValueTexts.{hex_writes}
 use Rattle.request_forms.specs.Taking.{Takes}
-use Rattle.mvs_job.specs.declared.walk.LineTold.{LineTold}
-use Rattle.mvs_job.specs.declared.walk.LineTold.TheVariants as tells
+use Rattle.mvs_job.specs.declared.walk.LineEvent.{LineEvent}
+use Rattle.mvs_job.specs.declared.walk.LineEvent.TheVariants as tells
 use Rattle.mvs_model.proofs.Tests.{false_true}
-use Rattle.mvs_job.specs.Telling.{IsToldBy, WalkValue, closing, events_told, new_walk}
+use Rattle.mvs_job.specs.LineEvents.{ServesAsUnder, WalkValue, closing, events_of_line, new_walk}
 use Rattle.mvs_job.proofs.Serving.{told_by}
-use Rattle.judge.specs.Judging.{IsAskedBefore, IsAskedFor, IsNoPrinting, IsOpen, IsOpenAt, IsQuestion, leaves_open}
-use Rattle.judge.specs.Deciding.{Decides, DecidesBefore, DecidesFirst, InBounds, IsFoundFirst, LeavesFirst, IsClosed, IsFollowed, IsGrant, IsServed, MayPrint, PrintsEnd, Stands, end_at, no_bytes}
+use Rattle.judge.specs.Judging.{GrantsAreShownBefore, GrantIsShown, IsNoPrinting, IsOpen, IsOpenAt, IsQuestion, leaves_open}
+use Rattle.judge.specs.Deciding.{Decides, DecidesBefore, DecidesFirst, InBounds, IsFoundFirst, LeavesFirst, IsClosed, IsFollowed, IsGrant, IsServed, MayPrint, PrintsEnd, HasReached, end_at, no_bytes}
 use Rattle.judge.proofs.Settled.{serves_same}
 use Rattle.judge.proofs.Areas.{Apart, asked, located}
 
@@ -62,12 +62,12 @@ same_test a b = grind (arith, nat_tests)
 abbrev before_at : ℕ → Name → List ℕ
 before_at number t = decimal number ++ codes " " ++ trimmed t ++ codes " " ++ codes "AT "
 
-at_parts : (number : ℕ) (t : Name) (n : ℕ) (rest : List ℕ) → reply_line number t (said (At n)) ++ rest ≡ before_at number t ++ (hex 8 n ++ (codes "\n" ++ rest))
+at_parts : (number : ℕ) (t : Name) (n : ℕ) (rest : List ℕ) → reply_line number t (one_line_text (At n)) ++ rest ≡ before_at number t ++ (hex 8 n ++ (codes "\n" ++ rest))
 at_parts number t n rest = parts (decimal number) (trimmed t) (hex 8 n) where
   parts : (d s h : List ℕ) → (d ++ codes " " ++ s ++ codes " " ++ (codes "AT " ++ h) ++ codes "\n") ++ rest ≡ (d ++ codes " " ++ s ++ codes " " ++ codes "AT ") ++ (h ++ (codes "\n" ++ rest))
   parts d s h = search (append_assoc)
 
-pub one_address : (number : ℕ) (t : Name) (n m : ℕ) (x y : List ℕ) → n < 2 ^ 32 → m < 2 ^ 32 → reply_line number t (said (At n)) ++ x ≡ reply_line number t (said (At m)) ++ y → (n ≡ m) × (x ≡ y)
+pub one_address : (number : ℕ) (t : Name) (n m : ℕ) (x y : List ℕ) → n < 2 ^ 32 → m < 2 ^ 32 → reply_line number t (one_line_text (At n)) ++ x ≡ reply_line number t (one_line_text (At m)) ++ y → (n ≡ m) × (x ≡ y)
 one_address number t n m x y small_n small_m e =
     let cut : hex 8 n ++ (codes "\n" ++ x) ≡ hex 8 m ++ (codes "\n" ++ y) = append_cancel_left (before_at number t) _ _ (sym (at_parts number t n x) ∙ e ∙ at_parts number t m y) in
     let writes = hex_writes 8 n (omega (arith, small_n)) in
@@ -77,15 +77,15 @@ one_address number t n m x y small_n small_m e =
     (sym writes.value ∙ ap hex_number digits ∙ other.value, append_cancel_left (codes "\n") x y rest)
 
 -- such a line without its last nine bytes
-pub at_long : (number : ℕ) (t : Name) (n : ℕ) → n < 2 ^ 32 → length (reply_line number t (said (At n))) ≡ length (before_at number t) + 9
+pub at_long : (number : ℕ) (t : Name) (n : ℕ) → n < 2 ^ 32 → length (reply_line number t (one_line_text (At n))) ≡ length (before_at number t) + 9
 at_long number t n small =
     let writes = hex_writes 8 n (omega (arith, small)) in
-    let parts = ap length (sym (append-nil (reply_line number t (said (At n)))) ∙ at_parts number t n []) ∙ length-append (before_at number t) (hex 8 n ++ (codes "\n" ++ [])) in
+    let parts = ap length (sym (append-nil (reply_line number t (one_line_text (At n)))) ∙ at_parts number t n []) ∙ length-append (before_at number t) (hex 8 n ++ (codes "\n" ++ [])) in
     let digits = length-append (hex 8 n) (codes "\n" ++ []) in
     omega (arith, parts, digits, writes.many)
 
 -- what stands behind the front of the second of two lines, where that tells an address
-pub digits_behind : (number : ℕ) (t : Name) (n : ℕ) (one text rest : List ℕ) (front : ℕ) → front ≡ length one + length (reply_line number t (said (At 0))) - 9 → text ≡ one ++ (reply_line number t (said (At n)) ++ rest) → drop front text ≡ hex 8 n ++ (codes "\n" ++ rest)
+pub digits_behind : (number : ℕ) (t : Name) (n : ℕ) (one text rest : List ℕ) (front : ℕ) → front ≡ length one + length (reply_line number t (one_line_text (At 0))) - 9 → text ≡ one ++ (reply_line number t (one_line_text (At n)) ++ rest) → drop front text ≡ hex 8 n ++ (codes "\n" ++ rest)
 digits_behind number t n one text rest front is e =
     let many : front ≡ length one + length (before_at number t) = let l = at_long number t 0 (omega arith) in omega (arith, is, l) in
     ap (λ k. drop k text) many ∙ ap (drop (length one + length (before_at number t))) (e ∙ ap (λ x. one ++ x) (at_parts number t n rest))
@@ -113,12 +113,12 @@ read_back text front addr rest small e =
 -- ---- a line that can be granted no place
 
 -- what a line that told something did
-abbrev pub HasTold : Condition → WalkValue → List ℕ → LineTold → WalkValue → Type 0
+abbrev pub HasTold : Condition → WalkValue → List ℕ → LineEvent → WalkValue → Type 0
 HasTold P w l told new =
     ((fault : Fault) × (told ≡ tells.Faulted fault) × FaultOf (is_first w.step) l fault)
-    ⊎ (((fault : Fault) → told ≡ tells.Faulted fault → ⊥) × ServesLine (job_machine P) w.number w.step l (events_told w.number new told) new.step)
+    ⊎ (((fault : Fault) → told ≡ tells.Faulted fault → ⊥) × ServesLine (job_machine P) w.number w.step l (events_of_line w.number new told) new.step)
 
-pub told_cases : (P : Condition) (w : WalkValue) (l : List ℕ) (told : LineTold) (new : WalkValue) → IsToldBy P w l told new → HasTold P w l told new
+pub told_cases : (P : Condition) (w : WalkValue) (l : List ℕ) (told : LineEvent) (new : WalkValue) → ServesAsUnder P w l told new → HasTold P w l told new
 told_cases P w l (tells.Faulted fault) new x = inl (fault, refl, x.0)
 told_cases P w l tells.Nothing new x = inr ((λ fault e. cc), x)
 told_cases P w l (tells.Began ended card) new x = inr ((λ fault e. cc), x)
@@ -134,35 +134,35 @@ pub may_serve : (number : ℕ) (old : Option JobValue) (l : List ℕ) (more : Li
 may_serve number old l more text outcome (events, inl x, e) = inl (events, x.0, e)
 may_serve number old l more text outcome (events, inr x, e) = inr (x.0, x.1, printing x.2, x.3, e ∙ ap printing x.4 ∙ printed_both x.1 x.2, (x.2, x.5, refl))
 
-module _ (P : Condition) (w w' : WalkValue) (l : List ℕ) (t : LineTold) (is : IsToldBy P w l t w') (more : List (List ℕ)) (text : List ℕ) (outcome : Outcome) where
+module _ (P : Condition) (w w' : WalkValue) (l : List ℕ) (t : LineEvent) (is : ServesAsUnder P w l t w') (more : List (List ℕ)) (text : List ℕ) (outcome : Outcome) where
   -- what is printed of the line
-  abbrev pub told_text : List ℕ
-  told_text = printing (events_told w.number w' t)
+  abbrev pub text_of_event : List ℕ
+  text_of_event = printing (events_of_line w.number w' t)
 
   -- the run goes on as the job does
-  abbrev pub GoesOn : Type 0
-  GoesOn = (rest : List ℕ) × (text ≡ told_text ++ rest) × MayPrint (w.number + 1) w'.step more rest outcome
+  abbrev pub ContinuesRun : Type 0
+  ContinuesRun = (rest : List ℕ) × (text ≡ text_of_event ++ rest) × MayPrint (w.number + 1) w'.step more rest outcome
 
-  pub closed_line : IsClosed w.step l → MayPrint w.number w.step (l ∷ more) text outcome → ((fault : Fault) × (t ≡ tells.Faulted fault) × (text ≡ told_text)) ⊎ (((fault : Fault) → t ≡ tells.Faulted fault → ⊥) × GoesOn)
+  pub closed_line : IsClosed w.step l → MayPrint w.number w.step (l ∷ more) text outcome → ((fault : Fault) × (t ≡ tells.Faulted fault) × (text ≡ text_of_event)) ⊎ (((fault : Fault) → t ≡ tells.Faulted fault → ⊥) × ContinuesRun)
   closed_line closed may = at (told_cases P w l t w' is) (may_serve w.number w.step l more text outcome may) where
     at : HasTold P w l t w' → ((events : List Event) × Faults w.number (is_first w.step) l events × (text ≡ printing events)) ⊎ Serving w.number w.step l more text outcome
-        → ((fault : Fault) × (t ≡ tells.Faulted fault) × (text ≡ told_text)) ⊎ (((fault : Fault) → t ≡ tells.Faulted fault → ⊥) × GoesOn)
+        → ((fault : Fault) × (t ≡ tells.Faulted fault) × (text ≡ text_of_event)) ⊎ (((fault : Fault) → t ≡ tells.Faulted fault → ⊥) × ContinuesRun)
     at (inl x) (inl y) =
         let fault = one_reading.one_fault (is_first w.step) l y.1.0 x.0 y.1.1 x.2 in
-        inl (x.0, x.1, y.2 ∙ ap printing (y.1.2 ∙ ap (λ fault. Faulted w.number fault ∷ []) fault) ∙ ap (λ t. printing (events_told w.number w' t)) (sym x.1))
+        inl (x.0, x.1, y.2 ∙ ap printing (y.1.2 ∙ ap (λ fault. Faulted w.number fault ∷ []) fault) ∙ ap (λ t. printing (events_of_line w.number w' t)) (sym x.1))
     at (inl x) (inr y) = absurd (one_reading.not_both (is_first w.step) l y.3.0 x.0 y.3.1 x.2)
     at (inr x) (inl y) = absurd (one_reading.not_both (is_first w.step) l x.1.0 y.1.0 x.1.1 y.1.1)
     at (inr x) (inr y) =
         let one = one_reading.one_line (is_first w.step) l x.1.0 y.3.0 x.1.1 y.3.1 in
-        let mine = subst (λ said. Serves (job_machine P) w.number w.step said (events_told w.number w' t) w'.step) one x.1.2 in
-        let s = serves_same P w.number (events_told w.number w' t) y.1 w'.step y.0 w.step y.3.0 (closed y.3.0 y.3.1) mine y.3.2 in
+        let mine = subst (λ one_line_text. Serves (job_machine P) w.number w.step one_line_text (events_of_line w.number w' t) w'.step) one x.1.2 in
+        let s = serves_same P w.number (events_of_line w.number w' t) y.1 w'.step y.0 w.step y.3.0 (closed y.3.0 y.3.1) mine y.3.2 in
         inr (x.0, (y.2, y.4 ∙ ap (λ events. printing events ++ y.2) (sym s.0), subst (λ mid. MayPrint (w.number + 1) mid more y.2 outcome) (sym s.1) y.5))
 
 -- what that decides
-module _ (P : Condition) (w w' : WalkValue) (l : List ℕ) (t : LineTold) (text printed : List ℕ) (is : IsToldBy P w l t w') (closed : IsClosed w.step l) (same : printed ≡ printing (events_told w.number w' t)) where
+module _ (P : Condition) (w w' : WalkValue) (l : List ℕ) (t : LineEvent) (text printed : List ℕ) (is : ServesAsUnder P w l t w') (closed : IsClosed w.step l) (same : printed ≡ printing (events_of_line w.number w' t)) where
   sound : ((fault : Fault) → t ≡ tells.Faulted fault → ⊥) → (more : List (List ℕ)) (outcome : Outcome) → MayPrint w.number w.step (l ∷ more) text outcome → (rest : List ℕ) × (text ≡ printed ++ rest) × MayPrint (w.number + 1) w'.step more rest outcome
   sound whole more outcome may = at (closed_line P w w' l t is more text outcome closed may) where
-    at : ((fault : Fault) × (t ≡ tells.Faulted fault) × (text ≡ printing (events_told w.number w' t))) ⊎ (((fault : Fault) → t ≡ tells.Faulted fault → ⊥) × GoesOn P w w' l t is more text outcome)
+    at : ((fault : Fault) × (t ≡ tells.Faulted fault) × (text ≡ printing (events_of_line w.number w' t))) ⊎ (((fault : Fault) → t ≡ tells.Faulted fault → ⊥) × ContinuesRun P w w' l t is more text outcome)
         → (rest : List ℕ) × (text ≡ printed ++ rest) × MayPrint (w.number + 1) w'.step more rest outcome
     at (inl x) = absurd (whole x.0 x.1)
     at (inr x) = (x.1.0, x.1.1 ∙ ap (λ p. p ++ x.1.0) (sym same), x.1.2)
@@ -184,7 +184,7 @@ module _ (P : Condition) (w w' : WalkValue) (l : List ℕ) (t : LineTold) (text 
 
   fault_differs : (fault : Fault) → t ≡ tells.Faulted fault → (text ≡ printed → ⊥) → Decides (l ∷ []) text w printed false false w'
   fault_differs fault e other more outcome may = at (closed_line P w w' l t is more text outcome closed may) where
-    at : ((fault : Fault) × (t ≡ tells.Faulted fault) × (text ≡ printing (events_told w.number w' t))) ⊎ (((fault : Fault) → t ≡ tells.Faulted fault → ⊥) × GoesOn P w w' l t is more text outcome) → ⊥
+    at : ((fault : Fault) × (t ≡ tells.Faulted fault) × (text ≡ printing (events_of_line w.number w' t))) ⊎ (((fault : Fault) → t ≡ tells.Faulted fault → ⊥) × ContinuesRun P w w' l t is more text outcome) → ⊥
     at (inl x) = other (x.2 ∙ sym same)
     at (inr x) = x.0 fault e
 
@@ -193,20 +193,20 @@ module _ (P : Condition) (w w' : WalkValue) (l : List ℕ) (t : LineTold) (text 
   fault_decides fault e false test = fault_differs fault e (λ same. false_true (test.1 same))
 
 -- what is served by such a line, or by any
-module _ (P : Condition) (w w' : WalkValue) (l : List ℕ) (t : LineTold) (printed : List ℕ) (is : IsToldBy P w l t w') (same : printed ≡ printing (events_told w.number w' t)) where
-  pub one_leads : ((fault : Fault) → t ≡ tells.Faulted fault → ⊥) → ServesLine machine w.number w.step l (events_told w.number w' t) w'.step
+module _ (P : Condition) (w w' : WalkValue) (l : List ℕ) (t : LineEvent) (printed : List ℕ) (is : ServesAsUnder P w l t w') (same : printed ≡ printing (events_of_line w.number w' t)) where
+  pub one_leads : ((fault : Fault) → t ≡ tells.Faulted fault → ⊥) → ServesLine machine w.number w.step l (events_of_line w.number w' t) w'.step
   one_leads whole = at (told_cases Any w l t w' (told_by P w w' l t is)) where
-    at : HasTold Any w l t w' → ServesLine machine w.number w.step l (events_told w.number w' t) w'.step
+    at : HasTold Any w l t w' → ServesLine machine w.number w.step l (events_of_line w.number w' t) w'.step
     at (inl x) = absurd (whole x.0 x.1)
     at (inr x) = x.1
 
   pub line_served : ((fault : Fault) → t ≡ tells.Faulted fault → ⊥) → w'.number ≡ w.number + 1 → IsServed (l ∷ []) w printed true w'
-  line_served whole next = (events_told w.number w' t, inr (w'.step, events_told w.number w' t, [], one_leads whole, sym (append-nil (events_told w.number w' t)), (refl, refl)), next, same)
+  line_served whole next = (events_of_line w.number w' t, inr (w'.step, events_of_line w.number w' t, [], one_leads whole, sym (append-nil (events_of_line w.number w' t)), (refl, refl)), next, same)
 
   pub fault_served : (fault : Fault) → t ≡ tells.Faulted fault → IsServed (l ∷ []) w printed false w'
   fault_served fault e = at (told_cases P w l t w' is) where
     at : HasTold P w l t w' → IsServed (l ∷ []) w printed false w'
-    at (inl x) = (l, Faulted w.number x.0 ∷ [], refl, (x.0, x.2, refl), same ∙ ap (λ t. printing (events_told w.number w' t)) x.1)
+    at (inl x) = (l, Faulted w.number x.0 ∷ [], refl, (x.0, x.2, refl), same ∙ ap (λ t. printing (events_of_line w.number w' t)) x.1)
     at (inr x) = absurd (x.0 fault e)
 
 -- ---- a grant and a question behind it
@@ -234,25 +234,25 @@ grants told number (Some job) task form n ask v area events other a b ranged x y
       at (inl same) = inl (x.4 ∙ ap Some same ∙ sym y.4)
       at (inr apart) = inr (x.0, job, x.1, y.1, refl, x.4, y.4, x.3, apart)
 
-module _ (told : List ℕ) (w w1 w2 : WalkValue) (l q : List ℕ) (tl tq : LineTold) (task area : Name) (variable : Bool) (is_l : IsToldBy (Takes told) w l tl w1) (is_q : IsToldBy (Takes []) w1 q tq w2) (grant : IsGrant w.step l task area variable) (question : IsQuestion q task area)
+module _ (told : List ℕ) (w w1 w2 : WalkValue) (l q : List ℕ) (tl tq : LineEvent) (task area : Name) (variable : Bool) (is_l : ServesAsUnder (Takes told) w l tl w1) (is_q : ServesAsUnder (Takes []) w1 q tq w2) (grant : IsGrant w.step l task area variable) (question : IsQuestion q task area)
     (bounds : InBounds w.step) (next : w1.number ≡ w.number + 1) where
   abbrev pub one_text : List ℕ
-  one_text = printing (events_told w.number w1 tl)
+  one_text = printing (events_of_line w.number w1 tl)
 
   abbrev pub other_text : List ℕ
-  other_text = printing (events_told w1.number w2 tq)
+  other_text = printing (events_of_line w1.number w2 tq)
 
   -- the run goes on as the job does
   abbrev pub Behind : List (List ℕ) → List ℕ → Outcome → Type 0
   Behind more left outcome = (rest : List ℕ) × (left ≡ other_text ++ rest) × MayPrint (w1.number + 1) w2.step more rest outcome
 
   -- or both tell an address
-  pub record Asked (more : List (List ℕ)) (left : List ℕ) (outcome : Outcome) : Type 0 where
+  pub record GrantQuestion (more : List (List ℕ)) (left : List ℕ) (outcome : Outcome) : Type 0 where
     pub one : ℕ
     pub another : ℕ
     pub rest : List ℕ
-    pub one_is : other_text ≡ reply_line w1.number task (said (At one)) ++ []
-    pub another_is : left ≡ reply_line w1.number task (said (At another)) ++ rest
+    pub one_is : other_text ≡ reply_line w1.number task (one_line_text (At one)) ++ []
+    pub another_is : left ≡ reply_line w1.number task (one_line_text (At another)) ++ rest
     pub small_one : one < 2 ^ 31
     pub small_another : another < 2 ^ 31
     pub long : length one_text ≡ length (answer_text w.number task (no_bytes variable))
@@ -263,31 +263,31 @@ module _ (told : List ℕ) (w w1 w2 : WalkValue) (l q : List ℕ) (tl tq : LineT
   question_at : (step : Option JobValue) (job : JobValue) → step ≡ Some job → LineOf (is_first step) q (line.Statement task (says.Where area))
   question_at step job e = subst (λ step. LineOf (is_first step) q (line.Statement task (says.Where area))) (sym e) question
 
-  no_fault : (P : Condition) (v v' : WalkValue) (t : LineTold) (bytes : List ℕ) (said : Line) → LineOf (is_first v.step) bytes said → IsToldBy P v bytes t v' → (fault : Fault) → t ≡ tells.Faulted fault → ⊥
-  no_fault P v v' t bytes said is x fault e = one_reading.not_both (is_first v.step) bytes said fault is (subst (λ t. IsToldBy P v bytes t v') e x).0
+  no_fault : (P : Condition) (v v' : WalkValue) (t : LineEvent) (bytes : List ℕ) (one_line_text : Line) → LineOf (is_first v.step) bytes one_line_text → ServesAsUnder P v bytes t v' → (fault : Fault) → t ≡ tells.Faulted fault → ⊥
+  no_fault P v v' t bytes one_line_text is x fault e = one_reading.not_both (is_first v.step) bytes one_line_text fault is (subst (λ t. ServesAsUnder P v bytes t v') e x).0
 
   module _ (more : List (List ℕ)) (outcome : Outcome) where
     alike : (left : List ℕ) (later : JobValue) → w1.step ≡ Some later → MayPrint (w.number + 1) w1.step (q ∷ more) left outcome → Behind more left outcome
     alike left later e may = at (closed_line (Takes []) w1 w2 q tq is_q more left outcome closed (subst (λ n. MayPrint n w1.step (q ∷ more) left outcome) (sym next) may)) where
       closed : IsClosed w1.step q
-      closed said is = ap leaves_open (one_reading.one_line (is_first w1.step) q said (line.Statement task (says.Where area)) is (question_at w1.step later e))
+      closed one_line_text is = ap leaves_open (one_reading.one_line (is_first w1.step) q one_line_text (line.Statement task (says.Where area)) is (question_at w1.step later e))
 
-      at : ((fault : Fault) × (tq ≡ tells.Faulted fault) × (left ≡ told_text (Takes []) w1 w2 q tq is_q more left outcome)) ⊎ (((fault : Fault) → tq ≡ tells.Faulted fault → ⊥) × GoesOn (Takes []) w1 w2 q tq is_q more left outcome) → Behind more left outcome
+      at : ((fault : Fault) × (tq ≡ tells.Faulted fault) × (left ≡ text_of_event (Takes []) w1 w2 q tq is_q more left outcome)) ⊎ (((fault : Fault) → tq ≡ tells.Faulted fault → ⊥) × ContinuesRun (Takes []) w1 w2 q tq is_q more left outcome) → Behind more left outcome
       at (inl x) = absurd (no_fault (Takes []) w1 w2 tq q _ (question_at w1.step later e) is_q x.0 x.1)
       at (inr x) = x.1
 
     -- what the question is answered
-    apart : (left : List ℕ) (answer : Answer) (job x y : JobValue) → w.step ≡ Some job → w1.step ≡ Some x → events_told w.number w1 tl ≡ Told w.number task answer ∷ [] → Apart told job x y task area variable answer → MayPrint (w.number + 1) (Some y) (q ∷ more) left outcome → Asked more left outcome
+    apart : (left : List ℕ) (answer : Answer) (job x y : JobValue) → w.step ≡ Some job → w1.step ≡ Some x → events_of_line w.number w1 tl ≡ Told w.number task answer ∷ [] → Apart told job x y task area variable answer → MayPrint (w.number + 1) (Some y) (q ∷ more) left outcome → GrantQuestion more left outcome
     apart left answer job x y of is_x tells_it a may = at (told_cases (Takes []) w1 q tq w2 is_q) (may_serve w1.number (Some y) q more left outcome (subst (λ n. MayPrint n (Some y) (q ∷ more) left outcome) (sym next) may)) where
-      at : HasTold (Takes []) w1 q tq w2 → ((events : List Event) × Faults w1.number (is_first (Some y)) q events × (left ≡ printing events)) ⊎ Serving w1.number (Some y) q more left outcome → Asked more left outcome
+      at : HasTold (Takes []) w1 q tq w2 → ((events : List Event) × Faults w1.number (is_first (Some y)) q events × (left ≡ printing events)) ⊎ Serving w1.number (Some y) q more left outcome → GrantQuestion more left outcome
       at (inl u) v = absurd (no_fault (Takes []) w1 w2 tq q _ (question_at w1.step x is_x) is_q u.0 u.1)
       at (inr u) (inl v) = absurd (one_reading.not_both false q _ v.1.0 question v.1.1)
       at (inr u) (inr v) =
-          let mine : Serves (job_machine (Takes [])) w1.number (Some x) (line.Statement task (says.Where area)) (events_told w1.number w2 tq) w2.step =
-          subst (λ step. Serves (job_machine (Takes [])) w1.number step (line.Statement task (says.Where area)) (events_told w1.number w2 tq) w2.step) is_x
-          (subst (λ said. Serves (job_machine (Takes [])) w1.number w1.step said (events_told w1.number w2 tq) w2.step) (one_reading.one_line (is_first w1.step) q u.1.0 (line.Statement task (says.Where area)) u.1.1 (question_at w1.step x is_x)) u.1.2) in
+          let mine : Serves (job_machine (Takes [])) w1.number (Some x) (line.Statement task (says.Where area)) (events_of_line w1.number w2 tq) w2.step =
+          subst (λ step. Serves (job_machine (Takes [])) w1.number step (line.Statement task (says.Where area)) (events_of_line w1.number w2 tq) w2.step) is_x
+          (subst (λ one_line_text. Serves (job_machine (Takes [])) w1.number w1.step one_line_text (events_of_line w1.number w2 tq) w2.step) (one_reading.one_line (is_first w1.step) q u.1.0 (line.Statement task (says.Where area)) u.1.1 (question_at w1.step x is_x)) u.1.2) in
           let theirs : Serves machine w1.number (Some y) (line.Statement task (says.Where area)) v.1 v.0 =
-          subst (λ said. Serves machine w1.number (Some y) said v.1 v.0) (one_reading.one_line false q v.3.0 (line.Statement task (says.Where area)) v.3.1 question) v.3.2 in
+          subst (λ one_line_text. Serves machine w1.number (Some y) one_line_text v.1 v.0) (one_reading.one_line false q v.3.0 (line.Statement task (says.Where area)) v.3.1 question) v.3.2 in
           let bounded : IsBounded job.state.regions = subst InBounds of bounds in
           let f = located told job x y task area variable answer a (Takes []) mine.0 theirs.0 mine.1 theirs.1 bounded mine.2 theirs.2 in
           record {
@@ -295,7 +295,7 @@ module _ (told : List ℕ) (w w1 w2 : WalkValue) (l q : List ℕ) (tl tq : LineT
             another = f.another;
             rest = v.2;
             one_is = ap printing (mine.3 ∙ ap (λ answer. Told w1.number task answer ∷ []) f.answer_is);
-            another_is = v.4 ∙ ap (λ events. printing events ++ v.2) (theirs.3 ∙ ap (λ answer. Told w1.number task answer ∷ []) f.other_is) ∙ ap (λ text. text ++ v.2) (append-nil (reply_line w1.number task (said (At f.another))));
+            another_is = v.4 ∙ ap (λ events. printing events ++ v.2) (theirs.3 ∙ ap (λ answer. Told w1.number task answer ∷ []) f.other_is) ∙ ap (λ text. text ++ v.2) (append-nil (reply_line w1.number task (one_line_text (At f.another))));
             small_one = f.small_one;
             small_another = f.small_another;
             same = λ e. subst (λ step. MayPrint (w1.number + 1) step more v.2 outcome) (theirs.4 ∙ ap Some (sym (f.same e)) ∙ sym mine.4) v.5;
@@ -303,27 +303,27 @@ module _ (told : List ℕ) (w w1 w2 : WalkValue) (l q : List ℕ) (tl tq : LineT
             long = ap (λ events. length (printing events)) tells_it ∙ ap length (append-nil (answer_text w.number task answer)) ∙ a.long w.number task;
           }
 
-    pub pair : (text : List ℕ) → MayPrint w.number w.step (l ∷ q ∷ more) text outcome → (left : List ℕ) × (text ≡ one_text ++ left) × (Behind more left outcome ⊎ Asked more left outcome)
+    pub pair : (text : List ℕ) → MayPrint w.number w.step (l ∷ q ∷ more) text outcome → (left : List ℕ) × (text ≡ one_text ++ left) × (Behind more left outcome ⊎ GrantQuestion more left outcome)
     pair text may = at (told_cases (Takes told) w l tl w1 is_l) (may_serve w.number w.step l (q ∷ more) text outcome may) where
-      said : LineOf (is_first w.step) l (grant_line task grant.2.0 grant.2.1 grant.2.2 variable area)
-      said = subst (λ said. LineOf (is_first w.step) l said) grant.2.3 grant.1
+      one_line_text : LineOf (is_first w.step) l (grant_line task grant.2.0 grant.2.1 grant.2.2 variable area)
+      one_line_text = subst (λ one_line_text. LineOf (is_first w.step) l one_line_text) grant.2.3 grant.1
 
       at : HasTold (Takes told) w l tl w1 → ((events : List Event) × Faults w.number (is_first w.step) l events × (text ≡ printing events)) ⊎ Serving w.number w.step l (q ∷ more) text outcome
-          → (left : List ℕ) × (text ≡ one_text ++ left) × (Behind more left outcome ⊎ Asked more left outcome)
-      at (inl u) v = absurd (one_reading.not_both (is_first w.step) l _ u.0 said u.2)
-      at (inr u) (inl v) = absurd (one_reading.not_both (is_first w.step) l _ v.1.0 said v.1.1)
+          → (left : List ℕ) × (text ≡ one_text ++ left) × (Behind more left outcome ⊎ GrantQuestion more left outcome)
+      at (inl u) v = absurd (one_reading.not_both (is_first w.step) l _ u.0 one_line_text u.2)
+      at (inr u) (inl v) = absurd (one_reading.not_both (is_first w.step) l _ v.1.0 one_line_text v.1.1)
       at (inr u) (inr v) =
-          let mine = subst (λ said. Serves (job_machine (Takes told)) w.number w.step said (events_told w.number w1 tl) w1.step) (one_reading.one_line (is_first w.step) l u.1.0 _ u.1.1 said) u.1.2 in
-          let theirs = subst (λ said. Serves machine w.number w.step said v.1 v.0) (one_reading.one_line (is_first w.step) l v.3.0 _ v.3.1 said) v.3.2 in
-          let g = grants told w.number w.step task grant.2.0 grant.2.1 grant.2.2 variable area (events_told w.number w1 tl) v.1 w1.step v.0 (line_ranged (is_first w.step) l _ said).1 mine theirs in
+          let mine = subst (λ one_line_text. Serves (job_machine (Takes told)) w.number w.step one_line_text (events_of_line w.number w1 tl) w1.step) (one_reading.one_line (is_first w.step) l u.1.0 _ u.1.1 one_line_text) u.1.2 in
+          let theirs = subst (λ one_line_text. Serves machine w.number w.step one_line_text v.1 v.0) (one_reading.one_line (is_first w.step) l v.3.0 _ v.3.1 one_line_text) v.3.2 in
+          let g = grants told w.number w.step task grant.2.0 grant.2.1 grant.2.2 variable area (events_of_line w.number w1 tl) v.1 w1.step v.0 (line_ranged (is_first w.step) l _ one_line_text).1 mine theirs in
           (v.2, v.4 ∙ ap (λ events. printing events ++ v.2) (sym g.1), go g.0.0 g.0.1 g.2) where
-            go : (later : JobValue) → w1.step ≡ Some later → ((w1.step ≡ v.0) ⊎ Parted told w.number w.step task area variable (events_told w.number w1 tl) w1.step v.0) → Behind more v.2 outcome ⊎ Asked more v.2 outcome
+            go : (later : JobValue) → w1.step ≡ Some later → ((w1.step ≡ v.0) ⊎ Parted told w.number w.step task area variable (events_of_line w.number w1 tl) w1.step v.0) → Behind more v.2 outcome ⊎ GrantQuestion more v.2 outcome
             go later e (inl same) = inl (alike v.2 later e (subst (λ step. MayPrint (w.number + 1) step (q ∷ more) v.2 outcome) (sym same) v.5))
             go later e (inr a) = inr (apart v.2 a.0 a.1 a.2 a.3 a.4 a.5 a.7 a.8 (subst (λ step. MayPrint (w.number + 1) step (q ∷ more) v.2 outcome) a.6 v.5))
 
   -- neither of the lines has a fault
   pub grant_whole : (fault : Fault) → tl ≡ tells.Faulted fault → ⊥
-  grant_whole = no_fault (Takes told) w w1 tl l (grant_line task grant.2.0 grant.2.1 grant.2.2 variable area) (subst (λ said. LineOf (is_first w.step) l said) grant.2.3 grant.1) is_l
+  grant_whole = no_fault (Takes told) w w1 tl l (grant_line task grant.2.0 grant.2.1 grant.2.2 variable area) (subst (λ one_line_text. LineOf (is_first w.step) l one_line_text) grant.2.3 grant.1) is_l
 
   in_step : (number : ℕ) (old : Option JobValue) (events : List Event) (new : Option JobValue) → Serves (job_machine (Takes told)) number old (grant_line task grant.2.0 grant.2.1 grant.2.2 variable area) events new → (later : JobValue) × (new ≡ Some later)
   in_step number None events new x = absurd x
@@ -334,16 +334,16 @@ module _ (told : List ℕ) (w w1 w2 : WalkValue) (l q : List ℕ) (tl tq : LineT
     at : HasTold (Takes told) w l tl w1 → (fault : Fault) → tq ≡ tells.Faulted fault → ⊥
     at (inl u) = absurd (grant_whole u.0 u.1)
     at (inr u) =
-        let said : LineOf (is_first w.step) l (grant_line task grant.2.0 grant.2.1 grant.2.2 variable area) = subst (λ said. LineOf (is_first w.step) l said) grant.2.3 grant.1 in
-        let mine = subst (λ said. Serves (job_machine (Takes told)) w.number w.step said (events_told w.number w1 tl) w1.step) (one_reading.one_line (is_first w.step) l u.1.0 _ u.1.1 said) u.1.2 in
-        let s = in_step w.number w.step (events_told w.number w1 tl) w1.step mine in
+        let one_line_text : LineOf (is_first w.step) l (grant_line task grant.2.0 grant.2.1 grant.2.2 variable area) = subst (λ one_line_text. LineOf (is_first w.step) l one_line_text) grant.2.3 grant.1 in
+        let mine = subst (λ one_line_text. Serves (job_machine (Takes told)) w.number w.step one_line_text (events_of_line w.number w1 tl) w1.step) (one_reading.one_line (is_first w.step) l u.1.0 _ u.1.1 one_line_text) u.1.2 in
+        let s = in_step w.number w.step (events_of_line w.number w1 tl) w1.step mine in
         no_fault (Takes []) w1 w2 tq q (line.Statement task (says.Where area)) (question_at w1.step s.0 s.1) is_q
 
   -- what is served of them
   pub pair_served : (printed : List ℕ) → printed ≡ one_text ++ other_text → w2.number ≡ w1.number + 1 → IsServed (l ∷ q ∷ []) w printed true w2
   pair_served printed same last =
-      let one = events_told w.number w1 tl in
-      let other = events_told w1.number w2 tq in
+      let one = events_of_line w.number w1 tl in
+      let other = events_of_line w1.number w2 tq in
       let first = one_leads (Takes told) w w1 l tl one_text is_l refl grant_whole in
       let second = subst (λ n. ServesLine machine n w1.step q other w2.step) next (one_leads (Takes []) w1 w2 q tq other_text is_q refl question_whole) in
       (one ++ other, inr (w1.step, one, other, first, refl, inr (w2.step, other, [], second, sym (append-nil other), (refl, refl))), (let e : w2.number ≡ w.number + 2 = omega (arith, last, next) in e), same ∙ sym (printed_both one other))
@@ -361,34 +361,34 @@ module _ (told : List ℕ) (w w1 w2 : WalkValue) (l q : List ℕ) (tl tq : LineT
       done : (more : List (List ℕ)) (outcome : Outcome) (now : List ℕ) → now ≡ rest → MayPrint (w1.number + 1) w2.step more now outcome → MayPrint w2.number w2.step more rest outcome
       done more outcome now e may = subst (λ k. MayPrint k w2.step more rest outcome) (sym last) (subst (λ x. MayPrint (w1.number + 1) w2.step more x outcome) e may)
 
-      at : (more : List (List ℕ)) (outcome : Outcome) (now : List ℕ) → now ≡ other_text ++ rest → (Behind more now outcome ⊎ Asked more now outcome) → MayPrint w2.number w2.step more rest outcome
+      at : (more : List (List ℕ)) (outcome : Outcome) (now : List ℕ) → now ≡ other_text ++ rest → (Behind more now outcome ⊎ GrantQuestion more now outcome) → MayPrint w2.number w2.step more rest outcome
       at more outcome now e (inl b) = done more outcome b.0 (append_cancel_left other_text _ _ (sym b.1 ∙ e)) b.2
       at more outcome now e (inr a) =
-          let mine : now ≡ reply_line w1.number task (said (At a.one)) ++ rest = e ∙ ap (λ x. x ++ rest) (a.one_is ∙ append-nil (reply_line w1.number task (said (At a.one)))) in
+          let mine : now ≡ reply_line w1.number task (one_line_text (At a.one)) ++ rest = e ∙ ap (λ x. x ++ rest) (a.one_is ∙ append-nil (reply_line w1.number task (one_line_text (At a.one)))) in
           let one = one_address w1.number task a.one a.another rest a.rest (omega (arith, a.small_one)) (omega (arith, a.small_another)) (sym mine ∙ a.another_is) in
           done more outcome a.rest (sym one.1) (a.same one.0)
 
       on : (more : List (List ℕ)) (outcome : Outcome) → MayPrint w.number w.step (l ∷ q ∷ more) text outcome → MayPrint w2.number w2.step more rest outcome
       on more outcome may = let p = pair more outcome text may in at more outcome p.0 (append_cancel_left one_text _ _ (sym p.1 ∙ split)) p.2
 
-    pub pair_differs : (k front : ℕ) → told ≡ k ∷ [] → w1.number ≡ w.number + 1 → front ≡ length (answer_text w.number task (no_bytes variable)) + length (reply_line (w.number + 1) task (said (At 0))) - 9
+    pub pair_differs : (k front : ℕ) → told ≡ k ∷ [] → w1.number ≡ w.number + 1 → front ≡ length (answer_text w.number task (no_bytes variable)) + length (reply_line (w.number + 1) task (one_line_text (At 0))) - 9
         → ((addr : ℕ) (rest : List ℕ) → addr < 2 ^ 31 → drop front text ≡ hex 8 addr ++ rest → k ≡ addr) → ((rest : List ℕ) → text ≡ printed ++ rest → ⊥) → Decides (l ∷ q ∷ []) text w printed true false w2
     pair_differs k front is number front_is reads other more outcome may = let p = pair more outcome text may in at p.0 p.1 p.2 where
       whole : (left rest : List ℕ) → text ≡ one_text ++ left → left ≡ other_text ++ rest → text ≡ printed ++ rest
       whole left rest e f = e ∙ ap (λ x. one_text ++ x) f ∙ sym (append_assoc one_text other_text rest) ∙ ap (λ x. x ++ rest) (sym same)
 
-      at : (left : List ℕ) → text ≡ one_text ++ left → (Behind more left outcome ⊎ Asked more left outcome) → ⊥
+      at : (left : List ℕ) → text ≡ one_text ++ left → (Behind more left outcome ⊎ GrantQuestion more left outcome) → ⊥
       at left e (inl b) = other b.0 (whole left b.0 e b.1)
       at left e (inr a) =
-          let front_at : front ≡ length one_text + length (reply_line w1.number task (said (At 0))) - 9 = front_is ∙ (λ i. sym a.long i + length (reply_line (sym number i) task (said (At 0))) - 9) in
+          let front_at : front ≡ length one_text + length (reply_line w1.number task (one_line_text (At 0))) - 9 = front_is ∙ (λ i. sym a.long i + length (reply_line (sym number i) task (one_line_text (At 0))) - 9) in
           let digits = digits_behind w1.number task a.another one_text text a.rest front front_at (e ∙ ap (λ x. one_text ++ x) a.another_is) in
           let k_is : k ≡ a.another = reads a.another (codes "\n" ++ a.rest) a.small_another digits in
           let one_k : a.one ≡ k = a.takes k is (sym k_is) in
           let mine : left ≡ other_text ++ a.rest =
-          a.another_is ∙ ap (λ n. reply_line w1.number task (said (At n)) ++ a.rest) (sym k_is ∙ sym one_k) ∙ ap (λ x. x ++ a.rest) (sym (a.one_is ∙ append-nil (reply_line w1.number task (said (At a.one))))) in
+          a.another_is ∙ ap (λ n. reply_line w1.number task (one_line_text (At n)) ++ a.rest) (sym k_is ∙ sym one_k) ∙ ap (λ x. x ++ a.rest) (sym (a.one_is ∙ append-nil (reply_line w1.number task (one_line_text (At a.one))))) in
           other a.rest (whole left a.rest e mine)
 
-    pub pair_decides : (k front : ℕ) → told ≡ k ∷ [] → w1.number ≡ w.number + 1 → w2.number ≡ w1.number + 1 → front ≡ length (answer_text w.number task (no_bytes variable)) + length (reply_line (w.number + 1) task (said (At 0))) - 9
+    pub pair_decides : (k front : ℕ) → told ≡ k ∷ [] → w1.number ≡ w.number + 1 → w2.number ≡ w1.number + 1 → front ≡ length (answer_text w.number task (no_bytes variable)) + length (reply_line (w.number + 1) task (one_line_text (At 0))) - 9
         → ((addr : ℕ) (rest : List ℕ) → addr < 2 ^ 31 → drop front text ≡ hex 8 addr ++ rest → k ≡ addr)
         → (passes : Bool) → (passes ≡ true → text ≡ printed ++ drop (length printed) text) → ((rest : List ℕ) → text ≡ printed ++ rest → passes ≡ true) → Decides (l ∷ q ∷ []) text w printed true passes w2
     pair_decides k front is number last front_is reads true begun never = pair_passes last (begun refl)
@@ -399,16 +399,16 @@ pub one_said : {a b : Line} → (x : Option Line) → x ≡ Some a → x ≡ Som
 one_said x e f = let g = sym e ∙ f in cc
 
 -- a grant and a question behind it, which asks for it
-pub area_asked : (step : Option JobValue) (l q : List ℕ) (task area : Name) (variable : Bool) (left : List (List ℕ)) → IsGrant step l task area variable → IsQuestion q task area → IsAskedBefore (l ∷ q ∷ []) left
+pub area_asked : (step : Option JobValue) (l q : List ℕ) (task area : Name) (variable : Bool) (left : List (List ℕ)) → IsGrant step l task area variable → IsQuestion q task area → GrantsAreShownBefore (l ∷ q ∷ []) left
 area_asked step l q task area variable left grant question = (first, (second, tt)) where
-  first : (said : Line) → LineOf false l said → leaves_open said ≡ true → IsAskedFor said (q ∷ left)
-  first said is opens = inl (task, area, variable, (grant.2.0, grant.2.1, grant.2.2, one_said (line_said l) is.says grant.1.says ∙ grant.2.3), question)
+  first : (one_line_text : Line) → LineOf false l one_line_text → leaves_open one_line_text ≡ true → GrantIsShown one_line_text (q ∷ left)
+  first one_line_text is opens = inl (task, area, variable, (grant.2.0, grant.2.1, grant.2.2, one_said (line_meaning l) is.says grant.1.says ∙ grant.2.3), question)
 
-  second : (said : Line) → LineOf false q said → leaves_open said ≡ true → IsAskedFor said left
-  second said is opens = absurd (let e : false ≡ true = ap leaves_open (one_said (line_said q) question.says is.says) ∙ opens in cc)
+  second : (one_line_text : Line) → LineOf false q one_line_text → leaves_open one_line_text ≡ true → GrantIsShown one_line_text left
+  second one_line_text is opens = absurd (let e : false ≡ true = ap leaves_open (one_said (line_meaning q) question.says is.says) ∙ opens in cc)
 
 -- what lines decide, they decide before any others
-pub decides_before : (served more : List (List ℕ)) (left : List ℕ) (old : WalkValue) (text : List ℕ) (goes_on passes : Bool) (new : WalkValue) → Decides served left old text goes_on passes new → DecidesBefore served more left old text goes_on passes new
+pub decides_before : (served more : List (List ℕ)) (left : List ℕ) (old : WalkValue) (text : List ℕ) (continues passes : Bool) (new : WalkValue) → Decides served left old text continues passes new → DecidesBefore served more left old text continues passes new
 decides_before served more left old text true true new d = (d.0, d.1 more)
 decides_before served more left old text false true new d = d
 decides_before served more left old text true false new d = d more
@@ -422,24 +422,24 @@ Comes script output at done w = (outcome : Outcome) → IsPrinting script output
 
 -- With so much of it printed the job stands here, behind lines that are asked for.
 abbrev pub Follows : List ℕ → List ℕ → ℕ → ℕ → WalkValue → Type 0
-Follows script output at done w = Comes script output at done w × (s : Stands script (take done output) w (drop at script)) × IsAskedBefore s.1.served (lines_of (drop at script))
+Follows script output at done w = Comes script output at done w × (s : HasReached script (take done output) w (drop at script)) × GrantsAreShownBefore s.1.served (lines_of (drop at script))
 
 -- what is asked for in some lines, and in more
-asked_more : (lines more left : List (List ℕ)) → IsAskedBefore lines (more ++ left) → IsAskedBefore more left → IsAskedBefore (lines ++ more) left
+asked_more : (lines more left : List (List ℕ)) → GrantsAreShownBefore lines (more ++ left) → GrantsAreShownBefore more left → GrantsAreShownBefore (lines ++ more) left
 asked_more [] more left a b = b
-asked_more (bytes ∷ lines) more left a b = ((λ l is opens. subst (IsAskedFor l) (sym (append_assoc lines more left)) (a.0 l is opens)), asked_more lines more left a.1 b)
+asked_more (bytes ∷ lines) more left a b = ((λ l is opens. subst (GrantIsShown l) (sym (append_assoc lines more left)) (a.0 l is opens)), asked_more lines more left a.1 b)
 
 -- a line that can be granted no place need not be asked for
-pub closed_asked : (w w' : WalkValue) (l text : List ℕ) (left : List (List ℕ)) → IsClosed w.step l → IsServed (l ∷ []) w text true w' → IsAskedBefore (l ∷ []) left
+pub closed_asked : (w w' : WalkValue) (l text : List ℕ) (left : List (List ℕ)) → IsClosed w.step l → IsServed (l ∷ []) w text true w' → GrantsAreShownBefore (l ∷ []) left
 closed_asked w w' l text left closed (events, inl x, number, same) = absurd x
 closed_asked w w' l text left closed (events, inr x, number, same) =
-    ((λ said is opens. false_true (sym (closed said (record { no_fault = x.3.1.no_fault; says = is.says })) ∙ opens)), tt)
+    ((λ one_line_text is opens. false_true (sym (closed one_line_text (record { no_fault = x.3.1.no_fault; says = is.says })) ∙ opens)), tt)
 
 -- more lines, which are served
-stands_on : (script text more left : List ℕ) (lines behind : List (List ℕ)) (w w' : WalkValue) (served : List (List ℕ)) → lines_of left ≡ served ++ behind → behind ≡ lines → (s : Stands script text w left) → IsServed served w more true w'
-    → (events : List Event) × (reached : Reaches (lines_of script) events w'.number w'.step lines) × (text ++ more ≡ printing events) × (IsAskedBefore s.1.served (lines_of left) → IsAskedBefore served behind → IsAskedBefore reached.served lines)
-stands_on script text more left lines behind w w' served cut is_behind (events, reached, is) (first, leads, number, same) =
-    let cut' : lines_of left ≡ served ++ lines = cut ∙ ap (λ x. served ++ x) is_behind in (
+stands_on : (script text more left : List ℕ) (lines behind : List (List ℕ)) (w w' : WalkValue) (served : List (List ℕ)) → lines_of left ≡ served ++ behind → behind ≡ lines → (s : HasReached script text w left) → IsServed served w more true w'
+    → (events : List Event) × (reached : Reaches (lines_of script) events w'.number w'.step lines) × (text ++ more ≡ printing events) × (GrantsAreShownBefore s.1.served (lines_of left) → GrantsAreShownBefore served behind → GrantsAreShownBefore reached.served lines)
+stands_on script text more left lines behind w w' served cut comes_later (events, reached, is) (first, leads, number, same) =
+    let cut' : lines_of left ≡ served ++ lines = cut ∙ ap (λ x. served ++ x) comes_later in (
       events ++ first,
       record {
         served = reached.served ++ served;
@@ -448,20 +448,20 @@ stands_on script text more left lines behind w w' served cut is_behind (events, 
         leads = leads_then machine (Arrives w'.step) reached.served served 1 w.number None w.step events first reached.counted reached.leads leads;
       },
       (λ i. is i ++ same i) ∙ sym (printed_both events first),
-      λ a b. asked_more reached.served served lines (subst (IsAskedBefore reached.served) cut' a) (subst (IsAskedBefore served) is_behind b),
+      λ a b. asked_more reached.served served lines (subst (GrantsAreShownBefore reached.served) cut' a) (subst (GrantsAreShownBefore served) comes_later b),
     )
 
-pub stands_served : (script text more left later : List ℕ) (w w' : WalkValue) (served : List (List ℕ)) → lines_of left ≡ served ++ lines_of later → Stands script text w left → IsServed served w more true w' → Stands script (text ++ more) w' later
+pub stands_served : (script text more left later : List ℕ) (w w' : WalkValue) (served : List (List ℕ)) → lines_of left ≡ served ++ lines_of later → HasReached script text w left → IsServed served w more true w' → HasReached script (text ++ more) w' later
 stands_served script text more left later w w' served cut s is = let x = stands_on script text more left (lines_of later) (lines_of later) w w' served cut refl s is in (x.0, x.1, x.2)
 
-pub stands_fault : (script text more rest : List ℕ) (taken : ℕ) (w w' : WalkValue) (served : List (List ℕ)) → lines_of rest ≡ served ++ lines_of (drop taken rest) → Stands script text w rest → IsServed served w more false w' → IsPrinting script (text ++ more) ScriptFault
+pub stands_fault : (script text more rest : List ℕ) (taken : ℕ) (w w' : WalkValue) (served : List (List ℕ)) → lines_of rest ≡ served ++ lines_of (drop taken rest) → HasReached script text w rest → IsServed served w more false w' → IsPrinting script (text ++ more) ScriptFault
 stands_fault script text more rest taken w w' served cut (events, reached, is) (l, first, one, faults, same) = (
   events ++ first,
   reaches_then (lines_of script) ScriptFault events first w.number w.step (l ∷ lines_of (drop taken rest)) (subst (λ lines. Reaches (lines_of script) events w.number w.step lines) (cut ∙ ap (λ served. served ++ lines_of (drop taken rest)) one) reached) (inl (faults, refl)),
   (λ i. is i ++ same i) ∙ sym (printed_both events first),
 )
 
-pub stands_end : (script text last : List ℕ) (at : ℕ) (w : WalkValue) (outcome : Outcome) → length script ≤ at → Stands script text w (drop at script) → PrintsEnd w last outcome → IsPrinting script (text ++ last) outcome
+pub stands_end : (script text last : List ℕ) (at : ℕ) (w : WalkValue) (outcome : Outcome) → length script ≤ at → HasReached script text w (drop at script) → PrintsEnd w last outcome → IsPrinting script (text ++ last) outcome
 stands_end script text last at w outcome all (events, reached, is) (ended, closes, same) = (
   events ++ closing w.number ended,
   reaches_then (lines_of script) outcome events (closing w.number ended) w.number w.step [] (subst (λ lines. Reaches (lines_of script) events w.number w.step lines) (ap lines_of (drop_all at script all)) reached) closes,
@@ -481,11 +481,11 @@ module _ (script output rest left text : List ℕ) (at done taken : ℕ) (w w' :
   here : (served : List (List ℕ)) → lines_of rest ≡ served ++ lines_of (drop taken rest) → (outcome : Outcome) → IsPrinting script output outcome → MayPrint w.number w.step (served ++ lines_of (drop taken rest)) left outcome
   here served cut outcome may = subst (λ lines. MayPrint w.number w.step lines left outcome) cut (subst (λ x. MayPrint w.number w.step (lines_of x) left outcome) (sym rest_is) (subst (λ x. MayPrint w.number w.step (lines_of (drop at script)) x outcome) (sym left_is) (f.0 outcome may)))
 
-  stood : Stands script (take done output) w rest
+  stood : HasReached script (take done output) w rest
   stood = (f.1.0, record { served = f.1.1.served; lines = f.1.1.lines ∙ ap (λ x. f.1.1.served ++ lines_of x) (sym rest_is); counted = f.1.1.counted; leads = f.1.1.leads }, f.1.2)
 
-  asked_here : IsAskedBefore f.1.1.served (lines_of rest)
-  asked_here = subst (λ x. IsAskedBefore f.1.1.served (lines_of x)) (sym rest_is) f.2
+  asked_here : GrantsAreShownBefore f.1.1.served (lines_of rest)
+  asked_here = subst (λ x. GrantsAreShownBefore f.1.1.served (lines_of x)) (sym rest_is) f.2
 
   behind : drop taken rest ≡ drop (at + taken) script
   behind = ap (drop taken) rest_is ∙ drop-drop taken at script
@@ -500,15 +500,15 @@ module _ (script output rest left text : List ℕ) (at done taken : ℕ) (w w' :
             subst (λ x. MayPrint w'.number w'.step (lines_of x) (drop (done + length text) output) outcome) behind
             (subst (λ x. MayPrint w'.number w'.step (lines_of (drop taken rest)) x outcome) (ap (drop (length text)) left_is ∙ drop-drop (length text) done output) (d.3.1 outcome (here d.0 d.1 outcome may)))
 
-  pub follows_next : (goes_on passes open_here : Bool) → (passes && goes_on && not open_here) ≡ true → IsFoundFirst rest left w taken text goes_on passes open_here w' → Follows script output (at + taken) (done + length text) w' × (length text ≤ length left)
+  pub follows_next : (continues passes open_here : Bool) → (passes && continues && not open_here) ≡ true → IsFoundFirst rest left w taken text continues passes open_here w' → Follows script output (at + taken) (done + length text) w' × (length text ≤ length left)
   follows_next true true false both d = (follows_on d, (let e = ap length d.3.0 ∙ length-append text (drop (length text) left) in omega (arith, e)))
   follows_next true true true both d = absurd (false_true both)
   follows_next true false open_here both d = absurd (false_true both)
   follows_next false true open_here both d = absurd (false_true both)
   follows_next false false open_here both d = absurd (false_true both)
 
-  none : (goes_on : Bool) → DecidesFirst rest left w taken text goes_on false w' → IsNoPrinting script output
-  none goes_on d outcome may = d.3 outcome (here d.0 d.1 outcome may)
+  none : (continues : Bool) → DecidesFirst rest left w taken text continues false w' → IsNoPrinting script output
+  none continues d outcome may = d.3 outcome (here d.0 d.1 outcome may)
 
   opens_here : IsOpen w.number w.step (lines_of rest) left → IsOpenAt script output w.number
   unfolding stood
@@ -525,14 +525,14 @@ module _ (script output rest left text : List ℕ) (at done taken : ℕ) (w w' :
   opened_none is = ap (λ x. x ++ []) f.1.2
 
   module _ (last : ℕ) (last_is : drop last script ≡ drop (at + taken) script) (last_in : last ≤ length script) (number : w'.number ≤ last + 2) where
-    left_open : (goes_on passes : Bool) → goes_on ≡ true → passes ≡ true → LeavesFirst rest left w taken text goes_on passes w' → IsFollowed script output w' last (take done output ++ text) passes (end_at goes_on) w.number
+    left_open : (continues passes : Bool) → continues ≡ true → passes ≡ true → LeavesFirst rest left w taken text continues passes w' → IsFollowed script output w' last (take done output ++ text) passes (end_at continues) w.number
     left_open false passes e f d = absurd (false_true e)
     left_open true false e f d = absurd (false_true f)
     left_open true true e f d =
         let s = stands_on script (take done output) text rest (lines_of (drop last script)) (lines_of (drop taken rest)) w w' (d.0 ∷ []) d.1 (ap lines_of (behind ∙ sym last_is)) stood d.2 in ((opens_here d.3, text, opened d.3), (s.0, s.1, s.2), last_in, number)
 
-    pub follows_no_more : (goes_on passes open_here : Bool) → (passes && goes_on && not open_here) ≡ false → IsFoundFirst rest left w taken text goes_on passes open_here w' → IsFollowed script output w' last (take done output ++ text) passes (end_at goes_on) w.number
-    follows_no_more goes_on passes true ends d = left_open goes_on passes d.4 d.5 d
+    pub follows_no_more : (continues passes open_here : Bool) → (passes && continues && not open_here) ≡ false → IsFoundFirst rest left w taken text continues passes open_here w' → IsFollowed script output w' last (take done output ++ text) passes (end_at continues) w.number
+    follows_no_more continues passes true ends d = left_open continues passes d.4 d.5 d
     follows_no_more true true false ends d = absurd (let e : true ≡ false = ends in cc)
     follows_no_more true false false ends d =
         (let s = stands_on script (take done output) text rest (lines_of (drop last script)) (lines_of (drop taken rest)) w w' d.0 d.1 (ap lines_of (behind ∙ sym last_is)) stood d.2 in (none true d, (s.0, s.1, s.2), last_in, number))
@@ -580,9 +580,9 @@ bounded_start card is = record { below = is.below_most; above = is.above_most }
 bounded_closed : Closed (λ st. IsBounded st.regions)
 bounded_closed = grind (arith, common_steps)
 
-pub in_bounds : (P : Condition) (w w' : WalkValue) (l : List ℕ) (t : LineTold) → IsToldBy P w l t w' → InBounds w.step → InBounds w'.step
+pub in_bounds : (P : Condition) (w w' : WalkValue) (l : List ℕ) (t : LineEvent) → ServesAsUnder P w l t w' → InBounds w.step → InBounds w'.step
 in_bounds P w w' l t x b = at t x where
-  at : (t : LineTold) → IsToldBy P w l t w' → InBounds w'.step
+  at : (t : LineEvent) → ServesAsUnder P w l t w' → InBounds w'.step
   at (tells.Faulted fault) x = subst InBounds (sym x.1) b
   at tells.Nothing x = line_keeps (λ st. IsBounded st.regions) bounded_closed bounded_start P w.number w.step l _ w'.step x b
   at (tells.Began ended card) x = line_keeps (λ st. IsBounded st.regions) bounded_closed bounded_start P w.number w.step l _ w'.step x b

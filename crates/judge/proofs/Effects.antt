@@ -11,7 +11,7 @@ use Rattle.mvs_model.specs.Name.{name_cmp, same_name}
 use Rattle.mvs_model.specs.Place.{PlaceValue}
 use Rattle.mvs_model.specs.Want.{fixed_want}
 use Rattle.mvs_model.specs.Owners as owners
-use Rattle.mvs_model.specs.Owners.{Owners, SubpoolOf, Enters, IsFallen, Ends, ends_with, keeper, subpool_meant}
+use Rattle.mvs_model.specs.Owners.{Owners, SubpoolOf, Enters, AreDescendants, Ends, ends_with, keeper, subpool_meant}
 use Rattle.mvs_model.specs.Pools.{Pool}
 use Rattle.mvs_model.specs.State.{State}
 use Rattle.mvs_model.specs.Changes.{End, ListGrant}
@@ -50,7 +50,7 @@ EntersEach o t number (n ∷ lengths) new = (s : ℕ) × SubpoolOf o t number s 
 -- The task ends.
 pub record Goes_away (o : Owners) (t : Name) (p : Pools) (new : Owners) (q : Pools) : Type 0 where
   pub fallen : List Name
-  pub is_fallen : IsFallen o t fallen
+  pub is_fallen : AreDescendants o t fallen
   pub ends : Ends o t fallen new
   pub pools : Filters p (λ s. not (ends_with o t fallen s)) q
 

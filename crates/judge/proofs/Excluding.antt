@@ -20,18 +20,18 @@ use Rattle.mvs_model.specs.Resolving.{resolved}
 use Rattle.mvs_model.specs.Replies.{answer_of, done_answer, grant_answer, where_answer}
 use Rattle.std.specs.FinMap.{get}
 use Rattle.mvs_model.specs.State.{State}
-use Rattle.mvs_model.specs.Runs.{Any, Asks, Condition, Does, Says, machine}
+use Rattle.mvs_model.specs.Runs.{Any, Asks, Condition, Does, AnswersTo, machine}
 use Rattle.mvs_model.specs.Texts.{answer_text, printing}
 use Rattle.mvs_model.specs.Walk.{Faults, Serves, ending, has_abended, is_first}
 use Rattle.mvs_model.proofs.Reading.{one_reading}
 use Rattle.mvs_model.proofs.Tests.{false_true, true_false}
 use Rattle.mvs_laws.proofs.Walking.{Steps}
 use Rattle.mvs_model.specs.Determined.{one_page}
-use Rattle.mvs_model.specs.Lent.{lent, fallen_in}
+use Rattle.mvs_model.specs.FullAnswers.{full_answer, ended_with_in}
 use Rattle.mvs_model.specs.declared.answer.Answer.{Answer as Short}
-use Rattle.mvs_job.specs.declared.walk.LineTold.{LineTold}
-use Rattle.mvs_job.specs.declared.walk.LineTold.TheVariants as tells
-use Rattle.mvs_job.specs.Telling.{IsToldBy, WalkValue, events_told, lent_in}
+use Rattle.mvs_job.specs.declared.walk.LineEvent.{LineEvent}
+use Rattle.mvs_job.specs.declared.walk.LineEvent.TheVariants as tells
+use Rattle.mvs_job.specs.LineEvents.{ServesAsUnder, WalkValue, events_of_line, full_answer_in}
 use Rattle.judge.specs.Deciding.{InBounds, IsServed, MayPrint}
 use Rattle.mvs_model.specs.View.{IsBounded}
 use Rattle.judge.specs.Excluding.{Alike, IsBegunLine, IsUndecidedAt, IsVerdict, LineShowsSome, ShowsSome, answer_in, is_certain, is_shown}
@@ -89,7 +89,7 @@ where_apart : (o : Option PlaceValue) → is_region (where_answer o) ≡ false
 where_apart None = refl
 where_apart (Some p) = refl
 
-says_apart : (old : JobValue) (t : Name) (s : Statement) (x : Answer) (new : JobValue) → Says Any old t s x new → is_region x ≡ false
+says_apart : (old : JobValue) (t : Name) (s : Statement) (x : Answer) (new : JobValue) → AnswersTo Any old t s x new → is_region x ≡ false
 says_apart old t (statement.Region below above fill residence) x new m = absurd m
 says_apart old t (statement.Request k) x new m = asks_apart old t k (resolved old.names k) x new m
 says_apart old t (statement.Where name) x new m = ap is_region m.0 ∙ where_apart (get old.names name)
@@ -109,24 +109,24 @@ answer_at (Told number t x ∷ events) = x
 answer_at _ = NotRun
 
 -- The answer of the line is that of the statement.
-module _ (w w' : WalkValue) (tl : LineTold) (job : JobValue) (t : Name) (s : Statement) (mine : Steps machine w.number job t s (events_told w.number w' tl) w'.step) where
-  told_answer : (k : LineTold) → tl ≡ k → ((u : Name) (a : Short) → (tl ≡ tells.Answered u a) × (mine.0 ≡ lent mine.1.state (fallen_in w'.reply) u a) → (u : Name) × (a : Short) × (tl ≡ tells.Answered u a) × (mine.0 ≡ lent mine.1.state (fallen_in w'.reply) u a))
-      → (u : Name) × (a : Short) × (tl ≡ tells.Answered u a) × (mine.0 ≡ lent mine.1.state (fallen_in w'.reply) u a)
+module _ (w w' : WalkValue) (tl : LineEvent) (job : JobValue) (t : Name) (s : Statement) (mine : Steps machine w.number job t s (events_of_line w.number w' tl) w'.step) where
+  told_answer : (k : LineEvent) → tl ≡ k → ((u : Name) (a : Short) → (tl ≡ tells.Answered u a) × (mine.0 ≡ full_answer mine.1.state (ended_with_in w'.reply) u a) → (u : Name) × (a : Short) × (tl ≡ tells.Answered u a) × (mine.0 ≡ full_answer mine.1.state (ended_with_in w'.reply) u a))
+      → (u : Name) × (a : Short) × (tl ≡ tells.Answered u a) × (mine.0 ≡ full_answer mine.1.state (ended_with_in w'.reply) u a)
   told_answer (tells.Answered u a) e f =
-      (u, a, e, sym (ap answer_at (ap (events_told w.number w') (sym e) ∙ mine.3)) ∙ ap (λ step. lent_in step (fallen_in w'.reply) u a) mine.4)
-  told_answer tells.Nothing e f = absurd (let g : [] ≡ Told w.number t mine.0 ∷ [] = ap (events_told w.number w') (sym e) ∙ mine.3 in cc)
+      (u, a, e, sym (ap answer_at (ap (events_of_line w.number w') (sym e) ∙ mine.3)) ∙ ap (λ step. full_answer_in step (ended_with_in w'.reply) u a) mine.4)
+  told_answer tells.Nothing e f = absurd (let g : [] ≡ Told w.number t mine.0 ∷ [] = ap (events_of_line w.number w') (sym e) ∙ mine.3 in cc)
   told_answer (tells.Began None card) e f =
-      absurd (true_false (ap is_region (ap answer_at (ap (events_told w.number w') (sym e) ∙ mine.3)) ∙ does_apart job t s mine.0 mine.1 mine.2))
-  told_answer (tells.Began (Some abended) card) e f = absurd (let g : StepEnded abended ∷ Told w.number card.name (Region card) ∷ [] ≡ Told w.number t mine.0 ∷ [] = ap (events_told w.number w') (sym e) ∙ mine.3 in cc)
-  told_answer (tells.Faulted fault) e f = absurd (let g : Faulted w.number fault ∷ [] ≡ Told w.number t mine.0 ∷ [] = ap (events_told w.number w') (sym e) ∙ mine.3 in cc)
+      absurd (true_false (ap is_region (ap answer_at (ap (events_of_line w.number w') (sym e) ∙ mine.3)) ∙ does_apart job t s mine.0 mine.1 mine.2))
+  told_answer (tells.Began (Some abended) card) e f = absurd (let g : StepEnded abended ∷ Told w.number card.name (Region card) ∷ [] ≡ Told w.number t mine.0 ∷ [] = ap (events_of_line w.number w') (sym e) ∙ mine.3 in cc)
+  told_answer (tells.Faulted fault) e f = absurd (let g : Faulted w.number fault ∷ [] ≡ Told w.number t mine.0 ∷ [] = ap (events_of_line w.number w') (sym e) ∙ mine.3 in cc)
 
-  told : (u : Name) × (a : Short) × (tl ≡ tells.Answered u a) × (mine.0 ≡ lent mine.1.state (fallen_in w'.reply) u a)
+  told : (u : Name) × (a : Short) × (tl ≡ tells.Answered u a) × (mine.0 ≡ full_answer mine.1.state (ended_with_in w'.reply) u a)
   told = told_answer tl refl (λ u a x. (u, a, x.0, x.1))
 
   -- whether it is settled
   pub settled_told : (b : Bool) (sure : Option Answer → Bool) → ((x : Answer) → sure (Some x) ≡ is_settled s x) → ((st : State) (fallen : List Name) → b ≡ sure (answer_in st fallen tl)) → is_settled s mine.0 ≡ b
   settled_told b sure are f =
-      ap (is_settled s) told.3 ∙ sym (are _) ∙ ap (λ k. sure (answer_in mine.1.state (fallen_in w'.reply) k)) (sym told.2) ∙ sym (f mine.1.state (fallen_in w'.reply))
+      ap (is_settled s) told.3 ∙ sym (are _) ∙ ap (λ k. sure (answer_in mine.1.state (ended_with_in w'.reply) k)) (sym told.2) ∙ sym (f mine.1.state (ended_with_in w'.reply))
 
 -- ---- how a line is served in two jobs that differ in nothing but places
 
@@ -256,12 +256,12 @@ abbrev pub Theirs : ℕ → Option JobValue → Line → List (List ℕ) → Lis
 Theirs number step said more left outcome =
     (mid : Option JobValue) × (first : List Event) × (rest : List ℕ) × Serves machine number step said first mid × (left ≡ printing first ++ rest) × MayPrint (number + 1) mid more rest outcome
 
-module _ (P : Condition) (w w' : WalkValue) (l : List ℕ) (tl : LineTold) (is : IsToldBy P w l tl w') (printed : List ℕ) (same : printed ≡ printing (events_told w.number w' tl)) (said : Line) (said_is : LineOf (is_first w.step) l said) (some : LineShowsSome said) (next : w'.number ≡ w.number + 1) where
+module _ (P : Condition) (w w' : WalkValue) (l : List ℕ) (tl : LineEvent) (is : ServesAsUnder P w l tl w') (printed : List ℕ) (same : printed ≡ printing (events_of_line w.number w' tl)) (said : Line) (said_is : LineOf (is_first w.step) l said) (some : LineShowsSome said) (next : w'.number ≡ w.number + 1) where
   whole : (fault : Fault) → tl ≡ tells.Faulted fault → ⊥
-  whole fault e = one_reading.not_both (is_first w.step) l said fault said_is (subst (λ t. IsToldBy P w l t w') e is).0
+  whole fault e = one_reading.not_both (is_first w.step) l said fault said_is (subst (λ t. ServesAsUnder P w l t w') e is).0
 
-  mine : Serves machine w.number w.step said (events_told w.number w' tl) w'.step
-  mine = let s = one_leads P w w' l tl printed is same whole in subst (λ k. Serves machine w.number w.step k (events_told w.number w' tl) w'.step) (one_reading.one_line (is_first w.step) l s.0 said s.1 said_is) s.2
+  mine : Serves machine w.number w.step said (events_of_line w.number w' tl) w'.step
+  mine = let s = one_leads P w w' l tl printed is same whole in subst (λ k. Serves machine w.number w.step k (events_of_line w.number w' tl) w'.step) (one_reading.one_line (is_first w.step) l s.0 said s.1 said_is) s.2
 
   theirs : (step : Option JobValue) (more : List (List ℕ)) (left : List ℕ) (outcome : Outcome) → Alike w.step step → MayPrint w.number step (l ∷ more) left outcome → Theirs w.number step said more left outcome
   theirs step more left outcome like may = at (may_serve w.number step l more left outcome may) where
@@ -275,7 +275,7 @@ module _ (P : Condition) (w w' : WalkValue) (l : List ℕ) (tl : LineTold) (is :
 
   -- a line whose text shows where each run is
   agrees : (left : List ℕ) (n : ℕ) → n ≡ length printed → left ≡ printed ++ drop (length printed) left
-      → ((step mid : Option JobValue) (first : List Event) (rest : List ℕ) → Alike w.step step → Serves machine w.number step said first mid → printing (events_told w.number w' tl) ++ drop (length printed) left ≡ printing first ++ rest → Alike w'.step mid × (drop (length printed) left ≡ rest))
+      → ((step mid : Option JobValue) (first : List Event) (rest : List ℕ) → Alike w.step step → Serves machine w.number step said first mid → printing (events_of_line w.number w' tl) ++ drop (length printed) left ≡ printing first ++ rest → Alike w'.step mid × (drop (length printed) left ≡ rest))
       → IsVerdict w l left w' (verdict.Agrees n)
   agrees left n is_n front f = (printed, is_n, (front, on), line_served P w w' l tl printed is same whole next) where
     on : (step : Option JobValue) (more : List (List ℕ)) (outcome : Outcome) → Alike w.step step → MayPrint w.number step (l ∷ more) left outcome → (later : Option JobValue) × Alike w'.step later × MayPrint w'.number later more (drop (length printed) left) outcome
@@ -284,36 +284,36 @@ module _ (P : Condition) (w w' : WalkValue) (l : List ℕ) (tl : LineTold) (is :
         let r = f step y.0 y.1 y.2 like y.3 (ap (λ p. p ++ drop (length printed) left) (sym same) ∙ sym front ∙ y.4) in
         (y.0, r.0, subst (λ n. MayPrint n y.0 more (drop (length printed) left) outcome) (sym next) (subst (λ rest. MayPrint (w.number + 1) y.0 more rest outcome) (sym r.1) y.5))
 
-  pub certain_verdict : SettledIn said (events_told w.number w' tl) → (left : List ℕ) (n : ℕ) → n ≡ length printed → (passes : Bool) → (passes ≡ true → left ≡ printed ++ drop (length printed) left) → ((rest : List ℕ) → left ≡ printed ++ rest → passes ≡ true)
+  pub certain_verdict : SettledIn said (events_of_line w.number w' tl) → (left : List ℕ) (n : ℕ) → n ≡ length printed → (passes : Bool) → (passes ≡ true → left ≡ printed ++ drop (length printed) left) → ((rest : List ℕ) → left ≡ printed ++ rest → passes ≡ true)
       → IsVerdict w l left w' (if passes then verdict.Agrees n else verdict.Excluded)
   certain_verdict f left n is_n true begun never = agrees left n is_n (begun refl) (λ step mid first rest like y e.
-      let r = certain w.number (events_told w.number w' tl) first w'.step mid w.step step said like mine y f in
+      let r = certain w.number (events_of_line w.number w' tl) first w'.step mid w.step step said like mine y f in
       (r.1, append_cancel_left (printing first) _ _ (ap (λ ev. printing ev ++ drop (length printed) left) (sym r.0) ∙ e)))
   certain_verdict f left n is_n false begun never = λ step more outcome like may.
       let y = theirs step more left outcome like may in
-      let r = certain w.number (events_told w.number w' tl) y.1 w'.step y.0 w.step step said like mine y.3 f in
+      let r = certain w.number (events_of_line w.number w' tl) y.1 w'.step y.0 w.step step said like mine y.3 f in
       false_true (never y.2 (y.4 ∙ ap (λ ev. printing ev ++ y.2) (sym r.0) ∙ ap (λ p. p ++ y.2) (sym same)))
 
-  pub shown_verdict : InBounds w.step → OpenIn said (events_told w.number w' tl) → is_shown said ≡ true → (left : List ℕ) (n : ℕ) → n ≡ length printed → left ≡ printed ++ drop (length printed) left → IsVerdict w l left w' (verdict.Agrees n)
+  pub shown_verdict : InBounds w.step → OpenIn said (events_of_line w.number w' tl) → is_shown said ≡ true → (left : List ℕ) (n : ℕ) → n ≡ length printed → left ≡ printed ++ drop (length printed) left → IsVerdict w l left w' (verdict.Agrees n)
   shown_verdict bounds f is_s left n is_n front = agrees left n is_n front (λ step mid first rest like y e.
-      shown_lines w.number (events_told w.number w' tl) first w'.step mid w.step step said bounds like mine y f is_s some (drop (length printed) left) rest e)
+      shown_lines w.number (events_of_line w.number w' tl) first w'.step mid w.step step said bounds like mine y f is_s some (drop (length printed) left) rest e)
 
-  pub open_verdict : OpenIn said (events_told w.number w' tl) → (left : List ℕ) (b : Bool) → IsBegunLine w.number said left b → IsVerdict w l left w' (if b then verdict.Undecided else verdict.Excluded)
-  open_verdict f left true begun = undecided w.number w.step w'.step l said (events_told w.number w' tl) left said_is mine f (begun_line said begun) where
+  pub open_verdict : OpenIn said (events_of_line w.number w' tl) → (left : List ℕ) (b : Bool) → IsBegunLine w.number said left b → IsVerdict w l left w' (if b then verdict.Undecided else verdict.Excluded)
+  open_verdict f left true begun = undecided w.number w.step w'.step l said (events_of_line w.number w' tl) left said_is mine f (begun_line said begun) where
     begun_line : (said : Line) → IsBegunLine w.number said left true → BeginsLine w.number said left
     begun_line line.Nothing b = tt
     begun_line (line.Statement t s) b = b.0 refl
   open_verdict f left false begun = λ step more outcome like may.
       let y = theirs step more left outcome like may in
-      none said f begun (subst (BeginsLine w.number said) (sym y.4) (begins_lines w.number (events_told w.number w' tl) y.1 w'.step y.0 w.step step said like mine y.3 f some y.2)) where
-        none : (said : Line) → OpenIn said (events_told w.number w' tl) → IsBegunLine w.number said left false → BeginsLine w.number said left → ⊥
+      none said f begun (subst (BeginsLine w.number said) (sym y.4) (begins_lines w.number (events_of_line w.number w' tl) y.1 w'.step y.0 w.step step said like mine y.3 f some y.2)) where
+        none : (said : Line) → OpenIn said (events_of_line w.number w' tl) → IsBegunLine w.number said left false → BeginsLine w.number said left → ⊥
         none line.Nothing f b g = f
         none (line.Statement t s) f b g = false_true (b.1 g)
 
   -- what the code tells of it
-  pub settled_in : (b : Bool) → ((st : State) (fallen : List Name) → b ≡ is_certain said (answer_in st fallen tl)) → b ≡ true → SettledIn said (events_told w.number w' tl)
+  pub settled_in : (b : Bool) → ((st : State) (fallen : List Name) → b ≡ is_certain said (answer_in st fallen tl)) → b ≡ true → SettledIn said (events_of_line w.number w' tl)
   settled_in b f e = at w.step said mine f where
-    at : (old : Option JobValue) (said : Line) → Serves machine w.number old said (events_told w.number w' tl) w'.step → ((st : State) (fallen : List Name) → b ≡ is_certain said (answer_in st fallen tl)) → SettledIn said (events_told w.number w' tl)
+    at : (old : Option JobValue) (said : Line) → Serves machine w.number old said (events_of_line w.number w' tl) w'.step → ((st : State) (fallen : List Name) → b ≡ is_certain said (answer_in st fallen tl)) → SettledIn said (events_of_line w.number w' tl)
     at old line.Nothing x f = tt
     at old (line.Statement t (statement.Region below above fill residence)) x f = tt
     at None (line.Statement t (statement.Request k)) x f = absurd x
@@ -325,9 +325,9 @@ module _ (P : Condition) (w w' : WalkValue) (l : List ℕ) (tl : LineTold) (is :
     at (Some job) (line.Statement t statement.ReportSubpools) x f = λ n a g. ap (is_settled statement.ReportSubpools) (sym (ap answer_at (sym x.3 ∙ g))) ∙ settled_told w w' tl job t statement.ReportSubpools x b (is_certain (line.Statement t statement.ReportSubpools)) (λ x. refl) f ∙ e
     at (Some job) (line.Statement t statement.ReportMap) x f = λ n a g. ap (is_settled statement.ReportMap) (sym (ap answer_at (sym x.3 ∙ g))) ∙ settled_told w w' tl job t statement.ReportMap x b (is_certain (line.Statement t statement.ReportMap)) (λ x. refl) f ∙ e
 
-  pub open_in : (b : Bool) → ((st : State) (fallen : List Name) → b ≡ is_certain said (answer_in st fallen tl)) → b ≡ false → OpenIn said (events_told w.number w' tl)
+  pub open_in : (b : Bool) → ((st : State) (fallen : List Name) → b ≡ is_certain said (answer_in st fallen tl)) → b ≡ false → OpenIn said (events_of_line w.number w' tl)
   open_in b f e = at w.step said mine f where
-    at : (old : Option JobValue) (said : Line) → Serves machine w.number old said (events_told w.number w' tl) w'.step → ((st : State) (fallen : List Name) → b ≡ is_certain said (answer_in st fallen tl)) → OpenIn said (events_told w.number w' tl)
+    at : (old : Option JobValue) (said : Line) → Serves machine w.number old said (events_of_line w.number w' tl) w'.step → ((st : State) (fallen : List Name) → b ≡ is_certain said (answer_in st fallen tl)) → OpenIn said (events_of_line w.number w' tl)
     at old line.Nothing x f = true_false (sym (f (one_page []) []) ∙ e)
     at old (line.Statement t (statement.Region below above fill residence)) x f = true_false (sym (f (one_page []) []) ∙ e)
     at None (line.Statement t (statement.Request k)) x f = absurd x
@@ -340,7 +340,7 @@ module _ (P : Condition) (w w' : WalkValue) (l : List ℕ) (tl : LineTold) (is :
     at (Some job) (line.Statement t statement.ReportMap) x f = λ n a g. ap (is_settled statement.ReportMap) (sym (ap answer_at (sym x.3 ∙ g))) ∙ settled_told w w' tl job t statement.ReportMap x b (is_certain (line.Statement t statement.ReportMap)) (λ x. refl) f ∙ e
 
 -- a line with a fault
-module _ (P : Condition) (w w' : WalkValue) (l : List ℕ) (tl : LineTold) (is : IsToldBy P w l tl w') (printed : List ℕ) (same : printed ≡ printing (events_told w.number w' tl)) (left : List ℕ) where
+module _ (P : Condition) (w w' : WalkValue) (l : List ℕ) (tl : LineEvent) (is : ServesAsUnder P w l tl w') (printed : List ℕ) (same : printed ≡ printing (events_of_line w.number w' tl)) (left : List ℕ) where
   -- the fault of the line, which is told
   abbrev Faulty : Type 0
   Faulty = (fault : Fault) × (tl ≡ tells.Faulted fault) × FaultOf (is_first w.step) l fault
@@ -359,7 +359,7 @@ module _ (P : Condition) (w w' : WalkValue) (l : List ℕ) (tl : LineTold) (is :
     at : ((events : List Event) × Faults w.number (is_first step) l events × (left ≡ printing events)) ⊎ Serving w.number step l more left outcome → left ≡ printed
     at (inl y) =
         let fault = one_reading.one_fault (is_first w.step) l y.1.0 x.0 (subst (λ b. FaultOf b l y.1.0) first y.1.1) x.2 in
-        y.2 ∙ ap printing (y.1.2 ∙ ap (λ fault. Faulted w.number fault ∷ []) fault) ∙ ap (λ t. printing (events_told w.number w' t)) (sym x.1) ∙ sym same
+        y.2 ∙ ap printing (y.1.2 ∙ ap (λ fault. Faulted w.number fault ∷ []) fault) ∙ ap (λ t. printing (events_of_line w.number w' t)) (sym x.1) ∙ sym same
     at (inr y) = absurd (one_reading.not_both (is_first step) l y.3.0 x.0 y.3.1 (subst (λ b. FaultOf b l x.0) (sym first) x.2))
 
   pub fault_verdict : (fault : Fault) → FaultOf (is_first w.step) l fault → (b : Bool) → Tests b (left ≡ printed) → IsVerdict w l left w' (if b then verdict.Ends else verdict.Excluded)

@@ -5,11 +5,11 @@ use Rattle.mvs_model.specs.declared.outcome.Outcome.{Outcome}
 use Rattle.mvs_model.specs.Runs.{IsPrinting}
 use Rattle.mvs_model.specs.Texts.{printing}
 use Rattle.mvs_model.proofs.Tests.{false_true}
-use Rattle.mvs_job.specs.Telling.{WalkValue}
+use Rattle.mvs_job.specs.LineEvents.{WalkValue}
 use Rattle.judge.specs.declared.Finding.{Finding}
 use Rattle.judge.specs.declared.Finding.TheVariants.{Accepted, Refused, Undecided}
 use Rattle.judge.specs.Judging.{IsFound, IsNoPrinting, IsOpenIn}
-use Rattle.judge.specs.Deciding.{HasEnded, HasParted, IsFollowed, Stands, finding_of}
+use Rattle.judge.specs.Deciding.{HasEnded, HasParted, IsFollowed, HasReached, finding_of}
 
 -- What is found, and what that says of the text that was printed.
 abbrev pub IsSaid : List ℕ → List ℕ → List ℕ → Outcome → Finding → Type 0
@@ -39,5 +39,5 @@ found_parted script output front text more outcome number true false grown opens
 pub followed_ended : (script output : List ℕ) (w : WalkValue) (at : ℕ) (text : List ℕ) (passes : Bool) (ended : Option Outcome) (number : ℕ) (outcome : Outcome) → ended ≡ Some outcome → IsFollowed script output w at text passes ended number → HasEnded script output outcome text passes
 followed_ended script output w at text passes ended number outcome e f = subst (λ ended. IsFollowed script output w at text passes ended number) e f
 
-pub followed_on : (script output : List ℕ) (w : WalkValue) (at : ℕ) (text : List ℕ) (passes : Bool) (ended : Option Outcome) (number : ℕ) → ended ≡ None → IsFollowed script output w at text passes ended number → HasParted script output text number passes × Stands script text w (drop at script) × (at ≤ length script) × (w.number ≤ at + 2)
+pub followed_on : (script output : List ℕ) (w : WalkValue) (at : ℕ) (text : List ℕ) (passes : Bool) (ended : Option Outcome) (number : ℕ) → ended ≡ None → IsFollowed script output w at text passes ended number → HasParted script output text number passes × HasReached script text w (drop at script) × (at ≤ length script) × (w.number ≤ at + 2)
 followed_on script output w at text passes ended number e f = subst (λ ended. IsFollowed script output w at text passes ended number) e f

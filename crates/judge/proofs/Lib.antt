@@ -10,7 +10,7 @@ mod Compared
 mod Lists
 mod Decided
 mod ListLines
-mod Asked
+mod GrantQuestion
 mod Rest
 mod Found
 mod Answering

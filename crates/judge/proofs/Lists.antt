@@ -34,7 +34,7 @@ use Rattle.mvs_model.specs.Answers.{Answer, Abended, Rc0, Rc4}
 use Rattle.mvs_model.specs.Job.{JobValue}
 use Rattle.mvs_model.specs.Runs.{Any, Makes, Does}
 use Rattle.mvs_model.specs.View.{IsBounded}
-use Rattle.mvs_model.specs.Determined.{granted_at, ListTakesTold}
+use Rattle.mvs_model.specs.Determined.{granted_at, ListFollowsHints}
 use Rattle.mvs_model.proofs.OneSteps.{by_two, head_of, none_granted, one_grant, one_step, tail_of}
 use Rattle.mvs_model.proofs.Orders.{name_cmp_total, told as told_apart}
 use Rattle.mvs_laws.proofs.RegionsKept.{list_inside}
@@ -76,7 +76,7 @@ map_long f [] = refl
 map_long f (x ∷ xs) = let e = map_long f xs in omega (arith, e)
 
 -- a list that takes the addresses of another one is that
-taken_same : (t : Name) (number : ℕ) (wants : List WantValue) (told : List ℕ) (ps qs : List PlaceValue) (old a b : State) → ListTakesTold old t number wants told ps a → ListGrant old t number wants qs b → told ≡ map (λ q. q.addr) qs → (ps ≡ qs) × (a ≡ b)
+taken_same : (t : Name) (number : ℕ) (wants : List WantValue) (told : List ℕ) (ps qs : List PlaceValue) (old a b : State) → ListFollowsHints old t number wants told ps a → ListGrant old t number wants qs b → told ≡ map (λ q. q.addr) qs → (ps ≡ qs) × (a ≡ b)
 taken_same t number [] told [] [] old a b x y e = (refl, x ∙ sym y)
 taken_same t number [] told [] (q ∷ qs) old a b x y e = absurd y
 taken_same t number [] told (p ∷ ps) qs old a b x y e = absurd x
@@ -86,7 +86,7 @@ taken_same t number (want ∷ wants) (n ∷ told) (p ∷ ps) [] old a b x y e = 
 taken_same t number (want ∷ wants) (n ∷ told) (p ∷ ps) (q ∷ qs) old a b x y e =
     let here = x.2 q y.0 y.1 (sym (ap head_of e)) in
     let same = one_grant old t number want p q x.0 y.0 x.1 y.1 (here ∙ ap head_of e) in
-    let rest = taken_same t number wants told ps qs y.0 a b (subst (λ m. ListTakesTold m t number wants told ps a) same.1 x.3) y.2 (ap tail_of e) in
+    let rest = taken_same t number wants told ps qs y.0 a b (subst (λ m. ListFollowsHints m t number wants told ps a) same.1 x.3) y.2 (ap tail_of e) in
     ((λ i. same.0 i ∷ rest.0 i), rest.1)
 
 list_active : (t : Name) (holds : Name) (number : ℕ) (wants : List WantValue) (ps : List PlaceValue) (old new : State) → ListGrant old holds number wants ps new → is_active old.owners t ≡ true → is_active new.owners t ≡ true

@@ -6,7 +6,7 @@ use Rattle.std.proofs.lemmas.List.{append_cancel_left, length-take}
 use Rattle.mvs_laws.proofs.Types.{Name, Code, User, System}
 use Rattle.mvs_model.specs.Name.{trimmed}
 use Rattle.mvs_model.specs.Numbers.{line_bytes}
-use Rattle.mvs_model.specs.Owners.{Owners, IsFallen}
+use Rattle.mvs_model.specs.Owners.{Owners, AreDescendants}
 use Rattle.mvs_model.specs.Answers.{Answer, NotRun, At, Rc0, Granted, Rc4, Cell, NoCell, Done, Data, Abended}
 use Rattle.mvs_model.specs.Texts.{answer_text, code_text, data_lines, hex, glyph, last_digits, line_count, reply_line}
 use Rattle.mvs_model.proofs.OneOwners.{one_fallen}
@@ -34,7 +34,7 @@ Measured o t n Cell = Unit {0}
 Measured o t n NoCell = Unit {0}
 Measured o t n Done = Unit {0}
 Measured o t n (Data bytes) = (length bytes ≡ n) × (0 < n)
-Measured o t n (Abended code fallen) = IsFallen o t fallen
+Measured o t n (Abended code fallen) = AreDescendants o t fallen
 Measured o t n _ = ⊥
 
 -- what is printed of an answer after its task
@@ -281,7 +281,7 @@ module _ (o : Owners) (number : ℕ) (t : Name) (n : ℕ) where
   fit_self _ m = absurd m
 
   -- one that ended the same tasks, or has as many bytes
-  abend_fit : (x : Answer) (c : Code) (g : List Name) → Measured o t n x → IsFallen o t g → sign x ≡ sign (Abended c g) → g ≡ tasks_of x
+  abend_fit : (x : Answer) (c : Code) (g : List Name) → Measured o t n x → AreDescendants o t g → sign x ≡ sign (Abended c g) → g ≡ tasks_of x
   abend_fit (Abended d f) c g m k e = one_fallen o t g f k m
   abend_fit (At a) (System c) g m k e = absurd cc
   abend_fit (At a) (User c) g m k e = absurd cc

@@ -11,8 +11,8 @@ use Rattle.mvs_model.specs.Texts.{printing}
 use Rattle.mvs_model.specs.Walk.{Closes}
 use Rattle.mvs_laws.proofs.Going.{printed_both, reaches_next, reaches_then}
 use Rattle.mvs_job.specs.Serving.{RunsLine}
-use Rattle.mvs_job.specs.Telling.{WalkValue, closing}
-use Rattle.judge.specs.Deciding.{Stands}
+use Rattle.mvs_job.specs.LineEvents.{WalkValue, closing}
+use Rattle.judge.specs.Deciding.{HasReached}
 
 -- what was printed, and what is printed now
 both : (text text' front back : List ℕ) → text ≡ front → text' ≡ text ++ back → text' ≡ front ++ back
@@ -26,13 +26,13 @@ grown_on start text text' script rest at end w w' false is (more, e) (events, ap
 pub grown_end : (start text text' last : List ℕ) → ((more : List ℕ) × (text ≡ start ++ more)) → Appends (Some text) (Some text') last → (more : List ℕ) × (text' ≡ start ++ more)
 grown_end start text text' last (more, e) appended = (more ++ last, appended ∙ ap (λ x. x ++ last) e ∙ append_assoc start more last)
 
-module _ (whole script text text' rest : List ℕ) (at end : ℕ) (w w' : WalkValue) (is : rest ≡ drop at script) (cut : lines_of rest ≡ take end rest ∷ lines_of (drop (end + 1) rest)) (s : Stands whole text w (drop at script)) where
+module _ (whole script text text' rest : List ℕ) (at end : ℕ) (w w' : WalkValue) (is : rest ≡ drop at script) (cut : lines_of rest ≡ take end rest ∷ lines_of (drop (end + 1) rest)) (s : HasReached whole text w (drop at script)) where
   here : Reaches (lines_of whole) s.0 w.number w.step (take end rest ∷ lines_of (drop (end + 1) rest))
   here = subst (Reaches (lines_of whole) s.0 w.number w.step) (ap lines_of (sym is) ∙ cut) s.1
 
-  pub rest_on : w'.number ≡ w.number + 1 → (b : Bool) → b ≡ true → RunsLine (Some text) (Some text') w (take end rest) w' (Ok b) → Stands whole text' w' (drop (at + (end + 1)) script)
+  pub rest_on : w'.number ≡ w.number + 1 → (b : Bool) → b ≡ true → RunsLine (Some text) (Some text') w (take end rest) w' (Ok b) → HasReached whole text' w' (drop (at + (end + 1)) script)
   rest_on next b e x = at_true (subst (λ b. RunsLine (Some text) (Some text') w (take end rest) w' (Ok b)) e x) where
-    at_true : RunsLine (Some text) (Some text') w (take end rest) w' (Ok true) → Stands whole text' w' (drop (at + (end + 1)) script)
+    at_true : RunsLine (Some text) (Some text') w (take end rest) w' (Ok true) → HasReached whole text' w' (drop (at + (end + 1)) script)
     at_true (events, appended, serves) = (
       s.0 ++ events,
       subst (λ left. Reaches (lines_of whole) (s.0 ++ events) w'.number w'.step (lines_of left)) (ap (drop (end + 1)) is ∙ drop-drop (end + 1) at script)
@@ -46,7 +46,7 @@ module _ (whole script text text' rest : List ℕ) (at end : ℕ) (w w' : WalkVa
     at_false (events, appended, faults) =
         (s.0 ++ events, reaches_then (lines_of whole) ScriptFault s.0 events w.number w.step (take end rest ∷ lines_of (drop (end + 1) rest)) here (inl (faults, refl)), both text text' (printing s.0) (printing events) s.2 appended ∙ sym (printed_both s.0 events))
 
-pub rest_end : (whole script text text' : List ℕ) (at : ℕ) (w : WalkValue) (ended : Option Bool) (outcome : Outcome) → length script ≤ at → Stands whole text w (drop at script) → Closes machine w.number w.step (closing w.number ended) outcome → Appends (Some text) (Some text') (printing (closing w.number ended)) → IsPrinting whole text' outcome
+pub rest_end : (whole script text text' : List ℕ) (at : ℕ) (w : WalkValue) (ended : Option Bool) (outcome : Outcome) → length script ≤ at → HasReached whole text w (drop at script) → Closes machine w.number w.step (closing w.number ended) outcome → Appends (Some text) (Some text') (printing (closing w.number ended)) → IsPrinting whole text' outcome
 rest_end whole script text text' at w ended outcome all s closes appended = (
   s.0 ++ closing w.number ended,
   reaches_then (lines_of whole) outcome s.0 (closing w.number ended) w.number w.step [] (subst (λ left. Reaches (lines_of whole) s.0 w.number w.step left) (ap lines_of (drop_all at script all)) s.1) closes,

@@ -12,8 +12,8 @@ use Rattle.mvs_model.specs.Walk.{Closes}
 use Rattle.std.specs.Prelude.{if◌then◌else◌}
 use Rattle.mvs_laws.specs.Going.{Reaches}
 use Rattle.mvs_model.proofs.Tests.{false_true}
-use Rattle.mvs_job.specs.Telling.{WalkValue, closing, new_walk}
-use Rattle.judge.specs.Deciding.{MayPrint, PrintsEnd, Stands}
+use Rattle.mvs_job.specs.LineEvents.{WalkValue, closing, new_walk}
+use Rattle.judge.specs.Deciding.{MayPrint, PrintsEnd, HasReached}
 use Rattle.judge.specs.Excluding.{Alike, IsRuling, IsVerdict}
 use Rattle.judge.specs.declared.exclusion.Ruling.TheVariants as ruling
 use Rattle.judge.specs.declared.exclusion.Verdict.TheVariants as verdict
@@ -27,7 +27,7 @@ Every script output at done w =
 -- With so much of it printed the job stands here.
 pub record Follows (script output : List ℕ) (at done : ℕ) (w : WalkValue) : Type 0 where
   pub every : Every script output at done w
-  pub stands : Stands script (take done output) w (drop at script)
+  pub stands : HasReached script (take done output) w (drop at script)
 
 pub rules_first : (script output : List ℕ) (w : WalkValue) → w ≡ new_walk → Follows script output 0 0 w
 rules_first script output w e = subst (λ w. Follows script output 0 0 w) (sym e) (record {
@@ -44,8 +44,8 @@ module _ (script output rest left bytes : List ℕ) (at done taken : ℕ) (w w' 
   behind : drop taken rest ≡ drop (at + taken) script
   behind = ap (drop taken) rest_is ∙ drop-drop taken at script
 
-  stood : Stands script (take done output) w rest
-  stood = subst (Stands script (take done output) w) (sym rest_is) f.stands
+  stood : HasReached script (take done output) w rest
+  stood = subst (HasReached script (take done output) w) (sym rest_is) f.stands
 
   pub rules_next : (n : ℕ) → IsVerdict w bytes left w' (verdict.Agrees n) → Follows script output (at + taken) (done + n) w' × (n ≤ length left)
   rules_next n v = (record { every = every; stands = stands }, (let e = ap length v.2.0 ∙ length-append v.0 (drop (length v.0) left) in let m = v.1 in omega (arith, e, m))) where
@@ -59,10 +59,10 @@ module _ (script output rest left bytes : List ℕ) (at done taken : ℕ) (w w' 
               (subst (λ text. MayPrint w'.number y.0 (lines_of (drop taken rest)) text outcome) (ap (drop (length v.0)) left_is ∙ drop-drop (length v.0) done output ∙ ap (λ k. drop (done + k) output) (sym v.1)) y.2),
         )
 
-    stands : Stands script (take (done + n) output) w' (drop (at + taken) script)
+    stands : HasReached script (take (done + n) output) w' (drop (at + taken) script)
     stands =
-        subst (λ text. Stands script text w' (drop (at + taken) script)) (sym (ap (λ k. take (done + k) output) v.1 ∙ taken_more output v.0 left done left_is v.2.0))
-        (subst (Stands script (take done output ++ v.0) w') behind (stands_served script (take done output) v.0 rest (drop taken rest) w w' (bytes ∷ []) cut stood v.3))
+        subst (λ text. HasReached script text w' (drop (at + taken) script)) (sym (ap (λ k. take (done + k) output) v.1 ∙ taken_more output v.0 left done left_is v.2.0))
+        (subst (HasReached script (take done output ++ v.0) w') behind (stands_served script (take done output) v.0 rest (drop taken rest) w w' (bytes ∷ []) cut stood v.3))
 
   pub rules_excluded : IsVerdict w bytes left w' verdict.Excluded → IsRuling script output ruling.Excluded
   rules_excluded v outcome may = let x = here outcome may in v x.0 (lines_of (drop taken rest)) outcome x.1 x.2

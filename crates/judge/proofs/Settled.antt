@@ -37,7 +37,7 @@ use Rattle.mvs_model.specs.Resolving.{resolved, names_set, places_in, all_set}
 use Rattle.mvs_model.specs.Replies.{is_abend, answer_of}
 use Rattle.mvs_model.specs.Answers.{Answer, Event, Told}
 use Rattle.mvs_model.specs.Job.{JobValue}
-use Rattle.mvs_model.specs.Runs.{Condition, Any, Makes, Asks, Says, Does, job_machine, machine}
+use Rattle.mvs_model.specs.Runs.{Condition, Any, Makes, Asks, AnswersTo, Does, job_machine, machine}
 use Rattle.mvs_model.specs.Walk.{Serves}
 use Rattle.mvs_model.specs.Determined.{granted_at, picked}
 use Rattle.mvs_model.proofs.OneSteps.{by_two, none_granted, one_step}
@@ -127,7 +127,7 @@ module _ (P : Condition) (old : JobValue) (t : Name) (answer other : Answer) (a 
       let s = closed_same old.state t r x.reply y.reply a.state b.state (closed r refl) x.step y.step in
       made_same k r x y s.0 s.1
 
-  says_same : (s : Statement) → leaves_open (line.Statement t s) ≡ false → Says P old t s answer a → Says Any old t s other b → (answer ≡ other) × (a ≡ b)
+  says_same : (s : Statement) → leaves_open (line.Statement t s) ≡ false → AnswersTo P old t s answer a → AnswersTo Any old t s other b → (answer ≡ other) × (a ≡ b)
   says_same (says.Region below above fill residence) closed x y = absurd x
   says_same (says.Request k) closed x y = asks_same k (resolved old.names k) (λ r e. asked_opens old.names k r closed e) x y
   says_same (says.Where name) closed x y = (x.0 ∙ sym y.0, x.1 ∙ sym y.1)

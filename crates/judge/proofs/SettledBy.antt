@@ -16,7 +16,7 @@ use Rattle.mvs_model.specs.declared.refusal.Consequence.{Consequence}
 use Rattle.mvs_model.specs.declared.refusal.Consequence.TheVariants as consequence
 use Rattle.mvs_model.specs.Name.{name_cmp}
 use Rattle.mvs_model.specs.Place.{PlaceValue}
-use Rattle.mvs_model.specs.Owners.{Owners, IsFallen, is_active, has_subtask}
+use Rattle.mvs_model.specs.Owners.{Owners, AreDescendants, is_active, has_subtask}
 use Rattle.mvs_model.specs.Pools.{Pool}
 use Rattle.mvs_model.specs.State.{State}
 use Rattle.mvs_model.specs.Codes.{family, is_conditional, bad_subpool, whole_of_zero, pool_in_use, no_such_pool, active_subtask}
@@ -29,7 +29,7 @@ use Rattle.mvs_model.specs.Replies.{answer_of, done_answer, grant_answer, where_
 use Rattle.mvs_model.specs.Steps.{Step}
 use Rattle.mvs_model.specs.Answers.{Answer, Abended, NotRun}
 use Rattle.mvs_model.specs.Job.{JobValue}
-use Rattle.mvs_model.specs.Runs.{Any, Asks, Makes, Says, Tells}
+use Rattle.mvs_model.specs.Runs.{Any, Asks, Makes, AnswersTo, OnlyAnswers}
 use Rattle.mvs_model.proofs.ByCase.{Acts, attach_refusal, AttachCase, FreeStep, GetStep, DeleteStep}
 use Rattle.mvs_model.proofs.StepCases.{step_cases}
 use Rattle.mvs_model.proofs.OneOwners.{one_fallen}
@@ -80,44 +80,44 @@ done_in written.Return = reply.Ended
 done_in _ = reply.Rc0
 
 module _ (names : FinMap name_cmp PlaceValue) (old : State) (t : Name) (new : State) (answered : Reply) where
-  abbrev pub Said : Option Code → Reply → Type 0
-  Said None otherwise = answered ≡ otherwise
-  Said (Some code) otherwise = (fallen : List Name) × IsFallen old.owners t fallen × (answered ≡ reply.Abended code fallen)
+  abbrev pub PrintedAnswer : Option Code → Reply → Type 0
+  PrintedAnswer None otherwise = answered ≡ otherwise
+  PrintedAnswer (Some code) otherwise = (fallen : List Name) × AreDescendants old.owners t fallen × (answered ≡ reply.Abended code fallen)
 
-  abend : (code : Code) (otherwise : Reply) → Abends old t code answered new → Said (Some code) otherwise
+  abend : (code : Code) (otherwise : Reply) → Abends old t code answered new → PrintedAnswer (Some code) otherwise
   abend code otherwise x = (x.0.fallen, x.0.is_fallen, x.1)
 
-  invalid : (Q : Type 0) (b : Bool) (code : Code) (otherwise : Reply) → b ≡ true → MatchBool b (Abends old t code answered new) Q → Said (Some code) otherwise
+  invalid : (Q : Type 0) (b : Bool) (code : Code) (otherwise : Reply) → b ≡ true → MatchBool b (Abends old t code answered new) Q → PrintedAnswer (Some code) otherwise
   invalid Q true code otherwise e x = abend code otherwise x
   invalid Q false code otherwise e x = false_true e
 
-  whole_said : (Q : Type 0) (b c : Bool) (code other : Code) → MatchBool b (Abends old t code answered new) (MatchBool c (Abends old t other answered new) ((answered ≡ reply.Rc0) × Q)) → Said (if b then Some code else (if c then Some other else None)) reply.Rc0
+  whole_said : (Q : Type 0) (b c : Bool) (code other : Code) → MatchBool b (Abends old t code answered new) (MatchBool c (Abends old t other answered new) ((answered ≡ reply.Rc0) × Q)) → PrintedAnswer (if b then Some code else (if c then Some other else None)) reply.Rc0
   whole_said Q true c code other x = abend code reply.Rc0 x
   whole_said Q false true code other x = abend other reply.Rc0 x
   whole_said Q false false code other x = x.0
 
-  build_said : (Q : Type 0) (b c : Bool) (code other : Code) → (if b then true else c) ≡ true → MatchBool b (Abends old t code answered new) (MatchBool c (Abends old t other answered new) Q) → Said (if b then Some code else Some other) reply.Rc0
+  build_said : (Q : Type 0) (b c : Bool) (code other : Code) → (if b then true else c) ≡ true → MatchBool b (Abends old t code answered new) (MatchBool c (Abends old t other answered new) Q) → PrintedAnswer (if b then Some code else Some other) reply.Rc0
   build_said Q true c code other e x = abend code reply.Rc0 x
   build_said Q false true code other e x = abend other reply.Rc0 x
   build_said Q false false code other e x = false_true e
 
-  get_said : (name : Name) (conditional : Bool) (o : Option Pool) → not (is_some o) ≡ true → GetStep old t name conditional o answered new → Said (Some no_such_pool) reply.Rc0
+  get_said : (name : Name) (conditional : Bool) (o : Option Pool) → not (is_some o) ≡ true → GetStep old t name conditional o answered new → PrintedAnswer (Some no_such_pool) reply.Rc0
   get_said name conditional None e x = abend no_such_pool reply.Rc0 x
   get_said name conditional (Some pool) e x = false_true e
 
-  free_said : (name : Name) (c : ℕ) (o : Option Pool) → not (is_some o) ≡ true → FreeStep old t name c o answered new → Said (Some no_such_pool) reply.Rc0
+  free_said : (name : Name) (c : ℕ) (o : Option Pool) → not (is_some o) ≡ true → FreeStep old t name c o answered new → PrintedAnswer (Some no_such_pool) reply.Rc0
   free_said name c None e x = abend no_such_pool reply.Rc0 x
   free_said name c (Some pool) e x = false_true e
 
-  delete_said : (name : Name) (o : Option Pool) → DeleteStep old t name o answered new → Said (if is_some (option_map (λ pool. pool.subpool) o) then None else Some no_such_pool) reply.Rc0
+  delete_said : (name : Name) (o : Option Pool) → DeleteStep old t name o answered new → PrintedAnswer (if is_some (option_map (λ pool. pool.subpool) o) then None else Some no_such_pool) reply.Rc0
   delete_said name None x = abend no_such_pool reply.Rc0 x
   delete_said name (Some pool) x = x.0
 
-  attach_said : (name : Name) (gifts : _) (residence : _) (c : Option Code) → AttachCase old t name gifts residence c answered new → Said c reply.Attached
+  attach_said : (name : Name) (gifts : _) (residence : _) (c : Option Code) → AttachCase old t name gifts residence c answered new → PrintedAnswer c reply.Attached
   attach_said name gifts residence None x = x.0
   attach_said name gifts residence (Some code) x = abend code reply.Attached x
 
-  return_said : (Q : Type 0) (b : Bool) → MatchBool b (Abends old t active_subtask answered new) ((answered ≡ reply.Ended) × Q) → Said (if b then Some active_subtask else None) reply.Ended
+  return_said : (Q : Type 0) (b : Bool) → MatchBool b (Abends old t active_subtask answered new) ((answered ≡ reply.Ended) × Q) → PrintedAnswer (if b then Some active_subtask else None) reply.Ended
   return_said Q true x = abend active_subtask reply.Ended x
   return_said Q false x = x.0
 
@@ -125,7 +125,7 @@ module _ (names : FinMap name_cmp PlaceValue) (old : State) (t : Name) (new : St
   there name = mapped _ (get old.pools name)
 
   abbrev pub Told : Written → Request → Type 0
-  Told k r = settled_in k (pool_at old) ≡ true → Acts old t r answered new → Said (code_in k t old.owners (pool_at old)) (done_in k)
+  Told k r = settled_in k (pool_at old) ≡ true → Acts old t r answered new → PrintedAnswer (code_in k t old.owners (pool_at old)) (done_in k)
 
   pub said_by : (k : Written) (r : Request) → resolved names k ≡ Some r → Told k r
   said_by (written.Obtain form n ask variable area) r e = subst (Told (written.Obtain form n ask variable area)) (some_one _ r e) (λ s x. invalid _ (is_invalid n) _ reply.Rc0 s x)
@@ -270,13 +270,13 @@ one_done written.Return r q a b = refl
 one_done _ r q a b = refl
 
 module _ (one other : JobValue) (t : Name) (x y : Answer) (a b : JobValue) (like : AreAlike one other) where
-  said_alike : (k : Written) (r q : Request) (m : Makes Any one t k r x a) (n : Makes Any other t k q y b) (c d : Option Code) → c ≡ d → Said one.names one.state t a.state m.reply c (done_in k) → Said other.names other.state t b.state n.reply d (done_in k) → x ≡ y
+  said_alike : (k : Written) (r q : Request) (m : Makes Any one t k r x a) (n : Makes Any other t k q y b) (c d : Option Code) → c ≡ d → PrintedAnswer one.names one.state t a.state m.reply c (done_in k) → PrintedAnswer other.names other.state t b.state n.reply d (done_in k) → x ≡ y
   said_alike k r q m n None None e u v = m.told ∙ ap (answer_of one.state k r) u ∙ one_done k r q one.state other.state ∙ sym (n.told ∙ ap (answer_of other.state k q) v)
   said_alike k r q m n None (Some d) e u v = absurd cc
   said_alike k r q m n (Some c) None e u v = absurd cc
   said_alike k r q m n (Some c) (Some d) e u v =
       let code : c ≡ d = cc in
-      let fallen = one_fallen one.state.owners t u.0 v.0 u.1 (subst (λ o. IsFallen o t v.0) (sym like.owners) v.1) in
+      let fallen = one_fallen one.state.owners t u.0 v.0 u.1 (subst (λ o. AreDescendants o t v.0) (sym like.owners) v.1) in
       m.told ∙ ap (answer_of one.state k r) u.2 ∙ (λ i. Abended (code i) (fallen i)) ∙ sym (n.told ∙ ap (answer_of other.state k q) v.2)
 
   asks_settled : is_active one.state.owners t ≡ true → (k : Written) (o p : Option Request) → resolved one.names k ≡ o → resolved other.names k ≡ p → is_some o ≡ is_some p → Asks Any one t k o x a → Asks Any other t k p y b → is_settled (statement.Request k) x ≡ true → x ≡ y
@@ -291,7 +291,7 @@ module _ (one other : JobValue) (t : Name) (x y : Answer) (a b : JobValue) (like
       said_alike k r q m n _ _ (code_alike k t one.state.owners (pool_at one.state) (pool_at other.state) like.pools ∙ ap (λ o. code_in k t o (pool_at other.state)) like.owners)
       (said_by one.names one.state t a.state m.reply k r e here u) (said_by other.names other.state t b.state n.reply k q f there v)
 
-  says_settled : is_active one.state.owners t ≡ true → (s : Statement) → Says Any one t s x a → Says Any other t s y b → is_settled s x ≡ true → x ≡ y
+  says_settled : is_active one.state.owners t ≡ true → (s : Statement) → AnswersTo Any one t s x a → AnswersTo Any other t s y b → is_settled s x ≡ true → x ≡ y
   says_settled active (statement.Region below above fill residence) m n w = absurd m
   says_settled active (statement.Request k) m n w = asks_settled active k (resolved one.names k) (resolved other.names k) refl refl (resolved_alike one.names other.names like.named k) m n w
   says_settled active (statement.Where name) m n w = at (get one.names name) (get other.names name) (like.named name) m.0 n.0 where
@@ -305,6 +305,6 @@ module _ (one other : JobValue) (t : Name) (x y : Answer) (a b : JobValue) (like
 
 pub settled_law : IsSettledAlike
 settled_law one other t s x y a b like d e w =
-    by_active (is_active one.state.owners t) d (subst (λ o. MatchBool (not (is_active o t)) (Tells other NotRun y b) (Says Any other t s y b)) (sym like.owners) e)
+    by_active (is_active one.state.owners t) d (subst (λ o. MatchBool (not (is_active o t)) (OnlyAnswers other NotRun y b) (AnswersTo Any other t s y b)) (sym like.owners) e)
     (λ m n. m.0 ∙ sym n.0)
     (λ active m n. says_settled one other t x y a b like active s m n w)

@@ -11,15 +11,15 @@ use Rattle.mvs_model.specs.Job.{JobValue}
 use Rattle.mvs_model.specs.Lines.{lines_of}
 use Rattle.mvs_model.specs.Reading.{LineOf}
 use Rattle.mvs_model.specs.Runs.{machine, IsPrinting}
-use Rattle.mvs_model.specs.Texts.{printing, reply_line, said}
+use Rattle.mvs_model.specs.Texts.{printing, reply_line, one_line_text}
 use Rattle.mvs_model.specs.View.{IsBounded}
 use Rattle.mvs_model.specs.Walk.{Closes, Faults, JobEnds, Leads, Walks, is_first}
-use Rattle.mvs_job.specs.Telling.{WalkValue, closing}
+use Rattle.mvs_job.specs.LineEvents.{WalkValue, closing}
 use Rattle.judge.specs.declared.kinds.Kind.{Kind}
 use Rattle.judge.specs.declared.kinds.Kind.TheVariants.{Area, Areas, Closed, Several}
 use Rattle.judge.specs.declared.Finding.{Finding}
 use Rattle.judge.specs.declared.Finding.TheVariants as finding
-use Rattle.judge.specs.Judging.{AsksArea, AsksList, BeginsAnswered, IsAskedBefore, IsNoPrinting, IsOpen, IsOpenIn, IsQuestion, leaves_open}
+use Rattle.judge.specs.Judging.{AsksArea, AsksList, BeginsAnswered, GrantsAreShownBefore, IsNoPrinting, IsOpen, IsOpenIn, IsQuestion, leaves_open}
 
 -- From the line of this number on a run may print this text, and end so.
 abbrev pub MayPrint : ℕ → Option JobValue → List (List ℕ) → List ℕ → Outcome → Type 0
@@ -78,7 +78,7 @@ no_bytes false = Rc0
 -- the text, from the line with this number on, of WHERE statements of a task with these addresses
 abbrev pub at_text : ℕ → Name → List ℕ → List ℕ
 at_text number task [] = []
-at_text number task (addr ∷ addrs) = reply_line number task (said (At addr)) ++ at_text (number + 1) task addrs
+at_text number task (addr ∷ addrs) = reply_line number task (one_line_text (At addr)) ++ at_text (number + 1) task addrs
 
 -- The addresses are those that a text shows from the line with this number on, if it shows one for each of some names.
 abbrev pub ReadsEach : List ℕ → ℕ → Name → List Name → List ℕ → Type 0
@@ -102,7 +102,7 @@ IsServed served old text false new = (l : List ℕ) × (events : List Event) × 
 -- What is decided at lines that print this, and after which the job continues or not. If a run can still print the rest of an
 -- output, the output begins with this, and every run that prints it is after the lines in the same state.
 abbrev pub Decides : List (List ℕ) → List ℕ → WalkValue → List ℕ → Bool → Bool → WalkValue → Type 0
-Decides served left old text goes_on false new = (more : List (List ℕ)) (outcome : Outcome) → MayPrint old.number old.step (served ++ more) left outcome → ⊥
+Decides served left old text continues false new = (more : List (List ℕ)) (outcome : Outcome) → MayPrint old.number old.step (served ++ more) left outcome → ⊥
 Decides served left old text false true new = left ≡ text
 Decides served left old text true true new =
     (left ≡ text ++ drop (length text) left)
@@ -110,7 +110,7 @@ Decides served left old text true true new =
 
 -- What is decided if some lines come after them.
 abbrev pub DecidesBefore : List (List ℕ) → List (List ℕ) → List ℕ → WalkValue → List ℕ → Bool → Bool → WalkValue → Type 0
-DecidesBefore served more left old text goes_on false new = (outcome : Outcome) → MayPrint old.number old.step (served ++ more) left outcome → ⊥
+DecidesBefore served more left old text continues false new = (outcome : Outcome) → MayPrint old.number old.step (served ++ more) left outcome → ⊥
 DecidesBefore served more left old text false true new = left ≡ text
 DecidesBefore served more left old text true true new =
     (left ≡ text ++ drop (length text) left)
@@ -118,24 +118,24 @@ DecidesBefore served more left old text true true new =
 
 -- Both for the first lines of a script, given as a number of bytes.
 abbrev pub DecidesFirst : List ℕ → List ℕ → WalkValue → ℕ → List ℕ → Bool → Bool → WalkValue → Type 0
-DecidesFirst script left old taken text goes_on passes new =
-    (served : List (List ℕ)) × (lines_of script ≡ served ++ lines_of (drop taken script)) × IsServed served old text goes_on new
-    × DecidesBefore served (lines_of (drop taken script)) left old text goes_on passes new × (goes_on ≡ true → IsAskedBefore served (lines_of (drop taken script)))
+DecidesFirst script left old taken text continues passes new =
+    (served : List (List ℕ)) × (lines_of script ≡ served ++ lines_of (drop taken script)) × IsServed served old text continues new
+    × DecidesBefore served (lines_of (drop taken script)) left old text continues passes new × (continues ≡ true → GrantsAreShownBefore served (lines_of (drop taken script)))
 
 -- The first line of a script, given as a number of bytes, is executed, and its answer is not determined.
 abbrev pub LeavesFirst : List ℕ → List ℕ → WalkValue → ℕ → List ℕ → Bool → Bool → WalkValue → Type 0
-LeavesFirst script left old taken text goes_on passes new =
+LeavesFirst script left old taken text continues passes new =
     (bytes : List ℕ) × (lines_of script ≡ bytes ∷ lines_of (drop taken script)) × IsServed (bytes ∷ []) old text true new × IsOpen old.number old.step (lines_of script) left
-    × (goes_on ≡ true) × (passes ≡ true)
+    × (continues ≡ true) × (passes ≡ true)
 
 -- what is found at the first lines: they are open, or they decide
 abbrev pub IsFoundFirst : List ℕ → List ℕ → WalkValue → ℕ → List ℕ → Bool → Bool → Bool → WalkValue → Type 0
-IsFoundFirst script left old taken text goes_on passes true new = LeavesFirst script left old taken text goes_on passes new
-IsFoundFirst script left old taken text goes_on passes false new = DecidesFirst script left old taken text goes_on passes new
+IsFoundFirst script left old taken text continues passes true new = LeavesFirst script left old taken text continues passes new
+IsFoundFirst script left old taken text continues passes false new = DecidesFirst script left old taken text continues passes new
 
 -- A job that has printed this of a script is in this state, with these bytes left.
-abbrev pub Stands : List ℕ → List ℕ → WalkValue → List ℕ → Type 0
-Stands script text w left = (events : List Event) × Reaches (lines_of script) events w.number w.step (lines_of left) × (text ≡ printing events)
+abbrev pub HasReached : List ℕ → List ℕ → WalkValue → List ℕ → Type 0
+HasReached script text w left = (events : List Event) × Reaches (lines_of script) events w.number w.step (lines_of left) × (text ≡ printing events)
 
 -- The text is the printing of the end of a job in this state that has no more lines.
 abbrev pub PrintsEnd : WalkValue → List ℕ → Outcome → Type 0
@@ -160,7 +160,7 @@ end_at false = Some ScriptFault
 abbrev pub IsFollowed : List ℕ → List ℕ → WalkValue → ℕ → List ℕ → Bool → Option Outcome → ℕ → Type 0
 IsFollowed script output w at text passes (Some outcome) number = HasEnded script output outcome text passes
 IsFollowed script output w at text passes None number =
-    HasParted script output text number passes × Stands script text w (drop at script) × (at ≤ length script) × (w.number ≤ at + 2)
+    HasParted script output text number passes × HasReached script text w (drop at script) × (at ≤ length script) × (w.number ≤ at + 2)
 
 -- what is found of an output from which the runs of a script part where the next line has this number
 abbrev pub finding_of : Bool → Bool → ℕ → Finding

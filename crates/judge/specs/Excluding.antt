@@ -14,11 +14,11 @@ use Rattle.mvs_model.specs.Texts.{printing}
 use Rattle.mvs_model.specs.declared.line.Line.{Line}
 use Rattle.mvs_model.specs.declared.line.Statement.TheVariants as says
 use Rattle.mvs_model.specs.declared.line.Written.TheVariants as written
-use Rattle.mvs_model.specs.Lent.{lent}
+use Rattle.mvs_model.specs.FullAnswers.{full_answer}
 use Rattle.mvs_model.specs.State.{State}
-use Rattle.mvs_job.specs.declared.walk.LineTold.{LineTold}
-use Rattle.mvs_job.specs.declared.walk.LineTold.TheVariants as tells
-use Rattle.mvs_job.specs.Telling.{WalkValue}
+use Rattle.mvs_job.specs.declared.walk.LineEvent.{LineEvent}
+use Rattle.mvs_job.specs.declared.walk.LineEvent.TheVariants as tells
+use Rattle.mvs_job.specs.LineEvents.{WalkValue}
 use Rattle.judge.specs.declared.exclusion.Ruling.{Ruling}
 use Rattle.judge.specs.declared.exclusion.Ruling.TheVariants as ruling
 use Rattle.judge.specs.declared.exclusion.Verdict.{Verdict}
@@ -70,8 +70,8 @@ abbrev pub IsBegunOpen : ℕ → Name → Statement → List ℕ → Bool → Ty
 IsBegunOpen number t s text b = (b ≡ true → BeginsOpen number t s text) × (BeginsOpen number t s text → b ≡ true)
 
 -- the answer of a line, if it has one
-abbrev pub answer_in : State → List Name → LineTold → Option Answer
-answer_in st fallen (tells.Answered t a) = Some (lent st fallen t a)
+abbrev pub answer_in : State → List Name → LineEvent → Option Answer
+answer_in st fallen (tells.Answered t a) = Some (full_answer st fallen t a)
 answer_in st fallen _ = None
 
 -- Whether places do not decide what a line prints that says this and has this answer.

@@ -66,17 +66,17 @@ AskEach [] task (area ∷ areas) = ⊥
 AskEach (question ∷ lines) task (area ∷ areas) = IsQuestion question task area × AskEach lines task areas
 
 -- The line is a request for one area, and the next line is its WHERE.
-abbrev pub IsAreaAsked : Line → List (List ℕ) → Type 0
-IsAreaAsked l [] = ⊥
-IsAreaAsked l (question ∷ lines) = (task : Name) × (area : Name) × (variable : Bool) × AsksArea l task area variable × IsQuestion question task area
+abbrev pub AreaIsShown : Line → List (List ℕ) → Type 0
+AreaIsShown l [] = ⊥
+AreaIsShown l (question ∷ lines) = (task : Name) × (area : Name) × (variable : Bool) × AsksArea l task area variable × IsQuestion question task area
 
 -- The line is a request for a list, and the next lines are the WHERE statements for its areas.
-abbrev pub IsListAsked : Line → List (List ℕ) → Type 0
-IsListAsked l lines = (task : Name) × (areas : List Name) × AsksList l task areas × AskEach lines task areas
+abbrev pub ListIsShown : Line → List (List ℕ) → Type 0
+ListIsShown l lines = (task : Name) × (areas : List Name) × AsksList l task areas × AskEach lines task areas
 
 -- The lines after a line show what it is granted.
-abbrev pub IsAskedFor : Line → List (List ℕ) → Type 0
-IsAskedFor l lines = IsAreaAsked l lines ⊎ IsListAsked l lines
+abbrev pub GrantIsShown : Line → List (List ℕ) → Type 0
+GrantIsShown l lines = AreaIsShown l lines ⊎ ListIsShown l lines
 
 -- The line is a request for a list.
 abbrev pub IsForList : Line → Type 0
@@ -100,16 +100,16 @@ MayDiffer number step bytes l rest =
 -- have another answer than a text.
 abbrev pub IsOpen : ℕ → Option JobValue → List (List ℕ) → List ℕ → Type 0
 IsOpen number step [] rest = ⊥
-IsOpen number step (bytes ∷ lines) rest = (l : Line) × LineOf (is_first step) bytes l × (leaves_open l ≡ true) × (IsAskedFor l lines → MayDiffer number step bytes l rest)
+IsOpen number step (bytes ∷ lines) rest = (l : Line) × LineOf (is_first step) bytes l × (leaves_open l ≡ true) × (GrantIsShown l lines → MayDiffer number step bytes l rest)
 
 -- For each of the first lines that may be granted places, the next line shows them, up to those that are left.
-abbrev pub IsAskedBefore : List (List ℕ) → List (List ℕ) → Type 0
-IsAskedBefore [] left = Unit {0}
-IsAskedBefore (bytes ∷ lines) left = ((l : Line) → LineOf false bytes l → leaves_open l ≡ true → IsAskedFor l (lines ++ left)) × IsAskedBefore lines left
+abbrev pub GrantsAreShownBefore : List (List ℕ) → List (List ℕ) → Type 0
+GrantsAreShownBefore [] left = Unit {0}
+GrantsAreShownBefore (bytes ∷ lines) left = ((l : Line) → LineOf false bytes l → leaves_open l ≡ true → GrantIsShown l (lines ++ left)) × GrantsAreShownBefore lines left
 
 -- for all lines
-abbrev pub IsAsked : List (List ℕ) → Type 0
-IsAsked lines = IsAskedBefore lines []
+abbrev pub GrantsAreShown : List (List ℕ) → Type 0
+GrantsAreShown lines = GrantsAreShownBefore lines []
 
 -- The line of this number is a request for a list.
 abbrev pub IsListAt : List (List ℕ) → ℕ → Type 0
@@ -119,7 +119,7 @@ IsListAt lines number = (bytes : List ℕ) × (slice_get lines (number - 1) ≡ 
 abbrev pub IsOpenAt : List ℕ → List ℕ → ℕ → Type 0
 IsOpenAt script output number =
     (events : List Event) × (step : Option JobValue) × (left : List (List ℕ)) × (rest : List ℕ)
-    × (reached : Reaches (lines_of script) events number step left) × (output ≡ printing events ++ rest) × IsAskedBefore reached.served left × IsOpen number step left rest
+    × (reached : Reaches (lines_of script) events number step left) × (output ≡ printing events ++ rest) × GrantsAreShownBefore reached.served left × IsOpen number step left rest
 
 -- The same, and another text begins with what this run prints up to that line.
 abbrev pub IsOpenIn : List ℕ → List ℕ → List ℕ → ℕ → Type 0

@@ -6,7 +6,7 @@ use std::collections::HashMap;
 
 /// What the output says of the statement of a line.
 #[derive(Clone, Copy, Debug, PartialEq, Eq)]
-pub enum Said {
+pub enum PrintedAnswer {
     /// It was answered 0, or with a cell.
     Granted,
     /// An area or a cell is at this address.
@@ -16,21 +16,21 @@ pub enum Said {
 /// The first answer to each line, of those that are of use here.
 #[derive(Drop)]
 pub struct Answers {
-    lines: HashMap<u32, Said>,
+    lines: HashMap<u32, PrintedAnswer>,
 }
 
 // What a printed line says, and the number of its line.
-fn read_said(line: &str) -> Option<(u32, Said)> {
+fn read_answer(line: &str) -> Option<(u32, PrintedAnswer)> {
     let (digits, behind) = line.split_once(' ')?;
     let (_, text) = behind.split_once(' ')?;
     let Ok(number) = digits.parse::<u32>() else {
         return None;
     };
     if text == "RC 0" || text == "CELL" || text.starts_with("RC 0 LENGTH ") {
-        return Some((number, Said::Granted));
+        return Some((number, PrintedAnswer::Granted));
     }
     match u32::from_str_radix(text.strip_prefix("AT ")?, 16) {
-        Ok(addr) => Some((number, Said::At(addr))),
+        Ok(addr) => Some((number, PrintedAnswer::At(addr))),
         Err(_) => None,
     }
 }
@@ -40,7 +40,7 @@ impl Answers {
     pub fn read(alloc: Global, first_number: u32, output: &str) -> Result<Answers, OutOfMemory> {
         let mut lines = HashMap::new(alloc);
         for line in output.lines() {
-            if let Some((number, said)) = read_said(line) {
+            if let Some((number, said)) = read_answer(line) {
                 if number >= first_number && lines.insert(number, said).is_err() {
                     return Err(OutOfMemory);
                 }
@@ -50,7 +50,7 @@ impl Answers {
     }
 
     /// The answer to the line of a number.
-    pub fn of(&self, line_number: u32) -> Option<Said> {
+    pub fn of(&self, line_number: u32) -> Option<PrintedAnswer> {
         self.lines.get(&line_number).copied()
     }
 }

@@ -2,7 +2,7 @@
 
 ghost use Rattle.std.specs.Prelude.{◌≡◌, List};
 ghost use Rattle.mvs_model.specs.declared.name.Name.{Name as TaskName};
-ghost use Rattle.mvs_model.specs.Lent.{lent};
+ghost use Rattle.mvs_model.specs.FullAnswers.{full_answer};
 ghost use Rattle.mvs_model.specs.Requests.{is_invalid};
 ghost use Rattle.mvs_model.specs.State.{State};
 ghost use Rattle.judge.specs.Outline.{is_settled, is_user, request_settled};
@@ -15,7 +15,7 @@ use mvs_model::subpool::SubNo;
 // Whether an answer is the abend with a user code.
 fn is_user(number: u16, answer: &Answer) -> bool
     ensures { (st : State) (fallen : List TaskName) (task : TaskName)
-        → result ≡ is_user number (lent st fallen task answer.now) }
+        → result ≡ is_user number (full_answer st fallen task answer.now) }
 {
     match answer {
         Answer::Abended(Code::User(code)) => *code == number,
@@ -47,7 +47,7 @@ fn is_invalid(number: u8) -> bool
 // Whether places do not decide that a request has an answer.
 fn request_settled(written: &Written, answer: &Answer) -> bool
     ensures { (st : State) (fallen : List TaskName) (task : TaskName)
-        → result ≡ request_settled written.now (lent st fallen task answer.now) }
+        → result ≡ request_settled written.now (full_answer st fallen task answer.now) }
 {
     match written {
         Written::Obtain { number, .. }
@@ -69,7 +69,7 @@ fn request_settled(written: &Written, answer: &Answer) -> bool
 /// Returns whether places do not decide that a statement has an answer.
 pub fn is_settled(statement: &Statement, answer: &Answer) -> bool
     ensures { (st : State) (fallen : List TaskName) (task : TaskName)
-        → result ≡ is_settled statement.now (lent st fallen task answer.now) }
+        → result ≡ is_settled statement.now (full_answer st fallen task answer.now) }
 {
     match answer {
         Answer::NotRun | Answer::NoName => true,

@@ -2,22 +2,22 @@
 
 ghost use Rattle.std.specs.Prelude.{◌≡◌, ◌<◌, ◌≤◌, ◌+◌, ◌^◌, ◌++◌, ◌∷◌, ◌&&◌, not, [], List, ℕ, true, false, IfOk, IfSome, MatchOption, length, drop, take};
 ghost use Rattle.std.specs.List.{AllByRecursion};
-ghost use Rattle.mvs_model.specs.Texts.{answer_text, hex, printing, reply_line, said};
+ghost use Rattle.mvs_model.specs.Texts.{answer_text, hex, printing, reply_line, one_line_text};
 ghost use Rattle.mvs_model.specs.Answers.{At};
-ghost use Rattle.mvs_job.specs.Telling.{IsToldBy, events_told};
+ghost use Rattle.mvs_job.specs.LineEvents.{ServesAsUnder, events_of_line};
 ghost use Rattle.request_forms.specs.Taking.{Takes};
-ghost use Rattle.mvs_model.specs.Lent.{lends, lent};
+ghost use Rattle.mvs_model.specs.FullAnswers.{has_long_data, full_answer};
 ghost use Rattle.mvs_model.specs.Lines.{lines_of};
 ghost use Rattle.mvs_model.specs.State.{State};
 ghost use Rattle.mvs_model.specs.declared.name.Name.{Name as TaskName};
 ghost use Rattle.judge.specs.Deciding.{Decides, DecidesBefore, InBounds, IsClosed, IsFoundFirst, IsGrant, IsList, IsServed, ReadsEach, at_text, no_bytes};
 ghost use Rattle.judge.specs.Judging.{AskEach, BeginsAnswered, IsOpen, IsQuestion};
 
-use crate::kinds::{Asked, Kind, asks_each, next_kind, question_end};
+use crate::kinds::{GrantQuestion, Kind, asks_each, next_kind, question_end};
 use crate::list_answers::opens_list;
 use job_script::digits::{are_hex_digits, hex_number};
-use job_script::print_said;
-use mvs_job::{LineTold, Walk, line_end, print_line};
+use job_script::print_short_answer;
+use mvs_job::{LineEvent, Walk, line_end, print_line};
 use mvs_model::answer::Answer;
 use mvs_model::error::OutOfMemory;
 use mvs_model::line::Names;
@@ -32,7 +32,7 @@ pub struct Served {
     /// What is printed of it.
     pub text: Vec<u8>,
     /// Whether the job continues: no line has a fault.
-    pub goes_on: bool,
+    pub continues: bool,
     /// Whether a run may still print the output. Where the job does not go on, it is then just this text.
     pub passes: bool,
 }
@@ -49,9 +49,9 @@ pub struct Decided {
 impl Decided {
     /// Whether it is decided that the job continues, and that a run can still print the output.
     pub fn follows(&self) -> bool
-        ensures { result ≡ (self.now.served.passes && self.now.served.goes_on && not self.now.is_open) }
+        ensures { result ≡ (self.now.served.passes && self.now.served.continues && not self.now.is_open) }
     {
-        self.served.passes && self.served.goes_on && !self.is_open
+        self.served.passes && self.served.continues && !self.is_open
     }
 }
 
@@ -65,7 +65,7 @@ struct Listed {
 // The events of a line, and the text printed so far.
 #[derive(Drop)]
 pub(crate) struct Printed {
-    pub(crate) told: LineTold,
+    pub(crate) told: LineEvent,
     pub(crate) text: Vec<u8>,
 }
 
@@ -78,10 +78,10 @@ pub(crate) fn print_next(
 ) -> Result<Printed, OutOfMemory>
     requires { walk.old.number + 1 < 2 ^ 32 }
     ensures served { IfOk result
-        (λ p. IsToldBy (Takes told.now) walk.old line.now p.told walk.new) }
+        (λ p. ServesAsUnder (Takes told.now) walk.old line.now p.told walk.new) }
     ensures printed { IfOk result
         (λ p. p.text.items
-        ≡ text.items ++ printing (events_told walk.old.number walk.new p.told)) }
+        ≡ text.items ++ printing (events_of_line walk.old.number walk.new p.told)) }
     ensures number { walk.new.number ≡ walk.old.number + 1 }
 {
     let line_number = walk.number();
@@ -117,27 +117,27 @@ fn decide_line(
     requires number { walk.old.number + 1 < 2 ^ 32 }
     requires closed { IsClosed walk.old.step line.now }
     ensures served { IfOk result
-        (λ s. IsServed (line.now ∷ []) walk.old s.text.items s.goes_on walk.new) }
+        (λ s. IsServed (line.now ∷ []) walk.old s.text.items s.continues walk.new) }
     ensures decided { IfOk result
-        (λ s. Decides (line.now ∷ []) left.now walk.old s.text.items s.goes_on s.passes
+        (λ s. Decides (line.now ∷ []) left.now walk.old s.text.items s.continues s.passes
         walk.new) }
     ensures number { walk.new.number ≡ walk.old.number + 1 }
     ensures bounds { IfOk result (λ s. InBounds walk.old.step → InBounds walk.new.step) }
 {
     let printed = print_next(walk, line, &[], Vec::new(alloc))?;
     let text = printed.text;
-    if let LineTold::Faulted(_) = printed.told {
+    if let LineEvent::Faulted(_) = printed.told {
         let passes = left == text.as_slice();
         return Ok(Served {
             text,
-            goes_on: false,
+            continues: false,
             passes,
         });
     }
     let passes = begins(left, text.as_slice());
     Ok(Served {
         text,
-        goes_on: true,
+        continues: true,
         passes,
     })
 }
@@ -149,13 +149,13 @@ pub(crate) fn print_answer(
     task: &Name,
     answer: &Answer,
 ) -> Result<Vec<u8>, OutOfMemory>
-    requires { lends answer.now ≡ false }
+    requires { has_long_data answer.now ≡ false }
     ensures { (st : State) → IfOk result
         (λ all. all.items
-        ≡ text.items ++ answer_text line_number task.now (lent st [] task.now answer.now)) }
+        ≡ text.items ++ answer_text line_number task.now (full_answer st [] task.now answer.now)) }
 {
     let mut writer = Watched::new(text);
-    match print_said(&mut writer, line_number, task, answer) {
+    match print_short_answer(&mut writer, line_number, task, answer) {
         Ok(()) => Ok(writer.into_inner()),
         Err(_) => Err(OutOfMemory),
     }
@@ -163,8 +163,8 @@ pub(crate) fn print_answer(
 
 // The answer to a granted request for an area of no bytes.
 fn no_bytes(variable: bool) -> Answer
-    ensures lends { lends result ≡ false }
-    ensures answer { (st : State) (task : TaskName) → lent st [] task result ≡ no_bytes variable }
+    ensures has_long_data { has_long_data result ≡ false }
+    ensures answer { (st : State) (task : TaskName) → full_answer st [] task result ≡ no_bytes variable }
 {
     if variable {
         Answer::Granted(0)
@@ -174,11 +174,11 @@ fn no_bytes(variable: bool) -> Answer
 }
 
 // How many bytes are printed of a granted request for an area, whose line has this number, and of a question for it, up to the end.
-fn answered_len(alloc: Global, line_number: u32, asked: &Asked) -> Result<usize, OutOfMemory>
+fn answered_len(alloc: Global, line_number: u32, asked: &GrantQuestion) -> Result<usize, OutOfMemory>
     requires { line_number + 1 < 2 ^ 32 }
     ensures { IfOk result (λ n. n
         ≡ length (answer_text line_number asked.now.task (no_bytes asked.now.variable))
-        + length (reply_line (line_number + 1) asked.now.task (said (At 0)))) }
+        + length (reply_line (line_number + 1) asked.now.task (one_line_text (At 0)))) }
 {
     let granted = no_bytes(asked.variable);
     let text = print_answer(Vec::new(alloc), line_number, &asked.task, &granted)?;
@@ -188,7 +188,7 @@ fn answered_len(alloc: Global, line_number: u32, asked: &Asked) -> Result<usize,
 }
 
 // Returns the address of eight digits after a prefix; 0 if there are none.
-fn address_behind(text: &[u8], front: usize) -> Addr
+fn address_after(text: &[u8], front: usize) -> Addr
     ensures { (addr : ℕ) (rest : List ℕ) → addr < 2 ^ 31
         → drop front text.now ≡ hex 8 addr ++ rest → result ≡ addr }
 {
@@ -215,7 +215,7 @@ fn decide_pair(
     line: &[u8],
     question: &[u8],
     left: &[u8],
-    asked: &Asked,
+    asked: &GrantQuestion,
 ) -> Result<Served, OutOfMemory>
     requires number { walk.old.number + 2 < 2 ^ 32 }
     requires bounds { InBounds walk.old.step }
@@ -223,35 +223,35 @@ fn decide_pair(
         asked.now.variable }
     requires question { IsQuestion question.now asked.now.task asked.now.area }
     ensures served { IfOk result
-        (λ s. IsServed (line.now ∷ question.now ∷ []) walk.old s.text.items s.goes_on
+        (λ s. IsServed (line.now ∷ question.now ∷ []) walk.old s.text.items s.continues
         walk.new) }
     ensures decided { IfOk result
-        (λ s. Decides (line.now ∷ question.now ∷ []) left.now walk.old s.text.items s.goes_on
+        (λ s. Decides (line.now ∷ question.now ∷ []) left.now walk.old s.text.items s.continues
         s.passes walk.new) }
     ensures number { IfOk result (λ s. walk.new.number ≡ walk.old.number + 2) }
     ensures bounds { IfOk result (λ s. InBounds walk.new.step) }
 {
     let len = answered_len(alloc, walk.number(), asked)?;
-    let addr = address_behind(left, len - 9);
+    let addr = address_after(left, len - 9);
     let granted = print_next(walk, line, &[addr], Vec::new(alloc))?;
     let answered = print_next(walk, question, &[], granted.text)?;
     let passes = begins(left, answered.text.as_slice());
     Ok(Served {
         text: answered.text,
-        goes_on: true,
+        continues: true,
         passes,
     })
 }
 
 // Decides at the first two lines of a script, where the first, which ends there, is a grant; nothing where the second is no question
 // for it.
-fn decide_asked(
+fn decide_shown(
     alloc: Global,
     walk: &mut Walk,
     script: &[u8],
     end: usize,
     left: &[u8],
-    asked: &Asked,
+    asked: &GrantQuestion,
 ) -> Result<Option<Decided>, OutOfMemory>
     requires number { walk.old.number + 2 < 2 ^ 32 }
     requires bounds { InBounds walk.old.step }
@@ -264,13 +264,13 @@ fn decide_asked(
         (λ o. MatchOption o ((walk.new ≡ walk.old)
         × IsOpen walk.old.number walk.old.step (lines_of script.now) left.now)
         (λ d. IsFoundFirst script.now left.now walk.old d.taken d.served.text.items
-        d.served.goes_on d.served.passes d.is_open walk.new)) }
+        d.served.continues d.served.passes d.is_open walk.new)) }
     ensures taken { IfOk result (λ o. IfSome o
         (λ d. (0 < d.taken) × (d.taken ≤ length script.now + 1)
         × (walk.new.number ≤ walk.old.number + d.taken))) }
     ensures bounds { IfOk result (λ o. InBounds walk.new.step) }
 {
-    let behind = text_behind(script, end + 1);
+    let behind = text_after(script, end + 1);
     let Some(second) = question_end(behind, asked) else {
         return Ok(None);
     };
@@ -293,7 +293,7 @@ fn granted_len(alloc: Global, line_number: u32, task: &Name) -> Result<usize, Ou
 
 // Returns the number of bytes printed for a question with an address, on the line with this number.
 fn located_len(alloc: Global, line_number: u32, task: &Name) -> Result<usize, OutOfMemory>
-    ensures { IfOk result (λ n. n ≡ length (reply_line line_number task.now (said (At 0)))) }
+    ensures { IfOk result (λ n. n ≡ length (reply_line line_number task.now (one_line_text (At 0)))) }
 {
     let at = Answer::At(Addr::new(0));
     let text = print_answer(Vec::new(alloc), line_number, task, &at)?;
@@ -301,7 +301,7 @@ fn located_len(alloc: Global, line_number: u32, task: &Name) -> Result<usize, Ou
 }
 
 // Returns what follows a number of bytes of a text.
-pub(crate) fn text_behind(text: &[u8], front: usize) -> &[u8]
+pub(crate) fn text_after(text: &[u8], front: usize) -> &[u8]
     ensures { result.now ≡ drop front text.now }
 {
     if front < text.len() {
@@ -340,14 +340,14 @@ fn read_each(
         return Ok(told);
     };
     let len = located_len(alloc, line_number, task)?;
-    let addr = address_behind(text, len - 9);
+    let addr = address_after(text, len - 9);
     let all = pushed(told, addr)?;
     read_each(
         alloc,
         line_number + 1,
         task,
         areas,
-        text_behind(text, len),
+        text_after(text, len),
         all,
     )
 }
@@ -365,7 +365,7 @@ fn read_areas(
         (line_number + 1) listed.now.task listed.now.areas told.items) }
 {
     let front = granted_len(alloc, line_number, &listed.task)?;
-    let text = text_behind(left, front);
+    let text = text_after(left, front);
     let areas = listed.areas.as_slice();
     read_each(
         alloc,
@@ -393,7 +393,7 @@ fn decide_list(
     requires questions { AskEach (lines_of behind.now) listed.now.task listed.now.areas }
     ensures served { IfOk result
         (λ s. IsServed (line.now ∷ []) walk.old s.text.items true walk.new) }
-    ensures goes_on { IfOk result (λ s. s.goes_on ≡ true) }
+    ensures continues { IfOk result (λ s. s.continues ≡ true) }
     ensures opens { IfOk result
         (λ s. s.passes ≡ false → BeginsAnswered walk.old.number listed.now.task left.now
         → IsOpen walk.old.number walk.old.step (line.now ∷ lines_of behind.now) left.now) }
@@ -413,7 +413,7 @@ fn decide_list(
     let passes = begins(left, printed.text.as_slice());
     Ok(Served {
         text: printed.text,
-        goes_on: true,
+        continues: true,
         passes,
     })
 }
@@ -437,13 +437,13 @@ fn decide_areas(
         (λ o. MatchOption o ((walk.new ≡ walk.old)
         × IsOpen walk.old.number walk.old.step (lines_of script.now) left.now)
         (λ d. IsFoundFirst script.now left.now walk.old d.taken d.served.text.items
-        d.served.goes_on d.served.passes d.is_open walk.new)) }
+        d.served.continues d.served.passes d.is_open walk.new)) }
     ensures taken { IfOk result (λ o. IfSome o
         (λ d. (0 < d.taken) × (d.taken ≤ length script.now + 1)
         × (walk.new.number ≤ walk.old.number + d.taken))) }
     ensures bounds { IfOk result (λ o. InBounds walk.new.step) }
 {
-    let behind = text_behind(script, end + 1);
+    let behind = text_after(script, end + 1);
     if !asks_each(behind, &listed.task, listed.areas.as_slice()) {
         return Ok(None);
     }
@@ -472,7 +472,7 @@ pub fn decide(
         (λ o. MatchOption o ((walk.new ≡ walk.old)
         × IsOpen walk.old.number walk.old.step (lines_of script.now) left.now)
         (λ d. IsFoundFirst script.now left.now walk.old d.taken d.served.text.items
-        d.served.goes_on d.served.passes d.is_open walk.new)) }
+        d.served.continues d.served.passes d.is_open walk.new)) }
     ensures taken { IfOk result (λ o. IfSome o
         (λ d. (0 < d.taken) × (d.taken ≤ length script.now + 1)
         × (walk.new.number ≤ walk.old.number + d.taken))) }
@@ -482,12 +482,12 @@ pub fn decide(
     let line = &script[..end];
     match next_kind(walk, line) {
         Kind::Area(task, area, variable) => {
-            let asked = Asked {
+            let asked = GrantQuestion {
                 task,
                 area,
                 variable,
             };
-            decide_asked(alloc, walk, script, end, left, &asked)
+            decide_shown(alloc, walk, script, end, left, &asked)
         }
         Kind::Closed => {
             let served = decide_line(alloc, walk, line, left)?;

@@ -11,12 +11,12 @@ ghost use Rattle.judge.specs.Deciding.{InBounds};
 ghost use Rattle.judge.specs.Excluding.{IsBegunLine, IsRuling, IsVerdict, LineShowsSome, answer_in, is_certain, is_shown};
 
 use crate::certain::is_settled;
-use crate::deciding::{begins, print_next, text_behind};
+use crate::deciding::{begins, print_next, text_after};
 use crate::following::print_end;
 use crate::kinds::is_first;
 use crate::openings::{Continued, begins_open};
 use job_script::read_line;
-use mvs_job::{LineTold, Told, Walk, line_end};
+use mvs_job::{LineEvent, Told, Walk, line_end};
 use mvs_model::error::OutOfMemory;
 use mvs_model::line::{Line, Statement, Written};
 use mvs_model::outcome::Outcome;
@@ -49,7 +49,7 @@ pub enum Ruling {
 }
 
 // Returns whether places do not decide what a line prints.
-fn is_certain(read: &Line, told: &LineTold) -> bool
+fn is_certain(read: &Line, told: &LineEvent) -> bool
     ensures { (st : State) (fallen : List TaskName)
         → result ≡ is_certain read.now (answer_in st fallen told.now) }
 {
@@ -57,8 +57,8 @@ fn is_certain(read: &Line, told: &LineTold) -> bool
         Line::Nothing => true,
         Line::Statement(_, Statement::Region { .. }) => true,
         Line::Statement(_, statement) => match told {
-            LineTold::Answered { answer, .. } => is_settled(statement, answer),
-            LineTold::Nothing | LineTold::Began { .. } | LineTold::Faulted(_) => true,
+            LineEvent::Answered { answer, .. } => is_settled(statement, answer),
+            LineEvent::Nothing | LineEvent::Began { .. } | LineEvent::Faulted(_) => true,
         },
     }
 }
@@ -240,7 +240,7 @@ pub fn rule(alloc: Global, script: &[u8], output: &[u8], told: &Told) -> Result<
         match verdict {
             Verdict::Agrees(len) => {
                 at += end + 1;
-                left = text_behind(left, len);
+                left = text_after(left, len);
             }
             Verdict::Excluded => return Ok(Ruling::Excluded),
             Verdict::Ends => return Ok(Ruling::Printed(Outcome::ScriptFault)),

@@ -2,7 +2,7 @@
 
 ghost use Rattle.std.specs.Prelude.{◌≡◌, ◌≤◌, ◌+◌, ◌++◌, IfOk, drop, length};
 ghost use Rattle.mvs_model.specs.Numbers.{most_script_bytes};
-ghost use Rattle.mvs_job.specs.Telling.{new_walk};
+ghost use Rattle.mvs_job.specs.LineEvents.{new_walk};
 ghost use Rattle.judge.specs.Deciding.{IsFollowed, PrintsEnd, end_at};
 
 use crate::deciding::{Decided, Served, decide};
@@ -69,10 +69,10 @@ fn parted(
 ) -> Result<Followed, OutOfMemory>
     ensures { IfOk result
         (λ f. (f.at ≡ at) × (f.text.items ≡ front.now ++ served.now.text.items)
-        × (f.passes ≡ served.now.passes) × (f.ended ≡ end_at served.now.goes_on)
+        × (f.passes ≡ served.now.passes) × (f.ended ≡ end_at served.now.continues)
         × (f.open_line ≡ line_number)) }
 {
-    let ended = if served.goes_on {
+    let ended = if served.continues {
         None
     } else {
         Some(Outcome::ScriptFault)

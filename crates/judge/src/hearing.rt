@@ -1,7 +1,7 @@
 //! Matches the addresses in an output with the grants of the script, areas and cells: WHERE shows the place of the grant that set
 //! the name last.
 
-use crate::answers::{Answers, Said};
+use crate::answers::{Answers, PrintedAnswer};
 use crate::parts::Parts;
 use job_script::read_line;
 use mvs_job::Told;
@@ -99,7 +99,7 @@ impl Hearing {
         &mut self,
         statement: &Statement,
         line: u32,
-        said: Option<Said>,
+        said: Option<PrintedAnswer>,
     ) -> Result<(), OutOfMemory> {
         match statement {
             Statement::Region { .. } => {
@@ -107,12 +107,12 @@ impl Hearing {
                 self.parts.clear();
             }
             Statement::Request(written) => {
-                if said == Some(Said::Granted) {
+                if said == Some(PrintedAnswer::Granted) {
                     return self.take_request(written, line);
                 }
             }
             Statement::Where(name) => {
-                if let Some(Said::At(addr)) = said {
+                if let Some(PrintedAnswer::At(addr)) = said {
                     return self.tell(name, addr);
                 }
             }

@@ -27,7 +27,7 @@ pub enum Kind {
 
 /// A task asks for an area, which sets a name, by a request that is variable or not.
 #[derive(Clone, Copy, Debug, PartialEq, Eq)]
-pub struct Asked {
+pub struct GrantQuestion {
     pub task: Name,
     pub area: Name,
     pub variable: bool,
@@ -140,7 +140,7 @@ fn asks_where(line: &[u8], task: &Name, area: &Name) -> bool
 }
 
 /// Returns where the first line of a script ends, if it is a WHERE.
-pub fn question_end(script: &[u8], asked: &Asked) -> Option<usize>
+pub fn question_end(script: &[u8], asked: &GrantQuestion) -> Option<usize>
     ensures { MatchOption result
         (HasNoQuestion (lines_of script.now) asked.now.task asked.now.area)
         (λ end. (end ≤ length script.now)

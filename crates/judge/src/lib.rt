@@ -7,7 +7,7 @@ ghost use Rattle.mvs_model.specs.Lines.{lines_of};
 ghost use Rattle.mvs_model.specs.Runs.{IsPrinting};
 ghost use Rattle.judge.specs.Deciding.{finding_of};
 ghost use Rattle.judge.specs.Excluding.{IsRuling, PartsAt};
-ghost use Rattle.judge.specs.Judging.{IsAsked, IsFound, IsListAt};
+ghost use Rattle.judge.specs.Judging.{GrantsAreShown, IsFound, IsListAt};
 
 mod answers;
 mod certain;
@@ -55,7 +55,7 @@ pub struct Judgement {
 }
 
 // Returns the hints for the remaining lines, if they matter, and those for parts of pools from their cells, if that is requested.
-fn told_if(
+fn hints_if(
     matters: bool,
     alloc: Global,
     first_number: u32,
@@ -96,7 +96,7 @@ fn judge_run(
         (λ j. IsFound script.now output.now j.text.items j.outcome j.finding) }
     // Where the script asks for each area, and for each of a list, it is accepted or refused, or left open at a list.
     ensures decided { IfOk result
-        (λ j. IsAsked (lines_of script.now)
+        (λ j. GrantsAreShown (lines_of script.now)
         → (n : ℕ) → j.finding ≡ Finding.Undecided n → IsListAt (lines_of script.now) n) }
     ensures run { IfOk result (λ j. IsPrinting script.now j.text.items j.outcome) }
     ensures agrees { IfOk result
@@ -116,7 +116,7 @@ fn judge_run(
     }
     let line_number = followed.open_line;
     let left = &script[followed.at..];
-    let Ok(told) = told_if(
+    let Ok(told) = hints_if(
         followed.passes,
         alloc,
         walk.number(),
@@ -172,7 +172,7 @@ fn settle(
     requires short { length script.now ≤ most_script_bytes }
     requires found { IsFound script.now output.now judgement.text.items judgement.outcome
         judgement.finding }
-    requires decided { IsAsked (lines_of script.now)
+    requires decided { GrantsAreShown (lines_of script.now)
         → (n : ℕ) → judgement.finding ≡ Finding.Undecided n
         → IsListAt (lines_of script.now) n }
     requires run { IsPrinting script.now judgement.text.items judgement.outcome }
@@ -180,7 +180,7 @@ fn settle(
     ensures found { IfOk result
         (λ j. IsFound script.now output.now j.text.items j.outcome j.finding) }
     ensures decided { IfOk result
-        (λ j. IsAsked (lines_of script.now)
+        (λ j. GrantsAreShown (lines_of script.now)
         → (n : ℕ) → j.finding ≡ Finding.Undecided n → IsListAt (lines_of script.now) n) }
     ensures run { IfOk result (λ j. IsPrinting script.now j.text.items j.outcome) }
     ensures agrees { IfOk result
@@ -221,7 +221,7 @@ pub fn judge(alloc: Global, script: &[u8], output: &[u8]) -> Result<Judgement, R
         (λ j. IsFound script.now output.now j.text.items j.outcome j.finding) }
     // Where the script asks for each area, and for each of a list, it is accepted or refused, or left open at a list.
     ensures decided { IfOk result
-        (λ j. IsAsked (lines_of script.now)
+        (λ j. GrantsAreShown (lines_of script.now)
         → (n : ℕ) → j.finding ≡ Finding.Undecided n → IsListAt (lines_of script.now) n) }
     ensures run { IfOk result (λ j. IsPrinting script.now j.text.items j.outcome) }
     ensures agrees { IfOk result

@@ -2,7 +2,7 @@
 
 ghost use Rattle.std.specs.Prelude.{◌≡◌, [], false, true, IfOk};
 ghost use Rattle.mvs_model.specs.Answers.{Abended};
-ghost use Rattle.mvs_model.specs.Lent.{lends, lent};
+ghost use Rattle.mvs_model.specs.FullAnswers.{has_long_data, full_answer};
 ghost use Rattle.mvs_model.specs.State.{State};
 ghost use Rattle.mvs_model.specs.Texts.{answer_text};
 ghost use Rattle.judge.specs.Deciding.{BeginsBy, OpensList};
@@ -25,10 +25,10 @@ fn begins_so(
     answer: &Answer,
     text: &[u8],
 ) -> Result<bool, OutOfMemory>
-    requires { lends answer.now ≡ false }
+    requires { has_long_data answer.now ≡ false }
     ensures { IfOk result
         (λ b. (st : State) → BeginsBy text.now
-        (answer_text line_number task.now (lent st [] task.now answer.now)) b) }
+        (answer_text line_number task.now (full_answer st [] task.now answer.now)) b) }
 {
     let printed = print_answer(Vec::new(alloc), line_number, task, answer)?;
     Ok(begins(text, printed.as_slice()))

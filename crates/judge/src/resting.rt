@@ -2,7 +2,7 @@
 
 ghost use Rattle.std.specs.Prelude.{◌≡◌, ◌<◌, ◌+◌, ◌^◌, ◌++◌, List, ℕ, IfOk, length};
 ghost use Rattle.mvs_model.specs.Runs.{IsPrinting};
-ghost use Rattle.judge.specs.Deciding.{Stands};
+ghost use Rattle.judge.specs.Deciding.{HasReached};
 
 use mvs_job::{Told, Walk, line_end, print_closing, run_line};
 use mvs_model::error::OutOfMemory;
@@ -24,7 +24,7 @@ pub fn run_rest(
     text: Vec<u8>,
 ) -> Result<Ran, OutOfMemory>
     requires { walk.number + length script.now + 1 < 2 ^ 32 }
-    ensures run { (whole : List ℕ) → Stands whole text.items walk script.now
+    ensures run { (whole : List ℕ) → HasReached whole text.items walk script.now
         → IfOk result (λ ran. IsPrinting whole ran.text.items ran.outcome) }
     ensures grown { IfOk result
         (λ ran. (more : List ℕ) × (ran.text.items ≡ text.items ++ more)) }

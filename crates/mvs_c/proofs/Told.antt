@@ -1,7 +1,7 @@
 -- What is printed of what was told last.
 use Rattle.std.proofs.Common.{◌≡◌, ◌≢◌, ℕ, List, [], ◌∷◌, ◌++◌, Bool, Option, Some, None, arith}
 use Rattle.mvs_model.specs.Answers.{Event}
-use Rattle.mvs_job.specs.Telling.{ended}
+use Rattle.mvs_job.specs.LineEvents.{ended}
 use Rattle.mvs_c.specs.Exports.{HandsOver}
 
 -- the end of a step and another event are not nothing

@@ -3,7 +3,7 @@ use Rattle.std.proofs.Common.{◌≡◌, ℕ, false, List, Option, Some, None, a
 use Rattle.mvs_model.specs.Job.{JobValue}
 use Rattle.mvs_model.specs.Place.{PlaceValue}
 use Rattle.mvs_model.specs.declared.request.Reply.{Reply}
-use Rattle.mvs_job.specs.Telling.{WalkValue}
+use Rattle.mvs_job.specs.LineEvents.{WalkValue}
 use Rattle.mvs_job.specs.Valued.{WritesOf}
 
 pub unwritten : (step : Option JobValue) (number : ℕ) (reply : Reply) (p : PlaceValue) (bytes : List ℕ) (new : WalkValue)

@@ -12,9 +12,9 @@ use Rattle.mvs_model.specs.Place.{IsPlace, place_at}
 use Rattle.request_forms.specs.Reports.{HasNone, IsMapEnd, IsMapRun, IsSubpoolLine}
 use Rattle.mvs_c.specs.declared.access.Subpool.{Subpool}
 use Rattle.mvs_c.specs.declared.access.Run.{Run}
-use Rattle.mvs_job.specs.Telling.{WalkValue}
+use Rattle.mvs_job.specs.LineEvents.{WalkValue}
 use Rattle.mvs_job.specs.Valued.{WritesOf}
-use Rattle.mvs_c.specs.Asks.{IsNamed, name_said}
+use Rattle.mvs_c.specs.Asks.{IsNamed, name_value}
 use Rattle.mvs_c.specs.Opens.{OpenValue, without_line}
 
 -- P holds of the step that runs, and one does.
@@ -37,10 +37,10 @@ pub record Reads (o : OpenValue) (address : ℕ) (before after : List ℕ) (stat
 
 -- Bytes are written from an address on; or the job has ended, or one of them may not be written, and all stays as it was.
 pub record WritesAt (old : OpenValue) (address : ℕ) (bytes : List ℕ) (new : OpenValue) (status : ℕ) : Type 0 where
-  pub over : old.session.goes_on ≡ false → (new ≡ old) × (status ≡ 24)
-  pub written : old.session.goes_on ≡ true → MayRead old address (length bytes)
+  pub over : old.session.continues ≡ false → (new ≡ old) × (status ≡ 24)
+  pub written : old.session.continues ≡ true → MayRead old address (length bytes)
       → (later : WalkValue) × WritesOf old.session.walk (place_at address (length bytes)) bytes true later × (new ≡ without_line later) × (status ≡ 0)
-  pub refused : old.session.goes_on ≡ true → (MayRead old address (length bytes) → ⊥) → (new ≡ old) × (status ≡ 36)
+  pub refused : old.session.continues ≡ true → (MayRead old address (length bytes) → ⊥) → (new ≡ old) × (status ≡ 36)
 
 -- One of several things is returned, or there is none, and nothing changes.
 abbrev pub TellsOne : {X Y : Type 0} → Option X → (X → Y) → Y → Y → ℕ → Type 0
@@ -54,32 +54,32 @@ abbrev pub run_bytes : ℕ
 run_bytes = 28
 
 -- a line of REPORT SP
-abbrev pub subpool_told : SubpoolLine → Subpool
-subpool_told l = record { size = subpool_bytes; number = l.number; owned = l.owned; plain = l.plain; pool = l.pool }
+abbrev pub subpool_value : SubpoolLine → Subpool
+subpool_value l = record { size = subpool_bytes; number = l.number; owned = l.owned; plain = l.plain; pool = l.pool }
 
 -- A task of this name is active in the step that runs.
 abbrev pub IsActive : OpenValue → List ℕ → Type 0
-IsActive o name = IsNamed name × InStep o (λ job. is_active job.state.owners (name_said name) ≡ true)
+IsActive o name = IsNamed name × InStep o (λ job. is_active job.state.owners (name_value name) ≡ true)
 
 -- What is found of the first number, at or after one, that a task has; or there is no such task.
 pub record FindsSubpool (o : OpenValue) (name : List ℕ) (from : ℕ) (found : Result SubpoolLine ℕ) : Type 0 where
-  pub active : IsActive o name → InStep o (λ job. MatchResult found (IsSubpoolLine job.state (name_said name) from)
-      (λ status. (status ≡ 40) × HasNone job.state.owners (name_said name) from subpool_numbers))
+  pub active : IsActive o name → InStep o (λ job. MatchResult found (IsSubpoolLine job.state (name_value name) from)
+      (λ status. (status ≡ 40) × HasNone job.state.owners (name_value name) from subpool_numbers))
   pub unknown : (IsActive o name → ⊥) → found ≡ Err 48
 
 -- The line that is found is returned, or nothing changes.
 abbrev pub AnswersSubpool : OpenValue → List ℕ → ℕ → Subpool → Subpool → ℕ → Type 0
 AnswersSubpool o name from before after status = (found : Result SubpoolLine ℕ) × FindsSubpool o name from found
-    × MatchResult found (λ l. (after ≡ subpool_told l) × (status ≡ 0)) (λ refused. (after ≡ before) × (status ≡ refused))
+    × MatchResult found (λ l. (after ≡ subpool_value l) × (status ≡ 0)) (λ refused. (after ≡ before) × (status ≡ refused))
 
 -- what pages are assigned to: nothing; or the number and the owner of a subpool
-abbrev pub holder_told : ℕ → ℕ → Option (ℕ × Name) → Run
-holder_told addr len None = record { size = run_bytes; address = addr; length = len; assigned = false; number = 0; owner = replicate 8 32 }
-holder_told addr len (Some label) = record { size = run_bytes; address = addr; length = len; assigned = true; number = label.0; owner = label.1 }
+abbrev pub holder_value : ℕ → ℕ → Option (ℕ × Name) → Run
+holder_value addr len None = record { size = run_bytes; address = addr; length = len; assigned = false; number = 0; owner = replicate 8 32 }
+holder_value addr len (Some label) = record { size = run_bytes; address = addr; length = len; assigned = true; number = label.0; owner = label.1 }
 
 -- a line of REPORT MAP
-abbrev pub run_told : Pages → Run
-run_told p = holder_told p.addr p.len p.holder
+abbrev pub run_value : Pages → Run
+run_value p = holder_value p.addr p.len p.holder
 
 -- What is found of the first run of pages at or after an address.
 pub record FindsRun (o : OpenValue) (from : ℕ) (found : Option Pages) : Type 0 where

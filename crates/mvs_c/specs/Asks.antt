@@ -40,8 +40,8 @@ form_numbered n = unwrap_or (slice_get forms n) None
 abbrev pub locations : List Loc
 locations = loc.Res ∷ loc.Below ∷ loc.Any ∷ []
 
-abbrev pub location_said : ℕ → Loc
-location_said n = unwrap_or (slice_get locations n) loc.Res
+abbrev pub location_value : ℕ → Loc
+location_value n = unwrap_or (slice_get locations n) loc.Res
 
 -- how many lengths a form takes: one; the greatest and the least; or either
 abbrev pub takes_least : Form → Bool
@@ -141,12 +141,12 @@ abbrev pub or_else : ℕ → ℕ → ℕ
 or_else n other = if n == 0 then other else n
 
 -- the exponent of the boundary not to cross; 0 is none
-abbrev pub within_said : ℕ → Option ℕ
-within_said n = if n == 0 then None else Some n
+abbrev pub within_value : ℕ → Option ℕ
+within_value n = if n == 0 then None else Some n
 
 -- what is asked for by an obtain: with no least length the greatest one is the least, and with no boundary it is a doubleword
-abbrev pub ask_said : Ask → AskValue
-ask_said a = record { least = or_else a.least a.length; most = a.length; start = or_else a.boundary 3; within = within_said a.within; loc = location_said a.location }
+abbrev pub ask_value : Ask → AskValue
+ask_value a = record { least = or_else a.least a.length; most = a.length; start = or_else a.boundary 3; within = within_value a.within; loc = location_value a.location }
 
 -- a name of eight bytes ends before the first blank or zero byte
 abbrev pub ends_name : ℕ → Bool
@@ -155,17 +155,17 @@ ends_name b = (b == 0) || (b == 32)
 abbrev pub name_text : List ℕ → List ℕ
 name_text bytes = take (position_or_len ends_name bytes) bytes
 
-abbrev pub name_said : List ℕ → Name
-name_said bytes = padded (name_text bytes)
+abbrev pub name_value : List ℕ → Name
+name_value bytes = padded (name_text bytes)
 
 -- what an attaching task gives and shares
-abbrev pub gifts_said : Ask → GiftsValue
-gifts_said a = record { given = a.given_low + 2 ^ 64 * a.given_high; shared = a.shared_low + 2 ^ 64 * a.shared_high; zero = not a.keeps_zero }
+abbrev pub gifts_value : Ask → GiftsValue
+gifts_value a = record { given = a.given_low + 2 ^ 64 * a.given_high; shared = a.shared_low + 2 ^ 64 * a.shared_high; zero = not a.keeps_zero }
 
 -- where a program resides
-abbrev pub residence_said : Bool → Residence
-residence_said false = residence.Below
-residence_said true = residence.Above
+abbrev pub residence_value : Bool → Residence
+residence_value false = residence.Below
+residence_value true = residence.Above
 
 -- The text is a name as a script has them.
 abbrev pub IsNamed : List ℕ → Type 0
@@ -192,24 +192,24 @@ abbrev pub IsStart : Form → ℕ → Type 0
 IsStart form n = IsExponent (or_else n 3) × (is_located form ≡ false → (or_else n 3 ≡ 3) ⊎ (n ≡ 12))
 
 abbrev pub IsWithin : Form → ℕ → Type 0
-IsWithin form n = IfSome (within_said n) IsExponent × (is_located form ≡ false → n ≡ 0)
+IsWithin form n = IfSome (within_value n) IsExponent × (is_located form ≡ false → n ≡ 0)
 
 abbrev pub IsLocation : Form → ℕ → Type 0
 IsLocation form n = (n < 3) × (is_located form ≡ false → n ≡ 0)
 
 -- the form of a number; of a number that is none the first one
-abbrev pub form_said : ℕ → Form
-form_said n = unwrap_or (form_numbered n) R
+abbrev pub form_value : ℕ → Form
+form_value n = unwrap_or (form_numbered n) R
 
 -- The field of a request of this kind is in its range. A field that the kind does not read is not looked at.
 abbrev pub Fits : Kind → Ask → Field → Type 0
 Fits Obtain a field.Form = TakesForm obtains_one a.form
 Fits Obtain a field.Subpool = a.subpool < 256
 Fits Obtain a field.Length = IsLength a.length
-Fits Obtain a field.Least = IsLeast (form_said a.form) a.length a.least
-Fits Obtain a field.Boundary = IsStart (form_said a.form) a.boundary
-Fits Obtain a field.Within = IsWithin (form_said a.form) a.within
-Fits Obtain a field.Location = IsLocation (form_said a.form) a.location
+Fits Obtain a field.Least = IsLeast (form_value a.form) a.length a.least
+Fits Obtain a field.Boundary = IsStart (form_value a.form) a.boundary
+Fits Obtain a field.Within = IsWithin (form_value a.form) a.within
+Fits Obtain a field.Location = IsLocation (form_value a.form) a.location
 Fits Release a field.Form = TakesForm releases_one a.form
 Fits Release a field.Subpool = a.subpool < 256
 Fits Release a field.Length = IsLength a.length
@@ -227,7 +227,7 @@ Fits Free a field.Name = IsNamed a.name
 Fits Free a field.Address = a.address < 2 ^ 31
 Fits Delete a field.Name = IsNamed a.name
 Fits Attach a field.Name = IsNamed a.name
-Fits Attach a field.Subpools = IsGifts (gifts_said a)
+Fits Attach a field.Subpools = IsGifts (gifts_value a)
 Fits Abend a field.Code = a.code < 4096
 Fits Show a field.Address = a.address < 2 ^ 31
 Fits Show a field.Length = (1 ≤ a.length) × (a.length ≤ most_shown)
@@ -257,23 +257,23 @@ FitsOr fits [] wanted r = r ≡ Ok wanted
 FitsOr fits (f ∷ fs) wanted r = (fits f → FitsOr fits fs wanted r) × ((fits f → ⊥) → r ≡ Err f)
 
 -- the request that a struct of a kind asks for, if its fields fit
-abbrev pub request_said : Kind → Ask → Request
-request_said Obtain a = request.Obtain (form_said a.form) a.subpool (ask_said a)
-request_said Release a = request.Release (form_said a.form) a.subpool (place_at a.address a.length)
-request_said ReleaseWhole a = request.ReleaseWhole (form_said a.form) a.subpool
-request_said Build a = request.Build (name_said a.name) a.subpool a.length a.primary (or_else a.secondary a.primary) (location_said a.location)
-request_said Get a = request.Get (name_said a.name) a.conditional
-request_said Free a = request.Free (name_said a.name) a.address
-request_said Delete a = request.Delete (name_said a.name)
-request_said Attach a = request.Attach (name_said a.name) (gifts_said a) (residence_said a.above)
-request_said Return a = request.Return
-request_said Abend a = request.Abend a.code
-request_said Show a = request.Show a.address a.length
-request_said Move a = request.Move a.address a.source a.length
+abbrev pub request_value : Kind → Ask → Request
+request_value Obtain a = request.Obtain (form_value a.form) a.subpool (ask_value a)
+request_value Release a = request.Release (form_value a.form) a.subpool (place_at a.address a.length)
+request_value ReleaseWhole a = request.ReleaseWhole (form_value a.form) a.subpool
+request_value Build a = request.Build (name_value a.name) a.subpool a.length a.primary (or_else a.secondary a.primary) (location_value a.location)
+request_value Get a = request.Get (name_value a.name) a.conditional
+request_value Free a = request.Free (name_value a.name) a.address
+request_value Delete a = request.Delete (name_value a.name)
+request_value Attach a = request.Attach (name_value a.name) (gifts_value a) (residence_value a.above)
+request_value Return a = request.Return
+request_value Abend a = request.Abend a.code
+request_value Show a = request.Show a.address a.length
+request_value Move a = request.Move a.address a.source a.length
 
 -- The request of a struct of this kind, or the first field that does not fit.
 pub record AsksOf (k : Kind) (a : Ask) (r : Result Request Field) : Type 0 where
-  pub first : FitsOr (Fits k a) (reads k) (request_said k a) r
+  pub first : FitsOr (Fits k a) (reads k) (request_value k a) r
 
 -- The number of bytes of a struct, which it has to have in its own field.
 abbrev pub ask_bytes : ℕ
@@ -295,7 +295,7 @@ FitsTask a f = Unit {0}
 
 -- the task that is named, if the size and its name fit
 abbrev pub NamesTask : Ask → Result Name Field → Type 0
-NamesTask a r = FitsOr (FitsTask a) (field.Size ∷ field.Task ∷ []) (name_said a.task) r
+NamesTask a r = FitsOr (FitsTask a) (field.Size ∷ field.Task ∷ []) (name_value a.task) r
 
 -- a request with its task
 abbrev pub with_task : Name → Result Request Field → Result (Name × Request) Field

@@ -7,11 +7,11 @@ use Rattle.mvs_model.specs.declared.outcome.Outcome.TheVariants.{Clean, SomeAben
 use Rattle.mvs_model.specs.Memory.{StopsForMemory}
 use Rattle.mvs_model.specs.Runs.{machine}
 use Rattle.mvs_model.specs.Walk.{Closes}
-use Rattle.mvs_job.specs.declared.walk.LineTold.{LineTold}
-use Rattle.mvs_job.specs.declared.walk.LineTold.TheVariants as told
+use Rattle.mvs_job.specs.declared.walk.LineEvent.{LineEvent}
+use Rattle.mvs_job.specs.declared.walk.LineEvent.TheVariants as told
 use Rattle.mvs_job.specs.declared.walk.Stopped.{Stopped}
 use Rattle.mvs_job.specs.declared.walk.Closing.{Closing}
-use Rattle.mvs_job.specs.Telling.{WalkValue, IsTold, KeepsReplyOf, closing, ended, goes_on}
+use Rattle.mvs_job.specs.LineEvents.{WalkValue, ServesAs, KeepsReplyOf, closing, ended, continues}
 use Rattle.mvs_job.specs.Valued.{RequestsOf}
 use Rattle.mvs_c.specs.declared.event.Event.{Event}
 use Rattle.mvs_c.specs.declared.last.Last.TheVariants as last
@@ -20,7 +20,7 @@ use Rattle.mvs_c.specs.declared.field.Field.{Field}
 use Rattle.mvs_c.specs.declared.list.Area.{Area}
 use Rattle.mvs_c.specs.Asks.{TaskAsks}
 use Rattle.mvs_c.specs.Events.{line_event, end_event, refused_event, reply_event}
-use Rattle.mvs_c.specs.Lists.{AsksList, areas_told, listed}
+use Rattle.mvs_c.specs.Lists.{AsksList, area_values, listed}
 use Rattle.mvs_c.specs.Opens.{OpenValue, TakesLine, fault_of, last_of, without_line}
 
 -- The numbers of the lowest and of the highest place.
@@ -34,7 +34,7 @@ outcome_status SomeAbend = 8
 outcome_status ScriptFault = 12
 
 -- the result of a line: it was executed, or has a fault, or memory is exhausted
-abbrev pub line_status : Result LineTold Stopped → ℕ
+abbrev pub line_status : Result LineEvent Stopped → ℕ
 line_status (Ok (told.Faulted fault)) = 12
 line_status (Ok told) = 0
 line_status (Err stopped) = 16
@@ -45,17 +45,17 @@ WithSession None after none some = (after ≡ None) × none
 WithSession (Some old) after none some = (new : OpenValue) × (after ≡ Some new) × some old new
 
 -- A session executes a line, with these events. The kept reply is that to the request of the line, if it makes one.
-abbrev pub TellsLine : OpenValue → List ℕ → Result LineTold Stopped → OpenValue → Type 0
-TellsLine old line told new =
-    MatchResult told (λ told. IsTold old.session.walk line told new.session.walk)
+abbrev pub ExecutesLine : OpenValue → List ℕ → Result LineEvent Stopped → OpenValue → Type 0
+ExecutesLine old line told new =
+    MatchResult told (λ told. ServesAs old.session.walk line told new.session.walk)
     (λ stopped. StopsForMemory old.session.walk.number old.session.walk.step (line ∷ []) (ended stopped.ended))
-    × (new.session.walk.number ≡ old.session.walk.number + 1) × (new.session.goes_on ≡ goes_on told) × (new.last ≡ last_of old.session.walk.number told)
+    × (new.session.walk.number ≡ old.session.walk.number + 1) × (new.session.continues ≡ continues told) × (new.last ≡ last_of old.session.walk.number told)
     × IfOk told (λ told. KeepsReplyOf old.session.walk line told new.session.walk)
 
 -- The result of a call with a line: the session executes it, or accepts none, and then nothing changes.
 abbrev pub AnswersLine : OpenValue → List ℕ → OpenValue → Event → Event → ℕ → Type 0
 AnswersLine old line new before after status =
-    (TakesLine old.session → (told : Result LineTold Stopped) × TellsLine old line told new × (after ≡ line_event told) × (status ≡ line_status told))
+    (TakesLine old.session → (told : Result LineEvent Stopped) × ExecutesLine old line told new × (after ≡ line_event told) × (status ≡ line_status told))
     × ((TakesLine old.session → ⊥) → (new ≡ old) × (after ≡ before) × (status ≡ 24))
 
 -- The result of a call that tries a line: one with a fault changes nothing but the event, and any other is executed.
@@ -70,35 +70,35 @@ Leaves old new before after status answered = (new ≡ old) × (after ≡ before
 
 -- A session executes a request that is given by values. If a field does not fit, or no step runs, nothing changes but the event that
 -- names the field.
-abbrev pub AnswersAsked : OpenValue → Result (Name × Request) Field → OpenValue → Event → Event → ℕ → Type 0
-AnswersAsked old (Err f) new before after status = (new ≡ old) × (after ≡ refused_event f) × (status ≡ 52)
-AnswersAsked old (Ok asked) new before after status = MatchOption old.session.walk.step
+abbrev pub AnswersValues : OpenValue → Result (Name × Request) Field → OpenValue → Event → Event → ℕ → Type 0
+AnswersValues old (Err f) new before after status = (new ≡ old) × (after ≡ refused_event f) × (status ≡ 52)
+AnswersValues old (Ok asked) new before after status = MatchOption old.session.walk.step
     (Leaves old new before after 56 status)
     (λ _. (later : WalkValue) × RequestsOf old.session.walk asked.0 asked.1 true later × (new ≡ without_line later) × (after ≡ reply_event asked.0 later.reply) × (status ≡ 0))
 
 -- What a call answers that gives a session a request by values, of those that a struct may ask for: a job that has ended takes none.
 abbrev pub AnswersRequest : OpenValue → Ask → (Result Request Field → Type 0) → OpenValue → Event → Event → ℕ → Type 0
-AnswersRequest old a asks new before after status = MatchBool old.session.goes_on
-    ((asked : Result (Name × Request) Field) × TaskAsks a asks asked × AnswersAsked old asked new before after status)
+AnswersRequest old a asks new before after status = MatchBool old.session.continues
+    ((asked : Result (Name × Request) Field) × TaskAsks a asks asked × AnswersValues old asked new before after status)
     (Leaves old new before after 24 status)
 
 -- The result of a call with a list request: the same as for one area, and the granted places are returned.
 abbrev pub AnswersList : OpenValue → Ask → List Area → OpenValue → List Area → Event → Event → ℕ → Type 0
 AnswersList old a areas new told before after status =
     AnswersRequest old a (AsksList a areas) new before after status
-    × (status ≡ 0 → told ≡ areas_told (listed new.session.walk.reply) areas) × (status ≢ 0 → told ≡ areas)
+    × (status ≡ 0 → told ≡ area_values (listed new.session.walk.reply) areas) × (status ≢ 0 → told ≡ areas)
 
 -- A session ends its job so.
-abbrev pub TellsEnd : OpenValue → Closing → OpenValue → Type 0
-TellsEnd old end new =
+abbrev pub EndsJob : OpenValue → Closing → OpenValue → Type 0
+EndsJob old end new =
     Closes machine old.session.walk.number old.session.walk.step (closing old.session.walk.number end.ended) end.outcome
-    × (new ≡ record { session = record { walk = old.session.walk; goes_on = false }; last = last.Closed old.session.walk.number end.ended })
+    × (new ≡ record { session = record { walk = old.session.walk; continues = false }; last = last.Closed old.session.walk.number end.ended })
 
 -- The result of a call that ends a job.
 abbrev pub AnswersEnd : OpenValue → OpenValue → Event → Event → ℕ → Type 0
 AnswersEnd old new before after status =
-    (old.session.goes_on ≡ true → (end : Closing) × TellsEnd old end new × (after ≡ end_event end.ended) × (status ≡ outcome_status end.outcome))
-    × (old.session.goes_on ≡ false → (new ≡ old) × (after ≡ before) × (status ≡ 24))
+    (old.session.continues ≡ true → (end : Closing) × EndsJob old end new × (after ≡ end_event end.ended) × (status ≡ outcome_status end.outcome))
+    × (old.session.continues ≡ false → (new ≡ old) × (after ≡ before) × (status ≡ 24))
 
 -- Some bytes are returned in a buffer, at its front, with this status; or it is too small for them, and does not change. Their
 -- number is returned.

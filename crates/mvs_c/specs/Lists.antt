@@ -15,7 +15,7 @@ use Rattle.mvs_c.specs.declared.ask.Kind.TheVariants.{Obtain, Release, ReleaseWh
 use Rattle.mvs_c.specs.declared.field.Field.{Field}
 use Rattle.mvs_c.specs.declared.field.Field.TheVariants as field
 use Rattle.mvs_c.specs.declared.list.Area.{Area}
-use Rattle.mvs_c.specs.Asks.{AsksFor, FitsOr, IsLength, TakesForm, form_said, kind_numbered, or_else}
+use Rattle.mvs_c.specs.Asks.{AsksFor, FitsOr, IsLength, TakesForm, form_value, kind_numbered, or_else}
 
 -- whether a form is that of a list
 abbrev pub is_list_form : Form → Bool
@@ -64,11 +64,11 @@ FitsRelease a areas f = Unit {0}
 -- The list request that obtains, or releases, these areas, or the first field that does not fit.
 pub record ObtainsList (a : Ask) (areas : List Area) (r : Result Request Field) : Type 0 where
   pub first : FitsOr (FitsObtain a areas) (field.Form ∷ field.Subpool ∷ field.Boundary ∷ field.Areas ∷ [])
-      (ObtainList (form_said a.form) a.subpool (map (λ x. x.length) areas) (or_else a.boundary 3)) r
+      (ObtainList (form_value a.form) a.subpool (map (λ x. x.length) areas) (or_else a.boundary 3)) r
 
 pub record ReleasesList (a : Ask) (areas : List Area) (r : Result Request Field) : Type 0 where
   pub first : FitsOr (FitsRelease a areas) (field.Form ∷ field.Subpool ∷ field.Areas ∷ [])
-      (ReleaseList (form_said a.form) a.subpool (map (λ x. place_at x.address x.length) areas)) r
+      (ReleaseList (form_value a.form) a.subpool (map (λ x. place_at x.address x.length) areas)) r
 
 -- The same of a struct of any kind; the other kinds have no lists.
 abbrev pub AsksOfList : Ask → List Area → Kind → Result Request Field → Type 0
@@ -94,7 +94,7 @@ listed (Listed ps) = ps
 listed _ = []
 
 -- the areas of a list, with these places in place of the first ones
-abbrev pub areas_told : List PlaceValue → List Area → List Area
-areas_told [] areas = areas
-areas_told (p ∷ ps) [] = []
-areas_told (p ∷ ps) (a ∷ areas) = record { address = p.addr; length = p.len } ∷ areas_told ps areas
+abbrev pub area_values : List PlaceValue → List Area → List Area
+area_values [] areas = areas
+area_values (p ∷ ps) [] = []
+area_values (p ∷ ps) (a ∷ areas) = record { address = p.addr; length = p.len } ∷ area_values ps areas

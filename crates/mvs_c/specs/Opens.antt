@@ -6,10 +6,10 @@ use Rattle.mvs_model.specs.Answers.{Event}
 use Rattle.mvs_model.specs.Reading.{checks, first_of}
 use Rattle.mvs_model.specs.Texts.{printing}
 use Rattle.mvs_model.specs.Walk.{is_first}
-use Rattle.mvs_job.specs.declared.walk.LineTold.{LineTold}
+use Rattle.mvs_job.specs.declared.walk.LineEvent.{LineEvent}
 use Rattle.mvs_job.specs.declared.walk.Stopped.{Stopped}
 use Rattle.mvs_job.specs.Sessions.{SessionValue, session_code, new_session}
-use Rattle.mvs_job.specs.Telling.{WalkValue, IsLent, events_told, ended, closing}
+use Rattle.mvs_job.specs.LineEvents.{WalkValue, IsAvailable, events_of_line, ended, closing}
 use Rattle.mvs_c.specs.declared.last.Last.{Last}
 use Rattle.mvs_c.specs.declared.last.Last.TheVariants as last
 use Rattle.mvs_c.specs.contracts.last.Last.{the_row}
@@ -30,7 +30,7 @@ new_open = record { session = new_session; last = last.Nothing }
 -- the last events
 abbrev pub events_of : WalkValue → Last → List Event
 events_of w last.Nothing = []
-events_of w (last.Line number told) = events_told number w told
+events_of w (last.Line number told) = events_of_line number w told
 events_of w (last.Stopped end) = ended end
 events_of w (last.Closed number end) = closing number end
 
@@ -40,15 +40,15 @@ text_of o = printing (events_of o.session.walk o.last)
 
 -- a session that continues, with its job in this state and no event of a line
 abbrev pub without_line : WalkValue → OpenValue
-without_line w = record { session = record { walk = w; goes_on = true }; last = last.Nothing }
+without_line w = record { session = record { walk = w; continues = true }; last = last.Nothing }
 
 -- The session has the long data of its last event.
-abbrev pub LendsLast : WalkValue → Last → Type 0
-LendsLast w (last.Line number told) = IsLent w told
-LendsLast w _ = Unit {0}
+abbrev pub LastIsAvailable : WalkValue → Last → Type 0
+LastIsAvailable w (last.Line number told) = IsAvailable w told
+LastIsAvailable w _ = Unit {0}
 
 -- the events of the line with this number
-abbrev pub last_of : ℕ → Result LineTold Stopped → Last
+abbrev pub last_of : ℕ → Result LineEvent Stopped → Last
 last_of number (Ok told) = last.Line number told
 last_of number (Err stopped) = last.Stopped stopped.ended
 
@@ -58,4 +58,4 @@ fault_of o line = first_of (checks (is_first o.session.walk.step) line)
 
 -- The job has not ended, and there is a number for the line after the next.
 abbrev pub TakesLine : SessionValue → Type 0
-TakesLine s = (s.goes_on ≡ true) × (s.walk.number + 1 < 2 ^ 32)
+TakesLine s = (s.continues ≡ true) × (s.walk.number + 1 < 2 ^ 32)

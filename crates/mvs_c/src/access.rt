@@ -1,10 +1,10 @@
 //! What C reads of the step that runs: bytes, and the lines of the reports.
 
 ghost use Rattle.std.specs.Prelude.{◌≡◌, ◌≢◌, ◌<◌, ◌≤◌, ◌^◌, Option, MatchBool, MatchOption, slice_get};
-ghost use Rattle.mvs_model.specs.Lent.{fallen_in};
+ghost use Rattle.mvs_model.specs.FullAnswers.{ended_with_in};
 ghost use Rattle.mvs_model.specs.Place.{IsPlace, place_at};
 ghost use Rattle.mvs_model.specs.declared.report.MapRun.{MapRun};
-ghost use Rattle.mvs_c.specs.Access.{AnswersSubpool, FindsRun, FindsSubpool, Reads, TellsOne, WritesAt, run_bytes, run_told, subpool_bytes};
+ghost use Rattle.mvs_c.specs.Access.{AnswersSubpool, FindsRun, FindsSubpool, Reads, TellsOne, WritesAt, run_bytes, run_value, subpool_bytes};
 
 use crate::ask::name_of;
 use crate::open::Open;
@@ -112,7 +112,7 @@ pub fn read(held: &Open, address: u32, out: &mut [u8]) -> u32
 pub fn write(held: &mut Open, address: u32, bytes: &[u8]) -> u32
     ensures { WritesAt held.old address bytes.now held.new result }
 {
-    if !held.goes_on() {
+    if !held.continues() {
         return OVER;
     }
     let Some(place) = place_of(address, bytes.len()) else {
@@ -126,8 +126,8 @@ pub fn write(held: &mut Open, address: u32, bytes: &[u8]) -> u32
 }
 
 /// Copies the name of one of the tasks that ended with the one that abended last.
-pub fn tell_fallen(held: &Open, index: usize, name: &mut [u8; 8]) -> u32
-    ensures { TellsOne (slice_get (fallen_in held.now.session.walk.reply) index) (λ t. t) name.old name.new
+pub fn copy_ended_with(held: &Open, index: usize, name: &mut [u8; 8]) -> u32
+    ensures { TellsOne (slice_get (ended_with_in held.now.session.walk.reply) index) (λ t. t) name.old name.new
         result }
 {
     match held.fallen().get(index) {
@@ -159,7 +159,7 @@ fn find_subpool(held: &Open, name: &[u8; 8], from: u8) -> Result<SubpoolLine, u3
 }
 
 /// Returns the first subpool number of a task at or after one.
-pub fn tell_subpool(held: &Open, name: &[u8; 8], from: u8, told: &mut Subpool) -> u32
+pub fn copy_subpool(held: &Open, name: &[u8; 8], from: u8, told: &mut Subpool) -> u32
     ensures { AnswersSubpool held.now name.now from told.old told.new result }
 {
     match find_subpool(held, name, from) {
@@ -187,8 +187,8 @@ fn find_run(held: &Open, from: u32) -> Option<MapRun>
 }
 
 // A run of pages, for C.
-fn run_told(run: &MapRun) -> Run
-    ensures { result ≡ run_told run.now }
+fn run_value(run: &MapRun) -> Run
+    ensures { result ≡ run_value run.now }
 {
     let (assigned, number, owner) = match run.holder {
         Some((number, owner)) => (true, u32::from(number.get()), owner.bytes()),
@@ -205,13 +205,13 @@ fn run_told(run: &MapRun) -> Run
 }
 
 /// Returns the first run of pages at or after an address.
-pub fn tell_run(held: &Open, from: u32, told: &mut Run) -> u32
+pub fn copy_run(held: &Open, from: u32, told: &mut Run) -> u32
     ensures { (found : Option MapRun) × FindsRun held.now from found
-        × TellsOne found run_told told.old told.new result }
+        × TellsOne found run_value told.old told.new result }
 {
     match find_run(held, from) {
         Some(run) => {
-            *told = run_told(&run);
+            *told = run_value(&run);
             OK
         }
         None => NO_MORE,

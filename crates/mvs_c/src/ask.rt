@@ -7,7 +7,7 @@ ghost use Rattle.mvs_model.specs.Numbers.{least_cell_bytes, most_cell_bytes, mos
 ghost use Rattle.mvs_model.specs.Place.{place_at};
 ghost use Rattle.mvs_model.specs.Want.{IsExponent};
 ghost use Rattle.mvs_c.specs.Asks as asks;
-ghost use Rattle.mvs_c.specs.Asks.{Asks, AsksOf, IsCount, IsLeast, IsLength, IsLocation, IsNamed, IsStart, IsWithin, NamesTask, TakesForm, TaskAsks, ends_name, form_numbered, form_said, gifts_said, kind_numbered, location_said, name_said, name_text, or_else, within_said};
+ghost use Rattle.mvs_c.specs.Asks.{Asks, AsksOf, IsCount, IsLeast, IsLength, IsLocation, IsNamed, IsStart, IsWithin, NamesTask, TakesForm, TaskAsks, ends_name, form_numbered, form_value, gifts_value, kind_numbered, location_value, name_value, name_text, or_else, within_value};
 ghost use Rattle.mvs_c.specs.declared.ask.Kind.TheVariants as kind;
 
 use crate::field::Field;
@@ -184,7 +184,7 @@ fn is_located(form: Form) -> bool
 
 // The form of an obtain.
 fn obtaining(number: u32) -> Option<Form>
-    ensures { SomeIff result (TakesForm asks.obtains_one number) (form_said number) }
+    ensures { SomeIff result (TakesForm asks.obtains_one number) (form_value number) }
 {
     match form_of(number)? {
         Form::Lc | Form::Lu => None,
@@ -194,7 +194,7 @@ fn obtaining(number: u32) -> Option<Form>
 
 // The form of a release of one area.
 fn releasing(number: u32) -> Option<Form>
-    ensures { SomeIff result (TakesForm asks.releases_one number) (form_said number) }
+    ensures { SomeIff result (TakesForm asks.releases_one number) (form_value number) }
 {
     match form_of(number)? {
         Form::Vrc | Form::Vru | Form::Lc | Form::Lu => None,
@@ -204,7 +204,7 @@ fn releasing(number: u32) -> Option<Form>
 
 // The form of a release of a whole subpool.
 fn releasing_whole(number: u32) -> Option<Form>
-    ensures { SomeIff result (TakesForm asks.releases_whole number) (form_said number) }
+    ensures { SomeIff result (TakesForm asks.releases_whole number) (form_value number) }
 {
     match form_of(number)? {
         form @ (Form::R | Form::Rc | Form::Ru | Form::Storage | Form::StorageConditional) => {
@@ -217,14 +217,14 @@ fn releasing_whole(number: u32) -> Option<Form>
 
 // A location.
 fn location_of(number: u32) -> Option<Loc>
-    ensures { SomeIff result (number < 3) (location_said number) }
+    ensures { SomeIff result (number < 3) (location_value number) }
 {
     LOCATIONS.get(number as usize).copied()
 }
 
 // The location of an obtain of a form.
 fn location_in(form: Form, number: u32) -> Option<Loc>
-    ensures { SomeIff result (IsLocation form number) (location_said number) }
+    ensures { SomeIff result (IsLocation form number) (location_value number) }
 {
     if !is_located(form) && number != 0 {
         return None;
@@ -291,7 +291,7 @@ fn start_in(form: Form, number: u32) -> Option<Exponent>
 
 // The power of two of the boundary that an obtain of a form does not cross, if there is one.
 fn within_in(form: Form, number: u32) -> Option<Option<Exponent>>
-    ensures { SomeIff result (IsWithin form number) (within_said number) }
+    ensures { SomeIff result (IsWithin form number) (within_value number) }
 {
     if number == 0 {
         return Some(None);
@@ -358,7 +358,7 @@ pub fn text_len(bytes: &[u8]) -> usize
 
 // A name of eight bytes, which ends before the first blank or zero byte.
 pub fn name_of(bytes: &[u8; 8]) -> Option<Name>
-    ensures { SomeIff result (IsNamed bytes.now) (name_said bytes.now) }
+    ensures { SomeIff result (IsNamed bytes.now) (name_value bytes.now) }
 {
     let text = &bytes[..text_len(bytes)];
     if is_name(text) {
@@ -378,7 +378,7 @@ fn set_of(low: u64, high: u64) -> u128
 impl Ask {
     // What an attaching task gives and shares.
     fn gifts(&self) -> Option<Gifts>
-        ensures { SomeIff result (IsGifts (gifts_said self.now)) (gifts_said self.now) }
+        ensures { SomeIff result (IsGifts (gifts_value self.now)) (gifts_value self.now) }
     {
         let given = set_of(self.given_low, self.given_high);
         let shared = set_of(self.shared_low, self.shared_high);

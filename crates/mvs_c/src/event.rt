@@ -2,11 +2,11 @@
 
 ghost use Rattle.std.specs.Prelude.{◌≡◌, ◌≢◌, MatchBool, Ok};
 ghost use Rattle.mvs_model.specs.Texts.{fault_number};
-ghost use Rattle.mvs_job.specs.declared.walk.LineTold.TheVariants as told;
+ghost use Rattle.mvs_job.specs.declared.walk.LineEvent.TheVariants as told;
 ghost use Rattle.mvs_c.specs.Events.{answer_event, completion, end_event, event_bytes, line_event, of_kind, of_place, of_task, refused_event, reply_event, step_number};
 
 use crate::field::Field;
-use mvs_job::{LineTold, Stopped};
+use mvs_job::{LineEvent, Stopped};
 use mvs_model::answer::Answer;
 use mvs_model::code::Code;
 use mvs_model::line::Fault;
@@ -180,17 +180,17 @@ pub fn fault_event(fault: Fault) -> Event
 }
 
 /// The event of a line, or that memory is exhausted.
-pub fn line_event(told: &Result<LineTold, Stopped>) -> Event
+pub fn line_event(told: &Result<LineEvent, Stopped>) -> Event
     ensures { result ≡ line_event told.now }
 {
     match told {
-        Ok(LineTold::Nothing) => of_kind(1),
-        Ok(LineTold::Began { ended, card }) => Event {
+        Ok(LineEvent::Nothing) => of_kind(1),
+        Ok(LineEvent::Began { ended, card }) => Event {
             ended: step_number(*ended),
             ..of_task(2, &card.name())
         },
-        Ok(LineTold::Answered { task, answer }) => answer_event(task, answer),
-        Ok(LineTold::Faulted(fault)) => fault_event(*fault),
+        Ok(LineEvent::Answered { task, answer }) => answer_event(task, answer),
+        Ok(LineEvent::Faulted(fault)) => fault_event(*fault),
         Err(stopped) => Event {
             ended: step_number(stopped.ended),
             ..of_kind(19)

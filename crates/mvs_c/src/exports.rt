@@ -1,15 +1,15 @@
 //! The functions that C calls. A handle is taken apart for the time of a call.
 
 ghost use Rattle.std.specs.Prelude.{◌≡◌, ◌≢◌, ◌⊎◌, ◌↔◌, ◌≤◌, ◌<◌, [], Some, None, Option, slice_get, true, false, IfSome, IsSome};
-ghost use Rattle.mvs_model.specs.Lent.{fallen_in};
+ghost use Rattle.mvs_model.specs.FullAnswers.{ended_with_in};
 ghost use Rattle.mvs_model.specs.declared.report.MapRun.{MapRun};
-ghost use Rattle.mvs_c.specs.Access.{AnswersSubpool, FindsRun, Reads, TellsOne, WritesAt, run_bytes, run_told, subpool_bytes};
+ghost use Rattle.mvs_c.specs.Access.{AnswersSubpool, FindsRun, Reads, TellsOne, WritesAt, run_bytes, run_value, subpool_bytes};
 ghost use Rattle.mvs_c.specs.Opens.{TakesLine, events_of, new_open, text_of};
 ghost use Rattle.mvs_c.specs.Asks.{Asks};
 ghost use Rattle.mvs_c.specs.Events.{event_bytes};
 ghost use Rattle.mvs_c.specs.Regions.{region_bytes, region_line};
-ghost use Rattle.mvs_c.specs.Lists.{AsksList, areas_told, listed};
-ghost use Rattle.mvs_c.specs.Exports.{AnswersAsked, AnswersEnd, AnswersLine, AnswersList, AnswersRequest, HandsOver, IsPlaceNumber, TriesLine, WithSession, line_status, outcome_status};
+ghost use Rattle.mvs_c.specs.Lists.{AsksList, area_values, listed};
+ghost use Rattle.mvs_c.specs.Exports.{AnswersValues, AnswersEnd, AnswersLine, AnswersList, AnswersRequest, HandsOver, IsPlaceNumber, TriesLine, WithSession, line_status, outcome_status};
 
 use crate::access::{self, Run, Subpool};
 use crate::ask::Ask;
@@ -17,13 +17,13 @@ use crate::buffer::hand_over;
 use crate::event::{Event, end_event, fault_event, line_event, refused_event, reply_event};
 use crate::field::Field;
 use crate::handle::Handle;
-use crate::list::{Area, tell_listed};
+use crate::list::{Area, write_listed};
 use crate::open::Open;
 use crate::region::Region;
 use crate::status::{
     NO_MEMORY, NO_PLACE, NO_REQUEST, NO_SESSION, NO_STEP, OK, OVER, SCRIPT_FAULT, WRONG_SIZE,
 };
-use mvs_job::{LineTold, Stopped};
+use mvs_job::{LineEvent, Stopped};
 use mvs_model::name::Name;
 use mvs_model::outcome::Outcome;
 use mvs_model::request::Request;
@@ -48,11 +48,11 @@ pub fn outcome_status(outcome: Outcome) -> u32
 }
 
 // The status of a line.
-fn line_status(told: &Result<LineTold, Stopped>) -> u32
+fn line_status(told: &Result<LineEvent, Stopped>) -> u32
     ensures { result ≡ line_status told.now }
 {
     match told {
-        Ok(LineTold::Faulted(_)) => SCRIPT_FAULT,
+        Ok(LineEvent::Faulted(_)) => SCRIPT_FAULT,
         Ok(_) => OK,
         Err(_) => NO_MEMORY,
     }
@@ -86,7 +86,7 @@ fn take_out(alloc: Global, session: &mut Handle) -> Option<Box<Open>>
 }
 
 // Passes a line to a session, if it accepts one.
-fn tell_line(held: &mut Open, line: &[u8], event: &mut Event) -> u32
+fn execute_line(held: &mut Open, line: &[u8], event: &mut Event) -> u32
     ensures { AnswersLine held.old line.now held.new event.old event.new result }
 {
     if !held.takes_line() {
@@ -109,14 +109,14 @@ fn try_line(held: &mut Open, line: &[u8], event: &mut Event) -> u32
             *event = fault_event(fault);
             SCRIPT_FAULT
         }
-        None => tell_line(held, line, event),
+        None => execute_line(held, line, event),
     }
 }
 
 // Passes a request to a session that continues, if there is a request and a step is running.
 fn serve(held: &mut Open, asked: Result<(Name, Request), Field>, event: &mut Event) -> u32
-    requires { held.old.session.goes_on ≡ true }
-    ensures { AnswersAsked held.old asked held.new event.old event.new result }
+    requires { held.old.session.continues ≡ true }
+    ensures { AnswersValues held.old asked held.new event.old event.new result }
 {
     let (task, request) = match asked {
         Ok(asked) => asked,
@@ -133,39 +133,39 @@ fn serve(held: &mut Open, asked: Result<(Name, Request), Field>, event: &mut Eve
 }
 
 // Passes a request to a session, if it continues and a step is running.
-fn tell_request(held: &mut Open, ask: &Ask, event: &mut Event) -> u32
+fn execute_request(held: &mut Open, ask: &Ask, event: &mut Event) -> u32
     ensures { AnswersRequest held.old ask.now (Asks ask.now) held.new event.old event.new result }
 {
-    if !held.goes_on() {
+    if !held.continues() {
         return OVER;
     }
     serve(held, ask.task_request(), event)
 }
 
 // Passes a list request to a session, if it continues and a step is running.
-fn tell_list(held: &mut Open, ask: &Ask, areas: &mut [Area], event: &mut Event) -> u32
+fn execute_list(held: &mut Open, ask: &Ask, areas: &mut [Area], event: &mut Event) -> u32
     ensures answer { AnswersRequest held.old ask.now
         (AsksList ask.now areas.old) held.new event.old event.new
         result }
     ensures granted { result ≡ 0
-        → areas.new ≡ areas_told (listed held.new.session.walk.reply) areas.old }
+        → areas.new ≡ area_values (listed held.new.session.walk.reply) areas.old }
     ensures left { result ≢ 0 → areas.new ≡ areas.old }
 {
-    if !held.goes_on() {
+    if !held.continues() {
         return OVER;
     }
     let status = serve(held, ask.task_list_request(areas), event);
     if status == OK {
-        tell_listed(held.reply(), areas);
+        write_listed(held.reply(), areas);
     }
     status
 }
 
 // Ends a session that continues: there are no more lines.
-fn tell_end(held: &mut Open, event: &mut Event) -> u32
+fn end_job(held: &mut Open, event: &mut Event) -> u32
     ensures { AnswersEnd held.old held.new event.old event.new result }
 {
-    if !held.goes_on() {
+    if !held.continues() {
         return OVER;
     }
     let closing = held.close();
@@ -179,7 +179,7 @@ fn show(alloc: Global, held: &Open, out: &mut [u8], wanted: &mut usize) -> u32
     ensures needed { result ≡ 16 → events_of held.now.session.walk held.now.last ≢ [] }
     ensures text { result ≢ 16 → HandsOver (text_of held.now) out.old out.new wanted.new 0 result }
 {
-    if held.tells_nothing() {
+    if held.prints_nothing() {
         return hand_over(&[], out, wanted, OK);
     }
     let mut writer = Watched::new(Vec::new(alloc));
@@ -238,7 +238,7 @@ pub extern "C" fn mvs_line(
     let Some(mut held) = take_out(alloc, session) else {
         return NO_SESSION;
     };
-    let status = tell_line(&mut held, line, event);
+    let status = execute_line(&mut held, line, event);
     put(alloc, session, held);
     status
 }
@@ -316,7 +316,7 @@ pub extern "C" fn mvs_request(
     let Some(mut held) = take_out(alloc, session) else {
         return NO_SESSION;
     };
-    let status = tell_request(&mut held, ask, event);
+    let status = execute_request(&mut held, ask, event);
     put(alloc, session, held);
     status
 }
@@ -344,7 +344,7 @@ pub extern "C" fn mvs_list(
     let Some(mut held) = take_out(alloc, session) else {
         return NO_SESSION;
     };
-    let status = tell_list(&mut held, ask, areas, event);
+    let status = execute_list(&mut held, ask, areas, event);
     put(alloc, session, held);
     status
 }
@@ -365,7 +365,7 @@ pub extern "C" fn mvs_end(alloc: Global, session: &mut Handle, event: &mut Event
     let Some(mut held) = take_out(alloc, session) else {
         return NO_SESSION;
     };
-    let status = tell_end(&mut held, event);
+    let status = end_job(&mut held, event);
     put(alloc, session, held);
     status
 }
@@ -444,13 +444,13 @@ pub extern "C" fn mvs_fallen(
     ensures session { session.new.open ≡ session.old.open }
     ensures none { session.old.open ≡ None → (result ≡ 20) × (name.new ≡ name.old) }
     ensures told { IfSome session.old.open
-        (λ old. TellsOne (slice_get (fallen_in old.session.walk.reply) index) (λ t. t) name.old name.new
+        (λ old. TellsOne (slice_get (ended_with_in old.session.walk.reply) index) (λ t. t) name.old name.new
         result) }
 {
     let Some(held) = take_out(alloc, session) else {
         return NO_SESSION;
     };
-    let status = access::tell_fallen(&held, index, name);
+    let status = access::copy_ended_with(&held, index, name);
     put(alloc, session, held);
     status
 }
@@ -477,7 +477,7 @@ pub extern "C" fn mvs_subpool(
     let Some(held) = take_out(alloc, session) else {
         return NO_SESSION;
     };
-    let status = access::tell_subpool(&held, task, from, told);
+    let status = access::copy_subpool(&held, task, from, told);
     put(alloc, session, held);
     status
 }
@@ -492,7 +492,7 @@ pub extern "C" fn mvs_map(alloc: Global, session: &mut Handle, from: u32, told: 
     ensures told { told.old.size ≡ run_bytes
         → IfSome session.old.open
         (λ old. (found : Option MapRun) × FindsRun old from found
-        × TellsOne found run_told told.old told.new result) }
+        × TellsOne found run_value told.old told.new result) }
 {
     if !told.is_sized() {
         return WRONG_SIZE;
@@ -500,7 +500,7 @@ pub extern "C" fn mvs_map(alloc: Global, session: &mut Handle, from: u32, told: 
     let Some(held) = take_out(alloc, session) else {
         return NO_SESSION;
     };
-    let status = access::tell_run(&held, from, told);
+    let status = access::copy_run(&held, from, told);
     put(alloc, session, held);
     status
 }

@@ -1,6 +1,6 @@
 //! The last events of a session.
 
-use mvs_job::LineTold;
+use mvs_job::LineEvent;
 
 /// The last event. The session has its long data.
 #[derive(Clone, Copy, Debug, PartialEq, Eq)]
@@ -8,7 +8,7 @@ pub enum Last {
     /// There was no event yet.
     Nothing,
     /// The line of this number.
-    Line { number: u32, told: LineTold },
+    Line { number: u32, told: LineEvent },
     /// A line for which memory was exhausted: the running step, if there was one, has ended, and whether a task of it had abended.
     Stopped(Option<bool>),
     /// The end of the job, at the number of a next line.

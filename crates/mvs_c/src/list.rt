@@ -2,8 +2,8 @@
 
 ghost use Rattle.std.specs.Prelude.{◌≡◌, ◌<◌, ◌≤◌, ◌+◌, ◌^◌, ◌++◌, MatchBool, SomeIff, length, map};
 ghost use Rattle.mvs_model.specs.Place.{place_at};
-ghost use Rattle.mvs_c.specs.Asks.{TakesForm, TaskAsks, form_said, or_else};
-ghost use Rattle.mvs_c.specs.Lists.{AreLengths, ArePlaces, AsksList, IsListLength, IsListStart, ObtainsList, ReleasesList, areas_told, is_list_form, listed};
+ghost use Rattle.mvs_c.specs.Asks.{TakesForm, TaskAsks, form_value, or_else};
+ghost use Rattle.mvs_c.specs.Lists.{AreLengths, ArePlaces, AsksList, IsListLength, IsListStart, ObtainsList, ReleasesList, area_values, is_list_form, listed};
 
 use crate::ask::{Ask, Kind, exponent_of, form_of, length_of, or_else, place_of, subpool_of};
 use crate::field::Field;
@@ -24,7 +24,7 @@ pub struct Area {
 
 // The form of a list.
 fn list_form(number: u32) -> Option<Form>
-    ensures { SomeIff result (TakesForm is_list_form number) (form_said number) }
+    ensures { SomeIff result (TakesForm is_list_form number) (form_value number) }
 {
     match form_of(number)? {
         form @ (Form::Lc | Form::Lu) => Some(form),
@@ -200,8 +200,8 @@ impl Ask {
 }
 
 // Writes places over the first areas.
-fn tell_places(places: &[Place], areas: &mut [Area])
-    ensures { areas.new ≡ areas_told places.now areas.old }
+fn write_places(places: &[Place], areas: &mut [Area])
+    ensures { areas.new ≡ area_values places.now areas.old }
 {
     let Some((place, places)) = places.split_first() else {
         return;
@@ -213,14 +213,14 @@ fn tell_places(places: &[Place], areas: &mut [Area])
         address: place.addr().get(),
         length: place.len(),
     };
-    tell_places(places, areas);
+    write_places(places, areas);
 }
 
 /// Writes the places that a reply grants to a list.
-pub fn tell_listed(reply: &Reply, areas: &mut [Area])
-    ensures { areas.new ≡ areas_told (listed reply.now) areas.old }
+pub fn write_listed(reply: &Reply, areas: &mut [Area])
+    ensures { areas.new ≡ area_values (listed reply.now) areas.old }
 {
     if let Reply::Listed(places) = reply {
-        tell_places(places.as_slice(), areas);
+        write_places(places.as_slice(), areas);
     }
 }

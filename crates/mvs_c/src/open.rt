@@ -1,19 +1,19 @@
 //! A session, and its last event.
 
 ghost use Rattle.std.specs.Prelude.{◌≡◌, ◌≢◌, ◌+◌, ◌^◌, ◌<◌, ◌∷◌, [], true, false, None, length, IfOk, MatchBool, MatchOption, MatchResult};
-ghost use Rattle.mvs_model.specs.Lent.{fallen_in};
+ghost use Rattle.mvs_model.specs.FullAnswers.{ended_with_in};
 ghost use Rattle.mvs_model.specs.Memory.{StopsForMemory};
 ghost use Rattle.mvs_model.specs.Runs.{machine};
 ghost use Rattle.mvs_model.specs.Walk.{Closes};
 ghost use Rattle.job_script.specs.Writing.{Prints};
-ghost use Rattle.mvs_job.specs.Telling.{IsTold, KeepsReplyOf, closing, ended, goes_on};
+ghost use Rattle.mvs_job.specs.LineEvents.{ServesAs, KeepsReplyOf, closing, ended, continues};
 ghost use Rattle.mvs_job.specs.Valued.{RequestsOf, WritesOf};
 ghost use Rattle.mvs_c.specs.declared.last.Last.TheVariants as last;
 ghost use Rattle.mvs_c.specs.Opens.{TakesLine, events_of, fault_of, last_of, new_open, text_of, without_line};
 
 use crate::last::Last;
 use job_script::read_line;
-use mvs_job::{Closing, Job, LineTold, Session, Stopped, print_closing, print_line};
+use mvs_job::{Closing, Job, LineEvent, Session, Stopped, print_closing, print_line};
 use mvs_model::line::{Fault, Line};
 use mvs_model::name::Name;
 use mvs_model::place::Place;
@@ -32,7 +32,7 @@ pub struct Open {
 }
 
 impl Model for Open {
-    ghost use Rattle.mvs_c.specs.Opens.{LendsLast, OpenValue, open_code};
+    ghost use Rattle.mvs_c.specs.Opens.{LastIsAvailable, OpenValue, open_code};
 
     ghost Value = { OpenValue };
 
@@ -40,7 +40,7 @@ impl Model for Open {
 
     ghost view = { λ o. record { session = o.session; last = o.last } };
 
-    ghost invariant = { λ o. LendsLast o.session.walk o.last };
+    ghost invariant = { λ o. LastIsAvailable o.session.walk o.last };
 }
 
 impl Open {
@@ -62,10 +62,10 @@ impl Open {
     }
 
     /// Returns whether the job continues.
-    pub fn goes_on(&self) -> bool
-        ensures { result ≡ self.now.session.goes_on }
+    pub fn continues(&self) -> bool
+        ensures { result ≡ self.now.session.continues }
     {
-        self.session.goes_on()
+        self.session.continues()
     }
 
     /// The step that runs; None before the first.
@@ -78,7 +78,7 @@ impl Open {
 
     /// The tasks that ended with the one that abended, where the last request that was made abended.
     pub fn fallen(&self) -> &[Name]
-        ensures { result.now ≡ fallen_in self.now.session.walk.reply }
+        ensures { result.now ≡ ended_with_in self.now.session.walk.reply }
     {
         self.session.walk().fallen()
     }
@@ -95,16 +95,16 @@ impl Open {
     }
 
     /// Serves a line, as a session does.
-    pub fn line(&mut self, line: &[u8]) -> Result<LineTold, Stopped>
+    pub fn line(&mut self, line: &[u8]) -> Result<LineEvent, Stopped>
         requires { TakesLine self.old.session }
         ensures told { MatchResult result
-            (λ told. IsTold self.old.session.walk line.now told self.new.session.walk)
+            (λ told. ServesAs self.old.session.walk line.now told self.new.session.walk)
             (λ stopped. StopsForMemory self.old.session.walk.number self.old.session.walk.step
             (line.now ∷ []) (ended stopped.ended)) }
         ensures reply { IfOk result
             (λ told. KeepsReplyOf self.old.session.walk line.now told self.new.session.walk) }
         ensures number { self.new.session.walk.number ≡ self.old.session.walk.number + 1 }
-        ensures goes_on { self.new.session.goes_on ≡ goes_on result }
+        ensures continues { self.new.session.continues ≡ continues result }
         ensures last { self.new.last ≡ last_of self.old.session.walk.number result }
     {
         let number = self.session.walk().number();
@@ -122,7 +122,7 @@ impl Open {
     /// Executes a request given by values, as a session does; there is then no event of a line. Returns false if no step is
     /// running.
     pub fn request(&mut self, task: &Name, request: &Request) -> bool
-        requires { self.old.session.goes_on ≡ true }
+        requires { self.old.session.continues ≡ true }
         ensures no_step { result ≡ false → (self.old.session.walk.step ≡ None) × (self.new ≡ self.old) }
         ensures served { result ≡ true
             → RequestsOf self.old.session.walk task.now request.now true self.new.session.walk
@@ -138,7 +138,7 @@ impl Open {
 
     /// Writes bytes, as a session does; there is then no event of a line. Returns false if it does not write them.
     pub fn write(&mut self, place: Place, bytes: &[u8]) -> bool
-        requires goes_on { self.old.session.goes_on ≡ true }
+        requires continues { self.old.session.continues ≡ true }
         requires len { length bytes.now ≡ place.len }
         ensures walk { WritesOf self.old.session.walk place bytes.now result self.new.session.walk }
         ensures written { result ≡ true → self.new ≡ without_line self.new.session.walk }
@@ -160,11 +160,11 @@ impl Open {
 
     /// Ends the job, as a session does.
     pub fn close(&mut self) -> Closing
-        requires { self.old.session.goes_on ≡ true }
+        requires { self.old.session.continues ≡ true }
         ensures closed { Closes machine self.old.session.walk.number self.old.session.walk.step
             (closing self.old.session.walk.number result.ended) result.outcome }
         ensures walk { self.new.session.walk ≡ self.old.session.walk }
-        ensures over { self.new.session.goes_on ≡ false }
+        ensures over { self.new.session.continues ≡ false }
         ensures last { self.new.last ≡ last.Closed self.old.session.walk.number result.ended }
     {
         let number = self.session.walk().number();
@@ -177,13 +177,13 @@ impl Open {
     }
 
     /// Returns whether the last event prints nothing.
-    pub fn tells_nothing(&self) -> bool
+    pub fn prints_nothing(&self) -> bool
         ensures { MatchBool result (events_of self.now.session.walk self.now.last ≡ [])
             (events_of self.now.session.walk self.now.last ≢ []) }
     {
         match &self.last {
             Last::Nothing => true,
-            Last::Line { told, .. } => matches!(told, LineTold::Nothing),
+            Last::Line { told, .. } => matches!(told, LineEvent::Nothing),
             Last::Stopped(ended) => ended.is_none(),
             Last::Closed { .. } => false,
         }

@@ -3,10 +3,10 @@ use Rattle.std.proofs.Common.{◌≡◌, ℕ, List, inl, inr, Option, Result, Er
 use Rattle.mvs_model.specs.Job.{JobValue}
 use Rattle.mvs_job.specs.declared.printing.Stop.{Stop}
 use Rattle.mvs_job.specs.declared.printing.Stop.TheVariants as stop
-use Rattle.mvs_job.specs.declared.walk.LineTold.{LineTold}
+use Rattle.mvs_job.specs.declared.walk.LineEvent.{LineEvent}
 use Rattle.mvs_job.specs.Consuming.{Accepts, AcceptsLine, IsAny, IsEntry, Known, Piece, RunsEntry}
 use Rattle.mvs_job.specs.Observing.{Hearing, ObservesLine}
-use Rattle.mvs_job.specs.Telling.{WalkValue}
+use Rattle.mvs_job.specs.LineEvents.{WalkValue}
 use Rattle.mvs_job.specs.Trace.{Entry}
 
 -- the step before the line of an entry
@@ -15,7 +15,7 @@ any_before number old line e (inl (said, events, new, of, serves, is)) = ap (λ 
 any_before number old line e (inr (inl (fault, of, is))) = ap (λ e. e.before) is
 any_before number old line e (inr (inr (said, events, of, takes, is))) = ap (λ e. e.before) is
 
-module _ (piece : Piece) {S : Type 0} (heard : Hearing S) (sees : S → Option JobValue → List ℕ → Type 0) (knows : Known S) (before after : Option (List ℕ)) (s s' mid : S) (w w' : WalkValue) (line : List ℕ) (n : ℕ) (t : LineTold) (history : List Entry) where
+module _ (piece : Piece) {S : Type 0} (heard : Hearing S) (sees : S → Option JobValue → List ℕ → Type 0) (knows : Known S) (before after : Option (List ℕ)) (s s' mid : S) (w w' : WalkValue) (line : List ℕ) (n : ℕ) (t : LineEvent) (history : List Entry) where
   pub accepted_at : {X : Type 0} (result : Result X Stop) (e : Entry) → AcceptsLine piece heard sees knows before after s s' n line w' t result → IsAny w.number w.step line e → IsEntry n line w' t e → sees mid w.step line → ObservesLine heard mid w.step line t w' s → knows.has mid history
       → Accepts piece knows before after s' history e result
   accepted_at result e accepts is entry seen observed known =

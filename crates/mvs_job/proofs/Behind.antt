@@ -21,12 +21,12 @@ use Rattle.mvs_model.specs.Answers.{Answer, NotRun, NoName, Region, Ended, Abend
 use Rattle.mvs_model.specs.Card.{CardValue}
 use Rattle.mvs_model.specs.Causes.{IsRefused}
 use Rattle.mvs_model.specs.Job.{JobValue}
-use Rattle.mvs_model.specs.Lent.{lent, fallen_in}
+use Rattle.mvs_model.specs.FullAnswers.{full_answer, ended_with_in}
 use Rattle.mvs_model.specs.Owners.{is_active}
 use Rattle.mvs_model.specs.Reading.{LineOf, FaultOf}
 use Rattle.mvs_model.specs.Replies.{where_answer}
 use Rattle.mvs_model.specs.Resolving.{first_unset, looked_up, resolved}
-use Rattle.mvs_model.specs.Runs.{Any, Does, Asks, Tells, machine}
+use Rattle.mvs_model.specs.Runs.{Any, Does, Asks, OnlyAnswers, machine}
 use Rattle.mvs_model.specs.Walk.{Serves, is_first}
 use Rattle.mvs_model.proofs.Reading.{one_reading}
 use Rattle.mvs_model.proofs.Tests.{by_test, false_true, true_false, none_some, some_none}
@@ -35,17 +35,17 @@ use Rattle.request_forms.specs.declared.facts.OwnedSubpool.{OwnedSubpool}
 use Rattle.mvs_job.specs.declared.explained.Explained.{Explained}
 use Rattle.mvs_job.specs.declared.granting.Before.{Before}
 use Rattle.mvs_job.specs.declared.naming.SetLines.{SetLines as Lines}
-use Rattle.mvs_job.specs.declared.walk.LineTold.{LineTold}
-use Rattle.mvs_job.specs.declared.walk.LineTold.TheVariants as told
+use Rattle.mvs_job.specs.declared.walk.LineEvent.{LineEvent}
+use Rattle.mvs_job.specs.declared.walk.LineEvent.TheVariants as told
 use Rattle.mvs_job.specs.Looking.{IsLooking, KeepsExplained}
-use Rattle.mvs_job.specs.Apart.{StandsBehind}
-use Rattle.mvs_job.specs.Explaining.{IsBehind, behind_said, reason_text, said_of}
+use Rattle.mvs_job.specs.Apart.{AppendsExplanation}
+use Rattle.mvs_job.specs.Explaining.{IsExplanationText, explanation_text, reason_text, reason_part}
 use Rattle.mvs_job.specs.Facts.{end_of, ended_by, freed_lines, freed_text}
-use Rattle.mvs_job.specs.Granting.{IsGranting, IsReadIn, before_line, done_text, granted_text, tells_grant}
-use Rattle.mvs_job.specs.Naming.{IsNamingOf, SetLines, address_in, address_told, lines_before, naming_text}
+use Rattle.mvs_job.specs.Granting.{IsGranting, IsReadIn, before_line, done_text, granted_text, reports_grant}
+use Rattle.mvs_job.specs.Naming.{IsNamingOf, SetLines, address_in, reason_address, lines_before, naming_text}
 use Rattle.mvs_job.specs.Observing.{Fails, Hearing, Observes, ObservesLine, Passes, is_end, is_failure, is_refusal}
-use Rattle.mvs_job.specs.Telling.{IsTold, WalkValue, card_said, ended, events_told, lent_in}
-use Rattle.mvs_job.specs.Why.{IsRequestOf, OfNext, OfAsked, OfLine, OfRead, OfSaid, answer_reason, line_reason, refused, spoken, tells_refusal, unset_of, OfStatement}
+use Rattle.mvs_job.specs.LineEvents.{ServesAs, WalkValue, region_card, ended, events_of_line, full_answer_in}
+use Rattle.mvs_job.specs.Why.{IsRequestOf, OfNext, OfRequest, OfLine, OfRead, OfActiveStatement, answer_reason, line_reason, refused, spoken, reports_refusal, unset_of, OfStatement}
 use Rattle.mvs_job.proofs.Observed.{is_return, some_unset}
 use Rattle.mvs_model.specs.declared.line.Fault.{Fault}
 use Rattle.mvs_model.specs.Place.{PlaceValue}
@@ -54,7 +54,7 @@ use Rattle.std.specs.Io.KnownBytes.{Appends}
 -- ---- what the line did, by what was looked at before
 
 nothing_done : (l : Line) (events : List Event) (new : Option JobValue) → granted_text None l events new ≡ []
-nothing_done l events new = at (tells_grant events) where
+nothing_done l events new = at (reports_grant events) where
   at : (yes : Bool) → cond yes (done_text None l new) [] ≡ []
   at true = refl
   at false = refl
@@ -73,18 +73,18 @@ granting (Some job) l read before (inr (fault, of, is)) looked events new =
 
 -- The text explains the next line, and this is why it was not executed as it asks.
 abbrev Stood : Option JobValue → SetLines → List ℕ → List Event → Option JobValue → Explained → Type 0
-Stood old set bytes events new x = IsBehind old set bytes events new (behind_said x events new) × OfNext old bytes events x.reason
+Stood old set bytes events new x = IsExplanationText old set bytes events new (explanation_text x events new) × OfNext old bytes events x.reason
 
-said_nothing : (request : Request) (r : Option LineReason) → said_of line.Nothing request r ≡ []
+said_nothing : (request : Request) (r : Option LineReason) → reason_part line.Nothing request r ≡ []
 said_nothing request None = refl
 said_nothing request (Some reason) = refl
 
 assemble : (job : JobValue) (set : SetLines) (bytes : List ℕ) (l : Line) (events : List Event) (new : Option JobValue) (x : Explained) → LineOf false bytes l → OfRead job l events x.reason
-    → said_of x.why.read x.why.request x.reason ≡ reason_text job l x.reason → IsNamingOf job set (address_in job l x.reason) x.naming → freed_lines x.why.subpools (ended_by events) ≡ freed_text job (ended_by events)
+    → reason_part x.why.read x.why.request x.reason ≡ reason_text job l x.reason → IsNamingOf job set (address_in job l x.reason) x.naming → freed_lines x.why.subpools (ended_by events) ≡ freed_text job (ended_by events)
     → IsGranting (Some job) bytes events new (granted_text x.why.before x.why.read events new) → Stood (Some job) set bytes events new x
 assemble job set bytes l events new x of why text names frees grants = (
   (
-    said_of x.why.read x.why.request x.reason,
+    reason_part x.why.read x.why.request x.reason,
     naming_text x.naming,
     freed_lines x.why.subpools (ended_by events),
     granted_text x.why.before x.why.read events new,
@@ -102,11 +102,11 @@ nowhere : (set : SetLines) (bytes : List ℕ) (events : List Event) (new : Optio
     → IsGranting None bytes events new (granted_text x.why.before x.why.read events new) → Stood None set bytes events new x
 nowhere set bytes events new x read unnamed unsaid none grants = (
   (
-    said_of x.why.read x.why.request x.reason,
+    reason_part x.why.read x.why.request x.reason,
     naming_text x.naming,
     freed_lines x.why.subpools (ended_by events),
     granted_text x.why.before x.why.read events new,
-    ap (λ l. said_of l x.why.request x.reason) read ∙ said_nothing x.why.request x.reason,
+    ap (λ l. reason_part l x.why.request x.reason) read ∙ said_nothing x.why.request x.reason,
     ap naming_text unnamed,
     ap (freed_lines x.why.subpools) none,
     grants,
@@ -131,10 +131,10 @@ module _ (job : JobValue) (set : SetLines) (bytes : List ℕ) (l : Line) (of : L
   read_is : mid.why.read ≡ l
   read_is = elim look.read [ inl is ↦ one_reading.one_line false bytes mid.why.read l is of | inr f ↦ absurd (one_reading.not_both false bytes l f.0 of f.1) ]
 
-  unheard : (events : List Event) (new : Option JobValue) (r : Option LineReason) (lines : Lines) → OfRead job l events r → ((request : Request) → said_of l request r ≡ reason_text job l r) → address_in job l r ≡ None
+  unheard : (events : List Event) (new : Option JobValue) (r : Option LineReason) (lines : Lines) → OfRead job l events r → ((request : Request) → reason_part l request r ≡ reason_text job l r) → address_in job l r ≡ None
       → freed_lines mid.why.subpools (ended_by events) ≡ freed_text job (ended_by events) → Stood (Some job) set bytes events new (record { why = mid.why; reason = r; naming = mid.naming; lines = lines })
   unheard events new r lines why text none frees =
-      assemble job set bytes l events new (record { why = mid.why; reason = r; naming = mid.naming; lines = lines }) of why (ap (λ k. said_of k mid.why.request r) read_is ∙ text mid.why.request)
+      assemble job set bytes l events new (record { why = mid.why; reason = r; naming = mid.naming; lines = lines }) of why (ap (λ k. reason_part k mid.why.request r) read_is ∙ text mid.why.request)
       (subst (λ a. IsNamingOf job set a mid.naming) (sym none) look.unnamed) frees (granting (Some job) bytes mid.why.read mid.why.before look.read look.before events new)
 
 -- ---- what is answered
@@ -145,7 +145,7 @@ full_reason step l reason NotRun = Some (Refused NotActive)
 full_reason step l reason NoName = unset_of step l
 full_reason step l reason answer = refused reason
 
-same_reason : (step : Option JobValue) (l : Line) (reason : Option Reason) (later : JobValue) (fallen : List Name) (t : Name) (a : Short) → answer_reason step l reason a ≡ full_reason step l reason (lent later.state fallen t a)
+same_reason : (step : Option JobValue) (l : Line) (reason : Option Reason) (later : JobValue) (fallen : List Name) (t : Name) (a : Short) → answer_reason step l reason a ≡ full_reason step l reason (full_answer later.state fallen t a)
 same_reason step l reason later fallen t short.NotRun = refl
 same_reason step l reason later fallen t short.NoName = refl
 same_reason step l reason later fallen t a = refl
@@ -178,7 +178,7 @@ module _ (number : ℕ) (job later : JobValue) (set : SetLines) (bytes : List �
 
   -- where nothing was heard
   silent : (s : Statement) (after : Explained) (r : Option LineReason) (y : Answer) → LineOf false bytes (line.Statement t s) → after ≡ mid → OfRead job (line.Statement t s) (Told number t y ∷ []) r
-      → ((request : Request) → said_of (line.Statement t s) request r ≡ reason_text job (line.Statement t s) r) → address_in job (line.Statement t s) r ≡ None → (is_end y ≡ true → mid.why.subpools ≡ owned_subpools job.state t) → Stands after r y
+      → ((request : Request) → reason_part (line.Statement t s) request r ≡ reason_text job (line.Statement t s) r) → address_in job (line.Statement t s) r ≡ None → (is_end y ≡ true → mid.why.subpools ≡ owned_subpools job.state t) → Stands after r y
   silent s after r y of same why text none owned =
       subst (λ a. Stands a r y) (sym same) (unheard job set bytes (line.Statement t s) of mid look (Told number t y ∷ []) (Some later) r lines why text none (of_answer job t y mid.why.subpools owned))
 
@@ -190,7 +190,7 @@ module _ (number : ℕ) (job later : JobValue) (set : SetLines) (bytes : List �
     inactive : (after : Explained) (y : Answer) → not (is_active job.state.owners t) ≡ true → after ≡ mid → y ≡ NotRun → Stands after (full_reason (Some later) after.why.read after.why.reason y) y
     inactive after y off same is =
         subst (λ z. Stands after (full_reason (Some later) after.why.read after.why.reason z) z) (sym is)
-        (silent (says.Request q) after (Some (Refused NotActive)) NotRun of same (subst (λ b. MatchBool b (Some (Refused NotActive) ≡ Some (Refused NotActive)) (OfSaid job t (says.Request q) (Some (Refused NotActive)))) (sym off) refl, refl) (λ request. refl) refl (λ e. false_true e))
+        (silent (says.Request q) after (Some (Refused NotActive)) NotRun of same (subst (λ b. MatchBool b (Some (Refused NotActive) ≡ Some (Refused NotActive)) (OfActiveStatement job t (says.Request q) (Some (Refused NotActive)))) (sym off) refl, refl) (λ request. refl) refl (λ e. false_true e))
 
     -- a name is not set
     unset : (after : Explained) (y : Answer) → not (is_active job.state.owners t) ≡ false → resolved job.names q ≡ None → after ≡ mid → later ≡ job → y ≡ NoName → Stands after (full_reason (Some later) after.why.read after.why.reason y) y
@@ -204,8 +204,8 @@ module _ (number : ℕ) (job later : JobValue) (set : SetLines) (bytes : List �
           at None f some = false_true some
           at (Some name) f some =
               silent (says.Request q) after (Some (NotSet name)) NoName of same (
-                subst (λ b. MatchBool b (Some (NotSet name) ≡ Some (Refused NotActive)) (OfSaid job t (says.Request q) (Some (NotSet name)))) (sym on)
-                    (subst (λ v. OfAsked job t q v (Some (NotSet name))) (sym none) (sym (ap (option_map (λ name. NotSet name)) f))),
+                subst (λ b. MatchBool b (Some (NotSet name) ≡ Some (Refused NotActive)) (OfActiveStatement job t (says.Request q) (Some (NotSet name)))) (sym on)
+                    (subst (λ v. OfRequest job t q v (Some (NotSet name))) (sym none) (sym (ap (option_map (λ name. NotSet name)) f))),
                 refl,
               ) (λ request. refl) refl (λ e. false_true e)
 
@@ -214,7 +214,7 @@ module _ (number : ℕ) (job later : JobValue) (set : SetLines) (bytes : List �
     passes after y r on is h =
         subst (λ x. Stands after x y) (sym (by_refusal (Some later) after.why.read after.why.reason y h.2 ∙ ap refused (ap (λ (x : Explained). x.why.reason) h.0 ∙ look.unheard)))
         (silent (says.Request q) after None y of h.0
-        (subst (λ b. MatchBool b (None ≡ Some (Refused NotActive)) (OfSaid job t (says.Request q) None)) (sym on) (subst (λ v. OfAsked job t q v None) (sym is) (None, h.1, refl)), sym h.2)
+        (subst (λ b. MatchBool b (None ≡ Some (Refused NotActive)) (OfActiveStatement job t (says.Request q) None)) (sym on) (subst (λ v. OfRequest job t q v None) (sym is) (None, h.1, refl)), sym h.2)
         (λ request. refl) refl (λ e. look.subpools job refl t (read_request ∙ ap (λ x. line.Statement t (says.Request x)) (is_return job.names q (is ∙ ap (λ x. Some x) (h.3 e))))))
 
     -- the request is refused
@@ -232,17 +232,17 @@ module _ (number : ℕ) (job later : JobValue) (set : SetLines) (bytes : List �
           asks = subst (λ l. IsRequestOf job l after.why.request) read_request kept.why.asks r is
 
           why : OfLine job (line.Statement t (says.Request q)) (Some (Refused reason))
-          why = subst (λ b. MatchBool b (Some (Refused reason) ≡ Some (Refused NotActive)) (OfSaid job t (says.Request q) (Some (Refused reason)))) (sym on)
-              (subst (λ v. OfAsked job t q v (Some (Refused reason))) (sym is) (Some reason, (subst (IsRefused job.state t r) (sym kept.why.explains.0) refuses, kept.why.explains.1), refl))
+          why = subst (λ b. MatchBool b (Some (Refused reason) ≡ Some (Refused NotActive)) (OfActiveStatement job t (says.Request q) (Some (Refused reason)))) (sym on)
+              (subst (λ v. OfRequest job t q v (Some (Refused reason))) (sym is) (Some reason, (subst (IsRefused job.state t r) (sym kept.why.explains.0) refuses, kept.why.explains.1), refl))
 
-          text : said_of after.why.read after.why.request (Some (Refused reason)) ≡ reason_text job (line.Statement t (says.Request q)) (Some (Refused reason))
-          text = ap (λ l. said_of l after.why.request (Some (Refused reason))) (kept.why.read ∙ read_request) ∙ ap (λ x. said_of (line.Statement t (says.Request q)) x (Some (Refused reason))) asks
-              ∙ ap (λ v. said_of (line.Statement t (says.Request q)) (spoken v) (Some (Refused reason))) (sym is)
+          text : reason_part after.why.read after.why.request (Some (Refused reason)) ≡ reason_text job (line.Statement t (says.Request q)) (Some (Refused reason))
+          text = ap (λ l. reason_part l after.why.request (Some (Refused reason))) (kept.why.read ∙ read_request) ∙ ap (λ x. reason_part (line.Statement t (says.Request q)) x (Some (Refused reason))) asks
+              ∙ ap (λ v. reason_part (line.Statement t (says.Request q)) (spoken v) (Some (Refused reason))) (sym is)
 
           names : IsNamingOf job set (address_in job (line.Statement t (says.Request q)) (Some (Refused reason))) after.naming
-          names = subst (λ v. IsNamingOf job set (address_told (spoken v) reason) after.naming) (sym is)
-              (subst (λ x. IsNamingOf job set (address_told x reason) after.naming) asks
-              (subst (λ v. IsNamingOf job set (option_and_then (address_told after.why.request) v) after.naming) kept.why.told (subst (λ lines. IsNamingOf job lines (option_and_then (address_told after.why.request) after.why.reason) after.naming) (look.lines job refl) kept.naming)))
+          names = subst (λ v. IsNamingOf job set (reason_address (spoken v) reason) after.naming) (sym is)
+              (subst (λ x. IsNamingOf job set (reason_address x reason) after.naming) asks
+              (subst (λ v. IsNamingOf job set (option_and_then (reason_address after.why.request) v) after.naming) kept.why.told (subst (λ lines. IsNamingOf job lines (option_and_then (reason_address after.why.request) after.why.reason) after.naming) (look.lines job refl) kept.naming)))
 
     -- a request of a task that is active
     asked_stands : (after : Explained) (y : Answer) → not (is_active job.state.owners t) ≡ false → (v : Option Request) → resolved job.names q ≡ v → Asks Any job t q v y later
@@ -253,13 +253,13 @@ module _ (number : ℕ) (job later : JobValue) (set : SetLines) (bytes : List �
 
     request_stands : (after : Explained) (y : Answer) → Does Any job t (says.Request q) y later → Observes keeps mid job t (says.Request q) y after → Stands after (full_reason (Some later) after.why.read after.why.reason y) y
     request_stands after y does observes = at (is_active job.state.owners t) refl does observes where
-      at : (b : Bool) → is_active job.state.owners t ≡ b → MatchBool (not b) (Tells job NotRun y later) (Asks Any job t q (resolved job.names q) y later)
+      at : (b : Bool) → is_active job.state.owners t ≡ b → MatchBool (not b) (OnlyAnswers job NotRun y later) (Asks Any job t q (resolved job.names q) y later)
           → MatchBool b (MatchOption (resolved job.names q) (after ≡ mid) (λ r. Passes mid job t r y after ⊎ Fails keeps mid job t r y after)) (after ≡ mid) → Stands after (full_reason (Some later) after.why.read after.why.reason y) y
       at true e does observes = asked_stands after y (ap not e) (resolved job.names q) refl does observes
       at false e does observes = inactive after y (ap not e) observes does.0
 
   -- a question, of a task that is not active, and of one that is
-  off_stands : (s : Statement) (after : Explained) (y : Answer) → LineOf false bytes (line.Statement t s) → OfLine job (line.Statement t s) (Some (Refused NotActive)) → ((request : Request) → said_of (line.Statement t s) request (Some (Refused NotActive)) ≡ reason_text job (line.Statement t s) (Some (Refused NotActive)))
+  off_stands : (s : Statement) (after : Explained) (y : Answer) → LineOf false bytes (line.Statement t s) → OfLine job (line.Statement t s) (Some (Refused NotActive)) → ((request : Request) → reason_part (line.Statement t s) request (Some (Refused NotActive)) ≡ reason_text job (line.Statement t s) (Some (Refused NotActive)))
       → address_in job (line.Statement t s) (Some (Refused NotActive)) ≡ None → after ≡ mid → y ≡ NotRun → Stands after (full_reason (Some later) after.why.read after.why.reason y) y
   off_stands s after y of why text none same is =
       subst (λ z. Stands after (full_reason (Some later) after.why.read after.why.reason z) z) (sym is) (silent s after (Some (Refused NotActive)) NotRun of same (why, refl) text none (λ e. false_true e))
@@ -271,10 +271,10 @@ module _ (number : ℕ) (job later : JobValue) (set : SetLines) (bytes : List �
       (silent s after None y of same (why, sym granted) (λ request. refl) none (λ e. true_false (sym e ∙ stays)))
 
   off_reason : (s : Statement) → not (is_active job.state.owners t) ≡ true → (r : Option LineReason) → r ≡ Some (Refused NotActive) → OfStatement job t s r
-  off_reason s off r e = subst (λ b. MatchBool b (r ≡ Some (Refused NotActive)) (OfSaid job t s r)) (sym off) e
+  off_reason s off r e = subst (λ b. MatchBool b (r ≡ Some (Refused NotActive)) (OfActiveStatement job t s r)) (sym off) e
 
-  on_reason : (s : Statement) → not (is_active job.state.owners t) ≡ false → (r : Option LineReason) → OfSaid job t s r → OfStatement job t s r
-  on_reason s on r h = subst (λ b. MatchBool b (r ≡ Some (Refused NotActive)) (OfSaid job t s r)) (sym on) h
+  on_reason : (s : Statement) → not (is_active job.state.owners t) ≡ false → (r : Option LineReason) → OfActiveStatement job t s r → OfStatement job t s r
+  on_reason s on r h = subst (λ b. MatchBool b (r ≡ Some (Refused NotActive)) (OfActiveStatement job t s r)) (sym on) h
 
   where_stands : (name : Name) (after : Explained) (y : Answer) → LineOf false bytes (line.Statement t (says.Where name)) → Does Any job t (says.Where name) y later → after ≡ mid → Stands after (full_reason (Some later) after.why.read after.why.reason y) y
   where_stands name after y of does same = at (not (is_active job.state.owners t)) refl does where
@@ -290,19 +290,19 @@ module _ (number : ℕ) (job later : JobValue) (set : SetLines) (bytes : List �
         subst (λ z. Stands after (full_reason (Some later) after.why.read after.why.reason z) z) (sym is)
         (plain_stands s after (At p.addr) of (on_reason s on None (subst (λ v. MatchOption v (None ≡ Some (NotSet name)) (λ _. ◌≡◌ {A = Option LineReason} None None)) (sym e) refl)) refl same refl refl)
 
-    at : (b : Bool) → not (is_active job.state.owners t) ≡ b → MatchBool b (Tells job NotRun y later) (Tells job (where_answer (get job.names name)) y later) → Stands after (full_reason (Some later) after.why.read after.why.reason y) y
+    at : (b : Bool) → not (is_active job.state.owners t) ≡ b → MatchBool b (OnlyAnswers job NotRun y later) (OnlyAnswers job (where_answer (get job.names name)) y later) → Stands after (full_reason (Some later) after.why.read after.why.reason y) y
     at true off h = off_stands s after y of (off_reason s off (Some (Refused NotActive)) refl) (λ request. refl) refl same h.0
     at false on h = found (get job.names name) refl on h.0
 
-  report_stands : (s : Statement) (answer after_answer : Answer) (after : Explained) (y : Answer) → answer ≡ after_answer → LineOf false bytes (line.Statement t s) → ((r : Option LineReason) → OfStatement job t s r → OfLine job (line.Statement t s) r) → OfSaid job t s None
-      → ((request : Request) → said_of (line.Statement t s) request (Some (Refused NotActive)) ≡ reason_text job (line.Statement t s) (Some (Refused NotActive))) → ((r : Option LineReason) → address_in job (line.Statement t s) r ≡ None)
-      → is_refusal answer ≡ false → is_end answer ≡ false → MatchBool (not (is_active job.state.owners t)) (Tells job NotRun y later) (Tells job answer y later) → after ≡ mid → Stands after (full_reason (Some later) after.why.read after.why.reason y) y
+  report_stands : (s : Statement) (answer after_answer : Answer) (after : Explained) (y : Answer) → answer ≡ after_answer → LineOf false bytes (line.Statement t s) → ((r : Option LineReason) → OfStatement job t s r → OfLine job (line.Statement t s) r) → OfActiveStatement job t s None
+      → ((request : Request) → reason_part (line.Statement t s) request (Some (Refused NotActive)) ≡ reason_text job (line.Statement t s) (Some (Refused NotActive))) → ((r : Option LineReason) → address_in job (line.Statement t s) r ≡ None)
+      → is_refusal answer ≡ false → is_end answer ≡ false → MatchBool (not (is_active job.state.owners t)) (OnlyAnswers job NotRun y later) (OnlyAnswers job answer y later) → after ≡ mid → Stands after (full_reason (Some later) after.why.read after.why.reason y) y
   report_stands s answer _ after y _ of opens said text none granted stays does same = at (not (is_active job.state.owners t)) refl does where
-    at : (b : Bool) → not (is_active job.state.owners t) ≡ b → MatchBool b (Tells job NotRun y later) (Tells job answer y later) → Stands after (full_reason (Some later) after.why.read after.why.reason y) y
+    at : (b : Bool) → not (is_active job.state.owners t) ≡ b → MatchBool b (OnlyAnswers job NotRun y later) (OnlyAnswers job answer y later) → Stands after (full_reason (Some later) after.why.read after.why.reason y) y
     at true off h = off_stands s after y of (opens _ (off_reason s off (Some (Refused NotActive)) refl)) text (none _) same h.0
     at false on h = plain_stands s after y of (opens _ (on_reason s on None said)) (none _) same (ap is_refusal h.0 ∙ granted) (ap is_end h.0 ∙ stays)
 
-  statement_stands : (s : Statement) (after : Explained) (y : Answer) → LineOf false bytes (line.Statement t s) → Does Any job t s y later → Observes keeps mid job t s y after → card_said t s ≡ None → Stands after (full_reason (Some later) after.why.read after.why.reason y) y
+  statement_stands : (s : Statement) (after : Explained) (y : Answer) → LineOf false bytes (line.Statement t s) → Does Any job t s y later → Observes keeps mid job t s y after → region_card t s ≡ None → Stands after (full_reason (Some later) after.why.read after.why.reason y) y
   statement_stands (says.Request q) after y of does observes plain = request_stands q of after y does observes
   statement_stands (says.Region below above fill residence) after y of does observes plain = some_none plain
   statement_stands (says.Where name) after y of does observes plain = where_stands name after y of does observes
@@ -321,7 +321,7 @@ not_two : {P : Type 0} (x y : Event) (more : List Event) → ◌≡◌ {A = List
 not_two x y more e some = absurd (some (let f : [] ≡ more = cc in sym f))
 
 -- what a statement was answered by its step
-answered_does : (number : ℕ) (job later : JobValue) (t : Name) (s : Statement) (y : Answer) → Serves machine number (Some job) (line.Statement t s) (Told number t y ∷ []) (Some later) → Does Any job t s y later × (card_said t s ≡ None)
+answered_does : (number : ℕ) (job later : JobValue) (t : Name) (s : Statement) (y : Answer) → Serves machine number (Some job) (line.Statement t s) (Told number t y ∷ []) (Some later) → Does Any job t s y later × (region_card t s ≡ None)
 answered_does number job later t (says.Region below above fill residence) y h = absurd (let e = h.0 in cc)
 answered_does number job later t (says.Request q) y (z, last, does, e, f) = (subst (λ x. Does Any job t (says.Request q) x later) (sym (one_event y z number t e)) (subst (Does Any job t (says.Request q) z) (sym (some_job later last f)) does), refl)
 answered_does number job later t (says.Where name) y (z, last, does, e, f) = (subst (λ x. Does Any job t (says.Where name) x later) (sym (one_event y z number t e)) (subst (Does Any job t (says.Where name) z) (sym (some_job later last f)) does), refl)
@@ -340,7 +340,7 @@ module _ (set : SetLines) (bytes : List ℕ) (mid after : Explained) (lines : Li
       ∙ ap (λ y. record { why = x.why; reason = x.reason; naming = y; lines = lines }) (sym naming) ∙ ap (λ y. record { why = x.why; reason = x.reason; naming = x.naming; lines = y }) (sym same)
 
   -- a line that asks for nothing
-  quiet_line : (l : Line) (events : List Event) (step new : Option JobValue) → IsLooking step set bytes mid → LineOf (is_first step) bytes l → ((job : JobValue) → OfLine job l None) → ((job : JobValue) → address_in job l None ≡ None) → tells_refusal events ≡ false → ended_by events ≡ None
+  quiet_line : (l : Line) (events : List Event) (step new : Option JobValue) → IsLooking step set bytes mid → LineOf (is_first step) bytes l → ((job : JobValue) → OfLine job l None) → ((job : JobValue) → address_in job l None ≡ None) → reports_refusal events ≡ false → ended_by events ≡ None
       → after ≡ mid → Stood step set bytes events new (kept_with None)
   quiet_line l events None new look of why none quiet stays same =
       subst (λ (a : Explained). Stood None set bytes events new (record { why = a.why; reason = None; naming = a.naming; lines = lines })) (sym same)
@@ -350,11 +350,11 @@ module _ (set : SetLines) (bytes : List ℕ) (mid after : Explained) (lines : Li
       (unheard job set bytes l of mid look events new None lines (why job, sym quiet) (λ request. refl) (none job) (no_end job mid.why.subpools events stays))
 
   -- a REGION statement
-  region_line : (number : ℕ) (t : Name) (s : Statement) (end : Option Bool) (card card_of : CardValue) (u : Name) (step new : Option JobValue) → IsLooking step set bytes mid → LineOf (is_first step) bytes (line.Statement t s) → card_said t s ≡ Some card → after ≡ mid
+  region_line : (number : ℕ) (t : Name) (s : Statement) (end : Option Bool) (card card_of : CardValue) (u : Name) (step new : Option JobValue) → IsLooking step set bytes mid → LineOf (is_first step) bytes (line.Statement t s) → region_card t s ≡ Some card → after ≡ mid
       → Stood step set bytes (ended end ++ Told number u (Region card_of) ∷ []) new (kept_with None)
   region_line number t (says.Region below above fill residence) end card card_of u step new look of is same =
       quiet_line (line.Statement t (says.Region below above fill residence)) (ended end ++ Told number u (Region card_of) ∷ []) step new look of (λ job. refl) (λ job. refl) (quiet end) (stays end) same where
-        quiet : (end : Option Bool) → tells_refusal (ended end ++ Told number u (Region card_of) ∷ []) ≡ false
+        quiet : (end : Option Bool) → reports_refusal (ended end ++ Told number u (Region card_of) ∷ []) ≡ false
         quiet None = refl
         quiet (Some abended) = refl
 
@@ -388,26 +388,26 @@ module _ (set : SetLines) (bytes : List ℕ) (mid after : Explained) (lines : Li
       )
 
   -- a statement that was answered
-  answered_line : (number : ℕ) (t : Name) (s : Statement) (job later : JobValue) (fallen : List Name) (a : Short) → IsLooking (Some job) set bytes mid → LineOf false bytes (line.Statement t s) → Observes keeps mid job t s (lent later.state fallen t a) after
-      → Serves machine number (Some job) (line.Statement t s) (Told number t (lent later.state fallen t a) ∷ []) (Some later)
-      → Stood (Some job) set bytes (Told number t (lent later.state fallen t a) ∷ []) (Some later) (kept_with (answer_reason (Some later) after.why.read after.why.reason a))
+  answered_line : (number : ℕ) (t : Name) (s : Statement) (job later : JobValue) (fallen : List Name) (a : Short) → IsLooking (Some job) set bytes mid → LineOf false bytes (line.Statement t s) → Observes keeps mid job t s (full_answer later.state fallen t a) after
+      → Serves machine number (Some job) (line.Statement t s) (Told number t (full_answer later.state fallen t a) ∷ []) (Some later)
+      → Stood (Some job) set bytes (Told number t (full_answer later.state fallen t a) ∷ []) (Some later) (kept_with (answer_reason (Some later) after.why.read after.why.reason a))
   answered_line number t s job later fallen a look of observes serves =
-      let does = answered_does number job later t s (lent later.state fallen t a) serves in
-      subst (λ r. Stands number job later set bytes t mid look lines after r (lent later.state fallen t a)) (sym (same_reason (Some later) after.why.read after.why.reason later fallen t a))
-      (statement_stands number job later set bytes t mid look lines s after (lent later.state fallen t a) of does.0 observes does.1)
+      let does = answered_does number job later t s (full_answer later.state fallen t a) serves in
+      subst (λ r. Stands number job later set bytes t mid look lines after r (full_answer later.state fallen t a)) (sym (same_reason (Some later) after.why.read after.why.reason later fallen t a))
+      (statement_stands number job later set bytes t mid look lines s after (full_answer later.state fallen t a) of does.0 observes does.1)
 
   module _ (w w' : WalkValue) (look : IsLooking w.step set bytes mid) where
-    told_line : (t : Name) (s : Statement) (a : Short) (job later : JobValue) → w.step ≡ Some job → w'.step ≡ Some later → LineOf (is_first w.step) bytes (line.Statement t s) → Observes keeps mid job t s (lent later.state (fallen_in w'.reply) t a) after → IsTold w bytes (told.Answered t a) w'
-        → Stood w.step set bytes (Told w.number t (lent_in w'.step (fallen_in w'.reply) t a) ∷ []) w'.step (kept_with (answer_reason w'.step after.why.read after.why.reason a))
+    told_line : (t : Name) (s : Statement) (a : Short) (job later : JobValue) → w.step ≡ Some job → w'.step ≡ Some later → LineOf (is_first w.step) bytes (line.Statement t s) → Observes keeps mid job t s (full_answer later.state (ended_with_in w'.reply) t a) after → ServesAs w bytes (told.Answered t a) w'
+        → Stood w.step set bytes (Told w.number t (full_answer_in w'.step (ended_with_in w'.reply) t a) ∷ []) w'.step (kept_with (answer_reason w'.step after.why.read after.why.reason a))
     told_line t s a job later is new of observes tells =
-        let serves = subst (λ l. Serves machine w.number w.step l (Told w.number t (lent_in w'.step (fallen_in w'.reply) t a) ∷ []) w'.step) (one_reading.one_line (is_first w.step) bytes tells.0 (line.Statement t s) tells.1 of) tells.2 in
-        subst (λ o. Stood w.step set bytes (Told w.number t (lent_in o (fallen_in w'.reply) t a) ∷ []) o (kept_with (answer_reason o after.why.read after.why.reason a))) (sym new)
-        (subst (λ o. Stood o set bytes (Told w.number t (lent later.state (fallen_in w'.reply) t a) ∷ []) (Some later) (kept_with (answer_reason (Some later) after.why.read after.why.reason a))) (sym is)
-        (answered_line w.number t s job later (fallen_in w'.reply) a (subst (λ o. IsLooking o set bytes mid) is look) (subst (λ o. LineOf (is_first o) bytes (line.Statement t s)) is of) observes
-        (subst (λ o. Serves machine w.number o (line.Statement t s) (Told w.number t (lent later.state (fallen_in w'.reply) t a) ∷ []) (Some later)) is (subst (λ o. Serves machine w.number w.step (line.Statement t s) (Told w.number t (lent_in o (fallen_in w'.reply) t a) ∷ []) o) new serves))))
+        let serves = subst (λ l. Serves machine w.number w.step l (Told w.number t (full_answer_in w'.step (ended_with_in w'.reply) t a) ∷ []) w'.step) (one_reading.one_line (is_first w.step) bytes tells.0 (line.Statement t s) tells.1 of) tells.2 in
+        subst (λ o. Stood w.step set bytes (Told w.number t (full_answer_in o (ended_with_in w'.reply) t a) ∷ []) o (kept_with (answer_reason o after.why.read after.why.reason a))) (sym new)
+        (subst (λ o. Stood o set bytes (Told w.number t (full_answer later.state (ended_with_in w'.reply) t a) ∷ []) (Some later) (kept_with (answer_reason (Some later) after.why.read after.why.reason a))) (sym is)
+        (answered_line w.number t s job later (ended_with_in w'.reply) a (subst (λ o. IsLooking o set bytes mid) is look) (subst (λ o. LineOf (is_first o) bytes (line.Statement t s)) is of) observes
+        (subst (λ o. Serves machine w.number o (line.Statement t s) (Told w.number t (full_answer later.state (ended_with_in w'.reply) t a) ∷ []) (Some later)) is (subst (λ o. Serves machine w.number w.step (line.Statement t s) (Told w.number t (full_answer_in o (ended_with_in w'.reply) t a) ∷ []) o) new serves))))
 
     -- what is kept of any line, and printed behind it
-    pub kept_behind : (t : LineTold) → IsTold w bytes t w' → ObservesLine keeps mid w.step bytes t w' after → Stood w.step set bytes (events_told w.number w' t) w'.step (kept_with (line_reason w'.step after.why.read after.why.reason t))
+    pub kept_behind : (t : LineEvent) → ServesAs w bytes t w' → ObservesLine keeps mid w.step bytes t w' after → Stood w.step set bytes (events_of_line w.number w' t) w'.step (kept_with (line_reason w'.step after.why.read after.why.reason t))
     kept_behind told.Nothing tells (of, same) = quiet_line line.Nothing [] w.step w'.step look of (λ job. refl) (λ job. refl) refl refl same
     kept_behind (told.Began end card) tells (t, s, of, is, same) = region_line w.number t s end card card card.name w.step w'.step look of is same
     kept_behind (told.Faulted fault) tells same = fault_line w.number fault w.step w'.step look tells.0 same
@@ -435,11 +435,11 @@ module _ (mid after : Explained) (job : JobValue) (t : Name) (y : Answer) where
   statement_keeps says.ReportSubpools same = stays_same mid after same
   statement_keeps says.ReportMap same = stays_same mid after same
 
-pub line_keeps : (step : Option JobValue) (w' : WalkValue) (bytes : List ℕ) (mid after : Explained) (t : LineTold) → ObservesLine keeps mid step bytes t w' after → Stays mid after
+pub line_keeps : (step : Option JobValue) (w' : WalkValue) (bytes : List ℕ) (mid after : Explained) (t : LineEvent) → ObservesLine keeps mid step bytes t w' after → Stays mid after
 line_keeps step w' bytes mid after told.Nothing (of, same) = stays_same mid after same
 line_keeps step w' bytes mid after (told.Began end card) (t, s, of, is, same) = stays_same mid after same
 line_keeps step w' bytes mid after (told.Faulted fault) same = stays_same mid after same
-line_keeps step w' bytes mid after (told.Answered t a) (s, job, later, of, is, new, observes) = statement_keeps mid after job t (lent later.state (fallen_in w'.reply) t a) s observes
+line_keeps step w' bytes mid after (told.Answered t a) (s, job, later, of, is, new, observes) = statement_keeps mid after job t (full_answer later.state (ended_with_in w'.reply) t a) s observes
 
 -- ---- a line whose explanations are printed apart
 
@@ -448,7 +448,7 @@ pub looking_begun : (step : Option JobValue) (set begun : SetLines) (bytes : Lis
 looking_begun step set begun bytes x e look =
     record { read = look.read; before = look.before; subpools = look.subpools; unheard = look.unheard; unnamed = look.unnamed; lines = λ job is. look.lines job is ∙ e ∙ ap (λ o. lines_before o set) is }
 
-pub stands_behind : (before after : Option (List ℕ)) (w : WalkValue) (set : SetLines) (l : List ℕ) (w' : WalkValue) (t : LineTold) (text : List ℕ) → Appends before after text → IsBehind w.step set l (events_told w.number w' t) w'.step text → StandsBehind before after w set l w' t
+pub stands_behind : (before after : Option (List ℕ)) (w : WalkValue) (set : SetLines) (l : List ℕ) (w' : WalkValue) (t : LineEvent) (text : List ℕ) → Appends before after text → IsExplanationText w.step set l (events_of_line w.number w' t) w'.step text → AppendsExplanation before after w set l w' t
 stands_behind before after w set l w' (told.Faulted fault) text a is = tt
 stands_behind before after w set l w' told.Nothing text a is = (text, a, is)
 stands_behind before after w set l w' (told.Began end card) text a is = (text, a, is)

@@ -10,7 +10,7 @@ use Rattle.mvs_laws.specs.Going.{Sized}
 use Rattle.mvs_laws.proofs.Going.{line_keeps_sized, run_some}
 use Rattle.mvs_job.specs.declared.printing.Stop.{Stop}
 use Rattle.mvs_job.specs.declared.printing.Stop.TheVariants as stop
-use Rattle.mvs_job.specs.Telling.{WalkValue, new_walk}
+use Rattle.mvs_job.specs.LineEvents.{WalkValue, new_walk}
 use Rattle.mvs_job.specs.Trace.{Arrives, Ending, Ends, Entry, Exhausts, IsExecuted, IsTrace, Traces}
 use Rattle.mvs_job.specs.Consuming.{HasRun, IsAny, IsBegun, IsFront, IsWritten, Known, Leaves, Piece, RunsEnd, RunsEntry, WritesFront, WritesPiece, Written, WrittenAfter}
 use Rattle.mvs_job.proofs.Tracing.{trace_of, trace_sized, traces_then}

@@ -18,16 +18,16 @@ use Rattle.job_script.specs.Writing.{WritesAll}
 use Rattle.mvs_job.specs.declared.consumer.End.{End}
 use Rattle.mvs_job.specs.declared.consumer.End.TheVariants as end
 use Rattle.mvs_job.specs.declared.explained.Explained.{Explained}
-use Rattle.mvs_job.specs.declared.walk.LineTold.{LineTold}
-use Rattle.mvs_job.specs.declared.walk.LineTold.TheVariants as told
+use Rattle.mvs_job.specs.declared.walk.LineEvent.{LineEvent}
+use Rattle.mvs_job.specs.declared.walk.LineEvent.TheVariants as told
 use Rattle.mvs_job.specs.Consuming.{AcceptsEnd, IsEnd, IsEntry, IsOfLine}
 use Rattle.mvs_job.specs.Explained.{ExplainedArePrintings, IsExplained, IsExplainedAs, SetsNames, explained, set_after, set_by_entries, set_from}
-use Rattle.mvs_job.specs.Explaining.{IsBehind, behind_said, told_text, without_starred}
-use Rattle.mvs_job.specs.Granting.{IsReadIn, tells_grant}
+use Rattle.mvs_job.specs.Explaining.{IsExplanationText, explanation_text, text_of_event, without_starred}
+use Rattle.mvs_job.specs.Granting.{IsReadIn, reports_grant}
 use Rattle.mvs_job.specs.Looking.{IsLooking, knows_set}
-use Rattle.mvs_job.specs.Naming.{SetLines, SetsSome, no_lines, set_behind}
+use Rattle.mvs_job.specs.Naming.{SetLines, SetsSome, no_lines, names_after}
 use Rattle.mvs_job.specs.Observing.{ObservesLine}
-use Rattle.mvs_job.specs.Telling.{IsTold, WalkValue, events_told}
+use Rattle.mvs_job.specs.LineEvents.{ServesAs, WalkValue, events_of_line}
 use Rattle.mvs_job.specs.Trace.{Closed, Entry, Executed, Exhausted, Faulty, Kind}
 use Rattle.mvs_job.specs.Why.{line_reason}
 use Rattle.mvs_job.proofs.Behind.{keeps, kept_behind, kept_same, kept_with}
@@ -42,28 +42,28 @@ set_then set (x ∷ history) e = set_then (set_after x.before set x x.kind) hist
 -- ---- the entry of a line
 
 -- what was executed, or the fault
-abbrev Said : ℕ → List ℕ → LineTold → WalkValue → Entry → Type 0
+abbrev Said : ℕ → List ℕ → LineEvent → WalkValue → Entry → Type 0
 Said n line (told.Faulted fault) w e = FaultOf (is_first e.before) line fault × (e.kind ≡ Faulty fault) × (w.step ≡ e.before)
 Said n line t w e =
-    (said : Line) × LineOf (is_first e.before) line said × Serves machine n e.before said (events_told n w t) w.step × (e.kind ≡ Executed said) × (e.number ≡ n) × (e.bytes ≡ line)
+    (said : Line) × LineOf (is_first e.before) line said × Serves machine n e.before said (events_of_line n w t) w.step × (e.kind ≡ Executed said) × (e.number ≡ n) × (e.bytes ≡ line)
 
 one_fault : (n : ℕ) (x y : Fault) → ◌≡◌ {A = List Event} (Faulted n x ∷ []) (Faulted n y ∷ []) → x ≡ y
 one_fault n x y e = cc
 
 module _ (n : ℕ) (line : List ℕ) (w : WalkValue) (e : Entry) where
-  executed_said : (t : LineTold) → e.events ≡ events_told n w t → e.after ≡ w.step → ((said : Line) × (events : List Event) × (new : Option JobValue) × LineOf (is_first e.before) line said × Serves machine n e.before said events new
-      × (e ≡ record { number = n; bytes = line; kind = Executed said; events = events; before = e.before; after = new })) → (said : Line) × LineOf (is_first e.before) line said × Serves machine n e.before said (events_told n w t) w.step × (e.kind ≡ Executed said) × (e.number ≡ n) × (e.bytes ≡ line)
+  executed_said : (t : LineEvent) → e.events ≡ events_of_line n w t → e.after ≡ w.step → ((said : Line) × (events : List Event) × (new : Option JobValue) × LineOf (is_first e.before) line said × Serves machine n e.before said events new
+      × (e ≡ record { number = n; bytes = line; kind = Executed said; events = events; before = e.before; after = new })) → (said : Line) × LineOf (is_first e.before) line said × Serves machine n e.before said (events_of_line n w t) w.step × (e.kind ≡ Executed said) × (e.number ≡ n) × (e.bytes ≡ line)
   executed_said t events after (said, these, new, of, serves, is) = (
     said,
     of,
-    subst (λ o. Serves machine n e.before said (events_told n w t) o) (sym (ap (λ (e : Entry). e.after) is) ∙ after)
+    subst (λ o. Serves machine n e.before said (events_of_line n w t) o) (sym (ap (λ (e : Entry). e.after) is) ∙ after)
         (subst (λ x. Serves machine n e.before said x new) (sym (ap (λ (e : Entry). e.events) is) ∙ events) serves),
     ap (λ (e : Entry). e.kind) is,
     ap (λ (e : Entry). e.number) is,
     ap (λ (e : Entry). e.bytes) is,
   )
 
-  said_by : (t : LineTold) → IsEntry n line w t e → Said n line t w e
+  said_by : (t : LineEvent) → IsEntry n line w t e → Said n line t w e
   said_by (told.Faulted fault) entry = at entry.of_line where
     at : IsOfLine (told.Faulted fault) n line e → Said n line (told.Faulted fault) w e
     at (other, of, is) =
@@ -77,7 +77,7 @@ module _ (n : ℕ) (line : List ℕ) (w : WalkValue) (e : Entry) where
   abbrev before_it : WalkValue
   before_it = record { step = e.before; number = n; reply = w.reply }
 
-  told_so : (t : LineTold) → Said n line t w e → IsTold before_it line t w
+  told_so : (t : LineEvent) → Said n line t w e → ServesAs before_it line t w
   told_so (told.Faulted fault) (of, kind, same) = (of, same)
   told_so told.Nothing (said, of, serves, kind, number, bytes) = (said, of, serves)
   told_so (told.Began end card) (said, of, serves, kind, number, bytes) = (said, of, serves)
@@ -87,88 +87,88 @@ module _ (n : ℕ) (line : List ℕ) (w : WalkValue) (e : Entry) where
 
   module _ (set : SetLines) (mid after x : Explained) (look : IsLooking e.before set line mid) (why : x.why ≡ after.why) (naming : x.naming ≡ after.naming) where
     -- the explanations by what is kept
-    same_behind : (t : LineTold) → x.reason ≡ line_reason w.step after.why.read after.why.reason t → (events : List Event) → behind_said (kept_with set line mid after x.lines (line_reason w.step after.why.read after.why.reason t)) events w.step ≡ behind_said x events w.step
-    same_behind t reason events = ap (λ (y : Explained). behind_said y events w.step) (kept_same set line mid after x.lines x (line_reason w.step after.why.read after.why.reason t) why naming reason refl)
+    same_behind : (t : LineEvent) → x.reason ≡ line_reason w.step after.why.read after.why.reason t → (events : List Event) → explanation_text (kept_with set line mid after x.lines (line_reason w.step after.why.read after.why.reason t)) events w.step ≡ explanation_text x events w.step
+    same_behind t reason events = ap (λ (y : Explained). explanation_text y events w.step) (kept_same set line mid after x.lines x (line_reason w.step after.why.read after.why.reason t) why naming reason refl)
 
-    executed_text : (t : LineTold) → x.reason ≡ line_reason w.step after.why.read after.why.reason t → IsEntry n line w t e → (said : Line) → e.kind ≡ Executed said → e.bytes ≡ line → IsTold before_it line t w → ObservesLine keeps mid e.before line t w after
-        → IsExplainedAs set e e.kind (printing (events_told n w t) ++ behind_said x (events_told n w t) w.step)
+    executed_text : (t : LineEvent) → x.reason ≡ line_reason w.step after.why.read after.why.reason t → IsEntry n line w t e → (said : Line) → e.kind ≡ Executed said → e.bytes ≡ line → ServesAs before_it line t w → ObservesLine keeps mid e.before line t w after
+        → IsExplainedAs set e e.kind (printing (events_of_line n w t) ++ explanation_text x (events_of_line n w t) w.step)
     executed_text t reason entry said kind bytes tells observed =
-        let events = events_told n w t in
+        let events = events_of_line n w t in
         let behind = (kept_behind set line mid after x.lines before_it w look t tells observed).0 in
-        let here : IsBehind e.before set line events w.step (behind_said x events w.step) = subst (λ y. IsBehind e.before set line events w.step y) (same_behind t reason events) behind in
-        let at : IsBehind e.before set e.bytes e.events e.after (behind_said x events w.step) = subst (λ b. IsBehind e.before set b e.events e.after (behind_said x events w.step)) (sym bytes)
-        (subst (λ v. IsBehind e.before set line v e.after (behind_said x events w.step)) (sym entry.events) (subst (λ o. IsBehind e.before set line events o (behind_said x events w.step)) (sym entry.after) here)) in
-        subst (λ k. IsExplainedAs set e k (printing events ++ behind_said x events w.step)) (sym kind) (behind_said x events w.step, at, ap (λ v. printing v ++ behind_said x events w.step) (sym entry.events))
+        let here : IsExplanationText e.before set line events w.step (explanation_text x events w.step) = subst (λ y. IsExplanationText e.before set line events w.step y) (same_behind t reason events) behind in
+        let at : IsExplanationText e.before set e.bytes e.events e.after (explanation_text x events w.step) = subst (λ b. IsExplanationText e.before set b e.events e.after (explanation_text x events w.step)) (sym bytes)
+        (subst (λ v. IsExplanationText e.before set line v e.after (explanation_text x events w.step)) (sym entry.events) (subst (λ o. IsExplanationText e.before set line events o (explanation_text x events w.step)) (sym entry.after) here)) in
+        subst (λ k. IsExplainedAs set e k (printing events ++ explanation_text x events w.step)) (sym kind) (explanation_text x events w.step, at, ap (λ v. printing v ++ explanation_text x events w.step) (sym entry.events))
 
-    text_of : (t : LineTold) → x.reason ≡ line_reason w.step after.why.read after.why.reason t → IsEntry n line w t e → Said n line t w e → ObservesLine keeps mid e.before line t w after → IsExplainedAs set e e.kind (told_text x n w t)
-    text_of (told.Faulted fault) reason entry (of, kind, same) observed = subst (λ k. IsExplainedAs set e k (printing (events_told n w (told.Faulted fault)))) (sym kind) (ap printing (sym entry.events))
+    text_of : (t : LineEvent) → x.reason ≡ line_reason w.step after.why.read after.why.reason t → IsEntry n line w t e → Said n line t w e → ObservesLine keeps mid e.before line t w after → IsExplainedAs set e e.kind (text_of_event x n w t)
+    text_of (told.Faulted fault) reason entry (of, kind, same) observed = subst (λ k. IsExplainedAs set e k (printing (events_of_line n w (told.Faulted fault)))) (sym kind) (ap printing (sym entry.events))
     text_of told.Nothing reason entry (said, of, serves, kind, number, bytes) observed = executed_text told.Nothing reason entry said kind bytes (said, of, serves) observed
     text_of (told.Began end card) reason entry (said, of, serves, kind, number, bytes) observed = executed_text (told.Began end card) reason entry said kind bytes (said, of, serves) observed
     text_of (told.Answered t a) reason entry (said, of, serves, kind, number, bytes) observed = executed_text (told.Answered t a) reason entry said kind bytes (said, of, serves) observed
 
-    pub explained_text : (t : LineTold) → x.reason ≡ line_reason w.step after.why.read after.why.reason t → IsEntry n line w t e → ObservesLine keeps mid e.before line t w after → IsExplainedAs set e e.kind (told_text x n w t)
+    pub explained_text : (t : LineEvent) → x.reason ≡ line_reason w.step after.why.read after.why.reason t → IsEntry n line w t e → ObservesLine keeps mid e.before line t w after → IsExplainedAs set e e.kind (text_of_event x n w t)
     explained_text t reason entry observed = text_of t reason entry (said_by t entry) observed
 
   -- ---- the names after it
 
   module _ (set : SetLines) (read : Line) (is : IsReadIn e.before line read) where
-    nothing_set : (events : List Event) → read ≡ Nothing → set_behind n set read events ≡ set
-    nothing_set events none = ap (λ l. set_behind n set l events) none
+    nothing_set : (events : List Event) → read ≡ Nothing → names_after n set read events ≡ set
+    nothing_set events none = ap (λ l. names_after n set l events) none
 
-    set_executed : (t : LineTold) → e.events ≡ events_told n w t → (said : Line) → LineOf (is_first e.before) line said → e.kind ≡ Executed said → e.number ≡ n → set_behind n set read (events_told n w t) ≡ set_after e.before set e e.kind
+    set_executed : (t : LineEvent) → e.events ≡ events_of_line n w t → (said : Line) → LineOf (is_first e.before) line said → e.kind ≡ Executed said → e.number ≡ n → names_after n set read (events_of_line n w t) ≡ set_after e.before set e e.kind
     set_executed t events said of kind number = at e.before refl is of where
-      at : (o : Option JobValue) → e.before ≡ o → IsReadIn o line read → LineOf (is_first o) line said → set_behind n set read (events_told n w t) ≡ set_after o set e e.kind
-      at None o none here = nothing_set (events_told n w t) none
+      at : (o : Option JobValue) → e.before ≡ o → IsReadIn o line read → LineOf (is_first o) line said → names_after n set read (events_of_line n w t) ≡ set_after o set e e.kind
+      at None o none here = nothing_set (events_of_line n w t) none
       at (Some job) o (inl of) here =
-          ap (λ l. set_behind n set l (events_told n w t)) (one_reading.one_line false line read said of here) ∙ ap (λ m. set_behind m set said (events_told n w t)) (sym number) ∙ ap (λ v. set_behind e.number set said v) (sym events)
+          ap (λ l. names_after n set l (events_of_line n w t)) (one_reading.one_line false line read said of here) ∙ ap (λ m. names_after m set said (events_of_line n w t)) (sym number) ∙ ap (λ v. names_after e.number set said v) (sym events)
           ∙ ap (λ k. set_after (Some job) set e k) (sym kind)
       at (Some job) o (inr (fault, of, none)) here = absurd (one_reading.not_both false line said fault here of)
 
-    set_faulty : (fault : Fault) (events : List Event) → FaultOf (is_first e.before) line fault → e.kind ≡ Faulty fault → set_behind n set read events ≡ set_after e.before set e e.kind
+    set_faulty : (fault : Fault) (events : List Event) → FaultOf (is_first e.before) line fault → e.kind ≡ Faulty fault → names_after n set read events ≡ set_after e.before set e e.kind
     set_faulty fault events of kind = at e.before is of where
-      at : (o : Option JobValue) → IsReadIn o line read → FaultOf (is_first o) line fault → set_behind n set read events ≡ set_after o set e e.kind
+      at : (o : Option JobValue) → IsReadIn o line read → FaultOf (is_first o) line fault → names_after n set read events ≡ set_after o set e e.kind
       at None none here = nothing_set events none
       at (Some job) (inl said) here = absurd (one_reading.not_both false line read fault said here)
       at (Some job) (inr (other, said, none)) here = nothing_set events none ∙ ap (λ k. set_after (Some job) set e k) (sym kind)
 
-    set_so : (t : LineTold) → IsEntry n line w t e → Said n line t w e → set_behind n set read (events_told n w t) ≡ set_after e.before set e e.kind
-    set_so (told.Faulted fault) entry (of, kind, same) = set_faulty fault (events_told n w (told.Faulted fault)) of kind
+    set_so : (t : LineEvent) → IsEntry n line w t e → Said n line t w e → names_after n set read (events_of_line n w t) ≡ set_after e.before set e e.kind
+    set_so (told.Faulted fault) entry (of, kind, same) = set_faulty fault (events_of_line n w (told.Faulted fault)) of kind
     set_so told.Nothing entry (said, of, serves, kind, number, bytes) = set_executed told.Nothing entry.events said of kind number
     set_so (told.Began end card) entry (said, of, serves, kind, number, bytes) = set_executed (told.Began end card) entry.events said of kind number
     set_so (told.Answered t a) entry (said, of, serves, kind, number, bytes) = set_executed (told.Answered t a) entry.events said of kind number
 
-  pub set_next : (history : List Entry) (read : Line) → IsReadIn e.before line read → (t : LineTold) → IsEntry n line w t e → set_behind n (set_by_entries history) read (events_told n w t) ≡ set_by_entries (history ++ e ∷ [])
+  pub set_next : (history : List Entry) (read : Line) → IsReadIn e.before line read → (t : LineEvent) → IsEntry n line w t e → names_after n (set_by_entries history) read (events_of_line n w t) ≡ set_by_entries (history ++ e ∷ [])
   set_next history read is t entry = set_so (set_by_entries history) read is t entry (said_by t entry) ∙ sym (set_then no_lines history e)
 
   -- ---- the memory that it needs
 
   module _ (read : Line) (is : IsReadIn e.before line read) (sets : SetsSome read) where
-    needs_so : (t : LineTold) → tells_grant (events_told n w t) ≡ true → IsTold before_it line t w → (said : Line) → LineOf (is_first e.before) line said → e.kind ≡ Executed said → SetsNames e e.kind
+    needs_so : (t : LineEvent) → reports_grant (events_of_line n w t) ≡ true → ServesAs before_it line t w → (said : Line) → LineOf (is_first e.before) line said → e.kind ≡ Executed said → SetsNames e e.kind
     needs_so t grant tells said of kind =
         let stops = stops_naming before_it w line read is t tells sets grant in
         subst (SetsNames e) (sym kind) (subst (λ l. TakesMemory e.before l []) (one_reading.one_line (is_first e.before) line stops.0 said stops.1 of) stops.2)
 
-    needs_of : (t : LineTold) → tells_grant (events_told n w t) ≡ true → Said n line t w e → SetsNames e e.kind
+    needs_of : (t : LineEvent) → reports_grant (events_of_line n w t) ≡ true → Said n line t w e → SetsNames e e.kind
     needs_of (told.Faulted fault) grant said = absurd (let f : false ≡ true = grant in cc)
     needs_of told.Nothing grant (said, of, serves, kind, number, bytes) = needs_so told.Nothing grant (said, of, serves) said of kind
     needs_of (told.Began end card) grant (said, of, serves, kind, number, bytes) = needs_so (told.Began end card) grant (said, of, serves) said of kind
     needs_of (told.Answered t a) grant (said, of, serves, kind, number, bytes) = needs_so (told.Answered t a) grant (said, of, serves) said of kind
 
-    pub needs_names : (t : LineTold) → tells_grant (events_told n w t) ≡ true → IsEntry n line w t e → SetsNames e e.kind
+    pub needs_names : (t : LineEvent) → reports_grant (events_of_line n w t) ≡ true → IsEntry n line w t e → SetsNames e e.kind
     needs_names t grant entry = needs_of t grant (said_by t entry)
 
 -- ---- the text of a line
 
-pub told_more : (x : Explained) (n : ℕ) (w : WalkValue) (t : LineTold) → (more : List ℕ) × (told_text x n w t ≡ printing (events_told n w t) ++ more)
-told_more x n w (told.Faulted fault) = ([], sym (append-nil (printing (events_told n w (told.Faulted fault)))))
-told_more x n w told.Nothing = (behind_said x (events_told n w told.Nothing) w.step, refl)
-told_more x n w (told.Began end card) = (behind_said x (events_told n w (told.Began end card)) w.step, refl)
-told_more x n w (told.Answered t a) = (behind_said x (events_told n w (told.Answered t a)) w.step, refl)
+pub told_more : (x : Explained) (n : ℕ) (w : WalkValue) (t : LineEvent) → (more : List ℕ) × (text_of_event x n w t ≡ printing (events_of_line n w t) ++ more)
+told_more x n w (told.Faulted fault) = ([], sym (append-nil (printing (events_of_line n w (told.Faulted fault)))))
+told_more x n w told.Nothing = (explanation_text x (events_of_line n w told.Nothing) w.step, refl)
+told_more x n w (told.Began end card) = (explanation_text x (events_of_line n w (told.Began end card)) w.step, refl)
+told_more x n w (told.Answered t a) = (explanation_text x (events_of_line n w (told.Answered t a)) w.step, refl)
 
-pub told_faulted : (x : Explained) (n : ℕ) (w : WalkValue) (t : LineTold) (fault : Fault) → t ≡ told.Faulted fault → told_text x n w t ≡ printing (events_told n w t)
-told_faulted x n w t fault is = subst (λ t. told_text x n w t ≡ printing (events_told n w t)) (sym is) refl
+pub told_faulted : (x : Explained) (n : ℕ) (w : WalkValue) (t : LineEvent) (fault : Fault) → t ≡ told.Faulted fault → text_of_event x n w t ≡ printing (events_of_line n w t)
+told_faulted x n w t fault is = subst (λ t. text_of_event x n w t ≡ printing (events_of_line n w t)) (sym is) refl
 
-pub told_behind : (x : Explained) (n : ℕ) (w : WalkValue) (t : LineTold) → ((fault : Fault) → t ≡ told.Faulted fault → ⊥) → told_text x n w t ≡ printing (events_told n w t) ++ behind_said x (events_told n w t) w.step
+pub told_behind : (x : Explained) (n : ℕ) (w : WalkValue) (t : LineEvent) → ((fault : Fault) → t ≡ told.Faulted fault → ⊥) → text_of_event x n w t ≡ printing (events_of_line n w t) ++ explanation_text x (events_of_line n w t) w.step
 told_behind x n w (told.Faulted fault) other = absurd (other fault refl)
 told_behind x n w told.Nothing other = refl
 told_behind x n w (told.Began end card) other = refl

@@ -21,8 +21,8 @@ use Rattle.mvs_job.specs.declared.run.RunFault.{RunFault}
 use Rattle.mvs_job.specs.declared.run.RunFault.TheVariants.{Read, Write, Memory, ReadTooLong}
 use Rattle.mvs_job.specs.Consuming.{IsAny, IsFront, Known, Leaves, Piece, RunsEntry, RunsLast, RunsNext}
 use Rattle.mvs_job.specs.Exchanging.{IsRest}
-use Rattle.mvs_job.specs.Streams.{Feeds, FeedsSome, Finishes, HasAnswered, HasEnded, HasGivenUp, IsUnderWay, Stands, fault_of}
-use Rattle.mvs_job.specs.Telling.{WalkValue, new_walk}
+use Rattle.mvs_job.specs.Streams.{Feeds, FeedsSome, Finishes, HasAnswered, HasEnded, HasGivenUp, IsUnderWay, HasConsumed, fault_of}
+use Rattle.mvs_job.specs.LineEvents.{WalkValue, new_walk}
 use Rattle.mvs_job.specs.Trace.{Entry, Faulty, IsFaulty}
 use Rattle.mvs_job.proofs.Driving.{run_ended, run_fault, run_front, run_next, run_start, run_stopped}
 use Rattle.mvs_job.proofs.FirstLine.{lines_at_other}
@@ -117,11 +117,11 @@ module _ (piece : Piece) {S : Type 0} (knows : Known S) where
 
   -- ---- a piece
 
-  pub stands_start : (start : Option (List ℕ)) (s : S) → knows.has s [] → Stands piece knows start start [] new_walk [] s
+  pub stands_start : (start : Option (List ℕ)) (s : S) → knows.has s [] → HasConsumed piece knows start start [] new_walk [] s
   stands_start start s known = record { lines = []; cut = refl; each = tt; unended = tt; run = run_start piece knows start new_walk s refl known }
 
   -- bytes of one line
-  pub stands_many : (start now : Option (List ℕ)) (told : List ℕ) (w : WalkValue) (kept line : List ℕ) (s : S) → Stands piece knows start now told w kept s → AllByRecursion (λ b. b ≢ 10) line → Stands piece knows start now (told ++ line) w (kept ++ line) s
+  pub stands_many : (start now : Option (List ℕ)) (told : List ℕ) (w : WalkValue) (kept line : List ℕ) (s : S) → HasConsumed piece knows start now told w kept s → AllByRecursion (λ b. b ≢ 10) line → HasConsumed piece knows start now (told ++ line) w (kept ++ line) s
   stands_many start now told w kept line s st none = record {
     lines = st.lines;
     cut = ap (λ x. x ++ line) st.cut ∙ append_assoc (ended_text st.lines) kept line;
@@ -131,12 +131,12 @@ module _ (piece : Piece) {S : Type 0} (knows : Known S) where
   }
 
   -- the lines of a script that goes on with some bytes
-  script_cut : (start now : Option (List ℕ)) (told : List ℕ) (w : WalkValue) (kept : List ℕ) (s : S) (st : Stands piece knows start now told w kept s) (more : List ℕ) → lines_of (told ++ more) ≡ st.lines ++ lines_of (kept ++ more)
+  script_cut : (start now : Option (List ℕ)) (told : List ℕ) (w : WalkValue) (kept : List ℕ) (s : S) (st : HasConsumed piece knows start now told w kept s) (more : List ℕ) → lines_of (told ++ more) ≡ st.lines ++ lines_of (kept ++ more)
   script_cut start now told w kept s st more = ap (λ x. lines_of (x ++ more)) st.cut ∙ ap lines_of (append_assoc (ended_text st.lines) kept more) ∙ lines_cut st.lines (kept ++ more) st.each
 
   -- one more line
-  module _ (start now later : Option (List ℕ)) (told : List ℕ) (w w' : WalkValue) (kept : List ℕ) (s s' : S) (st : Stands piece knows start now told w kept s) where
-    pub stands_next : w'.number ≡ w.number + 1 → RunsNext piece knows now later w kept w' s s' (Ok true) → Stands piece knows start later (told ++ 10 ∷ []) w' [] s'
+  module _ (start now later : Option (List ℕ)) (told : List ℕ) (w w' : WalkValue) (kept : List ℕ) (s s' : S) (st : HasConsumed piece knows start now told w kept s) where
+    pub stands_next : w'.number ≡ w.number + 1 → RunsNext piece knows now later w kept w' s s' (Ok true) → HasConsumed piece knows start later (told ++ 10 ∷ []) w' [] s'
     stands_next next r = record {
       lines = st.lines ++ kept ∷ [];
       cut = ap (λ x. x ++ 10 ∷ []) st.cut ∙ append_assoc (ended_text st.lines) kept (10 ∷ []) ∙ sym (ended_more st.lines kept) ∙ sym (append-nil (ended_text (st.lines ++ kept ∷ [])));
@@ -217,17 +217,17 @@ feed_split told bytes more end h e = subst (λ b. (told ++ take end bytes) ++ (b
 module _ (piece : Piece) {S : Type 0} (knows : Known S) (before after : Option (List ℕ)) (bytes : List ℕ) (w w' : WalkValue) (s s' : S) where
   -- a line that is whole, where none is kept
   module _ (end : ℕ) (fits : end < length bytes) (found : get_or bytes end 0 ≡ 10) (none : (k : ℕ) → k < end → get_or bytes k 0 ≢ 10)
-      (next : w'.number ≡ w.number + 1) (start : Option (List ℕ)) (told : List ℕ) (st : Stands piece knows start before told w [] s) where
-    line_stands : Stands piece knows start before (told ++ take end bytes) w (take end bytes) s
+      (next : w'.number ≡ w.number + 1) (start : Option (List ℕ)) (told : List ℕ) (st : HasConsumed piece knows start before told w [] s) where
+    line_stands : HasConsumed piece knows start before (told ++ take end bytes) w (take end bytes) s
     line_stands = stands_many piece knows start before told w [] (take end bytes) s st (all_before bytes end none (omega arith))
 
     fed : (r : Result Bool Stop) → RunsNext piece knows before after w (take end bytes) w' s s' r → Feeds piece knows before after (10 ∷ []) w (take end bytes) s w' [] s' r
     fed r h = feeds_line piece knows before after w w' (take end bytes) s s' r next h
 
-    pub whole_on : RunsNext piece knows before after w (take end bytes) w' s s' (Ok true) → Stands piece knows start after (told ++ take (end + 1) bytes) w' [] s'
+    pub whole_on : RunsNext piece knows before after w (take end bytes) w' s s' (Ok true) → HasConsumed piece knows start after (told ++ take (end + 1) bytes) w' [] s'
     whole_on h =
         let taken : (told ++ take end bytes) ++ 10 ∷ [] ≡ told ++ take (end + 1) bytes = append_assoc told (take end bytes) (10 ∷ []) ∙ ap (λ x. told ++ x) (ap (λ b. take end bytes ++ b ∷ []) (sym found) ∙ sym (take_more bytes end 0 fits)) in
-        subst (λ x. Stands piece knows start after x w' [] s') taken (fed (Ok true) h start (told ++ take end bytes) line_stands)
+        subst (λ x. HasConsumed piece knows start after x w' [] s') taken (fed (Ok true) h start (told ++ take end bytes) line_stands)
 
     pub whole_fault : RunsNext piece knows before after w (take end bytes) w' s s' (Ok false) → (more : List ℕ) → Leaves piece knows start after (told ++ (bytes ++ more)) s' (Ok ScriptFault)
     whole_fault h more =
@@ -252,7 +252,7 @@ module _ (piece : Piece) {S : Type 0} (knows : Known S) (before after : Option (
   module _ (k k' : List ℕ) (some : 0 < length bytes) where
     pub fed_first_on : (b : Bool) → b ≡ true → Feeds piece knows before after (get_or bytes 0 0 ∷ []) w k s w' k' s' (Ok b) → FeedsSome piece knows before after bytes w k s w' k' s' (Ok (Some 1))
     fed_first_on b is f = λ start told st.
-        subst (λ x. Stands piece knows start after (told ++ x) w' k' s') (ap (take 1) (sym (first_and_rest bytes some))) ((subst (λ b. Feeds piece knows before after (get_or bytes 0 0 ∷ []) w k s w' k' s' (Ok b)) is f) start told st)
+        subst (λ x. HasConsumed piece knows start after (told ++ x) w' k' s') (ap (take 1) (sym (first_and_rest bytes some))) ((subst (λ b. Feeds piece knows before after (get_or bytes 0 0 ∷ []) w k s w' k' s' (Ok b)) is f) start told st)
 
     pub fed_first_fault : (b : Bool) → b ≡ false → Feeds piece knows before after (get_or bytes 0 0 ∷ []) w k s w' k' s' (Ok b) → FeedsSome piece knows before after bytes w k s w' k' s' (Ok None)
     fed_first_fault b is f = λ start told st more.
@@ -262,11 +262,11 @@ module _ (piece : Piece) {S : Type 0} (knows : Known S) (before after : Option (
     fed_first_stopped stop f = λ start told st more. subst (λ x. Leaves piece knows start after (told ++ (x ++ more)) s' (Err stop)) (sym (first_and_rest bytes some)) (f start told st (drop 1 bytes ++ more))
 
   -- the step of a loop over some bytes
-  module _ (rest : List ℕ) (at : ℕ) (k k' : List ℕ) (is : rest ≡ drop at bytes) (start : Option (List ℕ)) (told : List ℕ) (st : Stands piece knows start before (told ++ take at bytes) w k s) where
-    pub some_on : (taken : ℕ) → FeedsSome piece knows before after rest w k s w' k' s' (Ok (Some taken)) → Stands piece knows start after (told ++ take (at + taken) bytes) w' k' s'
+  module _ (rest : List ℕ) (at : ℕ) (k k' : List ℕ) (is : rest ≡ drop at bytes) (start : Option (List ℕ)) (told : List ℕ) (st : HasConsumed piece knows start before (told ++ take at bytes) w k s) where
+    pub some_on : (taken : ℕ) → FeedsSome piece knows before after rest w k s w' k' s' (Ok (Some taken)) → HasConsumed piece knows start after (told ++ take (at + taken) bytes) w' k' s'
     some_on taken f =
         let whole : (told ++ take at bytes) ++ take taken rest ≡ told ++ take (at + taken) bytes = append_assoc told (take at bytes) (take taken rest) ∙ ap (λ x. told ++ x) (ap (λ x. take at bytes ++ take taken x) is ∙ sym (take-add at taken bytes)) in
-        subst (λ x. Stands piece knows start after x w' k' s') whole (f start (told ++ take at bytes) st)
+        subst (λ x. HasConsumed piece knows start after x w' k' s') whole (f start (told ++ take at bytes) st)
 
     whole_rest : (more : List ℕ) → (told ++ take at bytes) ++ (rest ++ more) ≡ told ++ (bytes ++ more)
     whole_rest more = ap (λ x. (told ++ take at bytes) ++ (x ++ more)) is ∙ rest_split told bytes more at
@@ -287,7 +287,7 @@ no_lines : (k : List ℕ) → length k ≡ 0 → lines_of (k ++ []) ≡ []
 no_lines [] e = refl
 no_lines (b ∷ k) e = absurd (omega arith)
 
-module _ (piece : Piece) {S : Type 0} (knows : Known S) (start now : Option (List ℕ)) (told : List ℕ) (w : WalkValue) (k : List ℕ) (s : S) (st : Stands piece knows start now told w k s) where
+module _ (piece : Piece) {S : Type 0} (knows : Known S) (start now : Option (List ℕ)) (told : List ℕ) (w : WalkValue) (k : List ℕ) (s : S) (st : HasConsumed piece knows start now told w k s) where
   -- nothing is kept
   pub last_none : (later : Option (List ℕ)) (s' : S) (r : Result Outcome Stop) → length k ≡ 0 → RunsLast piece knows now later w s s' r → Leaves piece knows start later told s' r
   last_none later s' r none h =
@@ -322,7 +322,7 @@ none_left None e = tt
 none_left (Some xs) e = e
 
 module _ (piece : Piece) {S : Type 0} (knows : Known S) where
-  stands_kept : (start now later : Option (List ℕ)) (told : List ℕ) (w : WalkValue) (k : List ℕ) (s : S) → Stands piece knows start now told w k s → Keeps now later → Stands piece knows start later told w k s
+  stands_kept : (start now later : Option (List ℕ)) (told : List ℕ) (w : WalkValue) (k : List ℕ) (s : S) → HasConsumed piece knows start now told w k s → Keeps now later → HasConsumed piece knows start later told w k s
   stands_kept start now later told w k s st kept = record {
     lines = st.lines;
     cut = st.cut;
@@ -331,11 +331,11 @@ module _ (piece : Piece) {S : Type 0} (knows : Known S) where
     run = record { entries = st.run.entries; trace = st.run.trace; counted = st.run.counted; text = st.run.text; is = st.run.is; appended = Appends-kept start now later st.run.text st.run.appended kept; known = st.run.known };
   }
 
-  has_answered : (start now : Option (List ℕ)) (told : List ℕ) (w : WalkValue) (k : List ℕ) (s : S) (st : Stands piece knows start now told w k s) → length k < 256 → HasAnswered piece knows told st.run.text s
+  has_answered : (start now : Option (List ℕ)) (told : List ℕ) (w : WalkValue) (k : List ℕ) (s : S) (st : HasConsumed piece knows start now told w k s) → length k < 256 → HasAnswered piece knows told st.run.text s
   has_answered start now told w k s st short = record { lines = st.lines; kept = k; cut = st.cut; each = st.each; unended = st.unended; short = short; entries = st.run.entries; step = w.step; trace = st.run.trace; known = st.run.known; is = st.run.is }
 
   -- what was written is a front, however the script goes on
-  stands_front : (start now : Option (List ℕ)) (told : List ℕ) (w : WalkValue) (k : List ℕ) (s : S) (st : Stands piece knows start now told w k s) (more : List ℕ) → IsFront piece knows (told ++ more) st.run.text s
+  stands_front : (start now : Option (List ℕ)) (told : List ℕ) (w : WalkValue) (k : List ℕ) (s : S) (st : HasConsumed piece knows start now told w k s) (more : List ℕ) → IsFront piece knows (told ++ more) st.run.text s
   stands_front start now told w k s st more = run_front piece knows start now now st.lines w s st.run (told ++ more) (lines_of (k ++ more)) (script_cut piece knows start now told w k s st more)
 
   pub under_way_start : (unread start : Option (List ℕ)) (w : WalkValue) (k : List ℕ) (s : S) → w ≡ new_walk → k ≡ [] → knows.has s [] → IsUnderWay piece knows unread unread start start 0 w k s
@@ -352,7 +352,7 @@ module _ (piece : Piece) {S : Type 0} (knows : Known S) where
 
   -- a job under way, before a read: the writer is flushed, and the read consumed some bytes or failed
   module _ (unread left left' start now flushed : Option (List ℕ)) (count : ℕ) (w : WalkValue) (k : List ℕ) (s : S) (u : IsUnderWay piece knows unread left start now count w k s) (kept : Keeps now flushed) where
-    here : Stands piece knows start flushed u.0 w k s
+    here : HasConsumed piece knows start flushed u.0 w k s
     here = stands_kept start now flushed u.0 w k s u.3 kept
 
     pub read_failed : (room : ℕ) (fault : RunFault) → (fault ≡ Memory → ⊥) → (fault ≡ ReadTooLong → ⊥) → Keeps left left' → HasGivenUp piece knows unread left' start flushed (count + room) s fault

@@ -14,11 +14,11 @@ use Rattle.request_forms.specs.Facts.{bytes_of, has_subpool, listed, owned_at, p
 use Rattle.request_forms.specs.declared.facts.OwnedSubpool.{OwnedSubpool}
 use Rattle.mvs_model.specs.declared.name.Name.{Name}
 use Rattle.mvs_model.specs.declared.answer.Answer.{Answer as Short}
-use Rattle.mvs_model.specs.Lent.{lent, fallen_in}
-use Rattle.mvs_job.specs.declared.walk.LineTold.{LineTold}
-use Rattle.mvs_job.specs.declared.walk.LineTold.TheVariants as told
+use Rattle.mvs_model.specs.FullAnswers.{full_answer, ended_with_in}
+use Rattle.mvs_job.specs.declared.walk.LineEvent.{LineEvent}
+use Rattle.mvs_job.specs.declared.walk.LineEvent.TheVariants as told
 use Rattle.mvs_job.specs.Facts.{end_of, ended_by, freed_lines}
-use Rattle.mvs_job.specs.Telling.{WalkValue, IsLent, events_told, lent_in}
+use Rattle.mvs_job.specs.LineEvents.{WalkValue, IsAvailable, events_of_line, full_answer_in}
 use Rattle.mvs_job.proofs.Numbers.{each_next, each_skip}
 
 -- two names that are told to be the same
@@ -59,12 +59,12 @@ module _ (st : State) (t : Name) (s : ℕ) (subpools : List OwnedSubpool) (few :
   )
 
 -- what goes where a statement was answered
-pub answered_frees : (w : WalkValue) (t : LineTold) (task : Name) (a : Short) (subpools : List OwnedSubpool) (fallen : List Name) → t ≡ told.Answered task a → IsLent w t → fallen ≡ fallen_in w.reply → (number : ℕ)
-    → (st : State) × (freed_lines subpools (end_of task (lent st fallen task a)) ≡ freed_lines subpools (ended_by (events_told number w t)))
-answered_frees w t task a subpools fallen is lends falls number =
-    let l = subst (IsLent w) is lends in (
+pub answered_frees : (w : WalkValue) (t : LineEvent) (task : Name) (a : Short) (subpools : List OwnedSubpool) (fallen : List Name) → t ≡ told.Answered task a → IsAvailable w t → fallen ≡ ended_with_in w.reply → (number : ℕ)
+    → (st : State) × (freed_lines subpools (end_of task (full_answer st fallen task a)) ≡ freed_lines subpools (ended_by (events_of_line number w t)))
+answered_frees w t task a subpools fallen is has_long_data falls number =
+    let l = subst (IsAvailable w) is has_long_data in (
       l.0.state,
-      ap (λ names. freed_lines subpools (end_of task (lent l.0.state names task a))) falls
-          ∙ ap (λ step. freed_lines subpools (end_of task (lent_in step (fallen_in w.reply) task a))) (sym l.1)
-          ∙ ap (λ x. freed_lines subpools (ended_by (events_told number w x))) (sym is),
+      ap (λ names. freed_lines subpools (end_of task (full_answer l.0.state names task a))) falls
+          ∙ ap (λ step. freed_lines subpools (end_of task (full_answer_in step (ended_with_in w.reply) task a))) (sym l.1)
+          ∙ ap (λ x. freed_lines subpools (ended_by (events_of_line number w x))) (sym is),
     )

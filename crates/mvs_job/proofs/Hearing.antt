@@ -10,13 +10,13 @@ use Rattle.mvs_model.specs.declared.refusal.Refusal.{Refusal}
 use Rattle.mvs_model.specs.declared.request.Request.{Request}
 use Rattle.mvs_model.specs.Answers.{Answer}
 use Rattle.mvs_model.specs.Job.{JobValue}
-use Rattle.mvs_model.specs.Lent.{fallen_in, lent}
+use Rattle.mvs_model.specs.FullAnswers.{ended_with_in, full_answer}
 use Rattle.mvs_model.specs.Owners.{is_active}
 use Rattle.mvs_model.specs.Resolving.{resolved}
-use Rattle.mvs_job.specs.declared.walk.LineTold.{LineTold}
-use Rattle.mvs_job.specs.declared.walk.LineTold.TheVariants as told
+use Rattle.mvs_job.specs.declared.walk.LineEvent.{LineEvent}
+use Rattle.mvs_job.specs.declared.walk.LineEvent.TheVariants as told
 use Rattle.mvs_job.specs.Observing.{Fails, Hearing, Observes, ObservesLine, Passes}
-use Rattle.mvs_job.specs.Telling.{WalkValue}
+use Rattle.mvs_job.specs.LineEvents.{WalkValue}
 
 bool_maps : {P P' Q Q' : Type 0} (b : Bool) → (P → P') → (Q → Q') → MatchBool b P Q → MatchBool b P' Q'
 bool_maps true f g h = f h
@@ -39,11 +39,11 @@ module _ {O P : Type 0} (before after : O) (part : O → P) (heard : Hearing O) 
   statement_part job t says.ReportMap y h = ap part h
 
   -- a part of an observer hears what the observer hears
-  pub line_part : (step : Option JobValue) (line : List ℕ) (t : LineTold) (w : WalkValue) → ObservesLine heard before step line t w after → ObservesLine heard' (part before) step line t w (part after)
+  pub line_part : (step : Option JobValue) (line : List ℕ) (t : LineEvent) (w : WalkValue) → ObservesLine heard before step line t w after → ObservesLine heard' (part before) step line t w (part after)
   line_part step line told.Nothing w (of, same) = (of, ap part same)
   line_part step line (told.Began end card) w (t, s, of, is, same) = (t, s, of, is, ap part same)
   line_part step line (told.Faulted fault) w same = ap part same
-  line_part step line (told.Answered t a) w (s, job, later, of, is, new, h) = (s, job, later, of, is, new, statement_part job t s (lent later.state (fallen_in w.reply) t a) h)
+  line_part step line (told.Answered t a) w (s, job, later, of, is, new, h) = (s, job, later, of, is, new, statement_part job t s (full_answer later.state (ended_with_in w.reply) t a) h)
 
 module _ {O P : Type 0} (before after : O) (part : O → P) (heard : Hearing O) (stays : (job : JobValue) (t : Name) (request : Request) (refusal : Refusal) (left : Shortfall) → heard before job t request refusal left after → part after ≡ part before) where
   asked_stays : (job : JobValue) (t : Name) (y : Answer) (v : Option Request) → MatchOption v (after ≡ before) (λ r. Passes before job t r y after ⊎ Fails heard before job t r y after) → part after ≡ part before
@@ -63,8 +63,8 @@ module _ {O P : Type 0} (before after : O) (part : O → P) (heard : Hearing O) 
   statement_stays job t says.ReportMap y h = ap part h
 
   -- what no refusal changes stays
-  pub line_stays : (step : Option JobValue) (line : List ℕ) (t : LineTold) (w : WalkValue) → ObservesLine heard before step line t w after → part after ≡ part before
+  pub line_stays : (step : Option JobValue) (line : List ℕ) (t : LineEvent) (w : WalkValue) → ObservesLine heard before step line t w after → part after ≡ part before
   line_stays step line told.Nothing w (of, same) = ap part same
   line_stays step line (told.Began end card) w (t, s, of, is, same) = ap part same
   line_stays step line (told.Faulted fault) w same = ap part same
-  line_stays step line (told.Answered t a) w (s, job, later, of, is, new, h) = statement_stays job t s (lent later.state (fallen_in w.reply) t a) h
+  line_stays step line (told.Answered t a) w (s, job, later, of, is, new, h) = statement_stays job t s (full_answer later.state (ended_with_in w.reply) t a) h

@@ -37,11 +37,11 @@ use Rattle.mvs_model.specs.Want.{WantValue, fixed_want, want_of}
 use Rattle.mvs_model.specs.declared.want.Side.TheVariants.{Below}
 use Rattle.mvs_model.proofs.Reading.{one_reading}
 use Rattle.mvs_model.proofs.Tests.{by_test}
-use Rattle.mvs_job.specs.declared.walk.LineTold.{LineTold}
-use Rattle.mvs_job.specs.declared.walk.LineTold.TheVariants as told
-use Rattle.mvs_job.specs.Granting.{IsReadIn, is_grant, tells_grant}
-use Rattle.mvs_job.specs.Naming.{HasLengths, IsSetBehind, KeepsLines, SetLines, SetsSome, lines_before, set_behind}
-use Rattle.mvs_job.specs.Telling.{IsTold, WalkValue, events_told}
+use Rattle.mvs_job.specs.declared.walk.LineEvent.{LineEvent}
+use Rattle.mvs_job.specs.declared.walk.LineEvent.TheVariants as told
+use Rattle.mvs_job.specs.Granting.{IsReadIn, is_grant, reports_grant}
+use Rattle.mvs_job.specs.Naming.{HasLengths, AreNamesAfter, KeepsLines, SetLines, SetsSome, lines_before, names_after}
+use Rattle.mvs_job.specs.LineEvents.{ServesAs, WalkValue, events_of_line}
 
 -- ---- a granted request that sets names gives them places
 
@@ -135,30 +135,30 @@ module _ (job : JobValue) (t : Name) (a : Written) (some : names_set a ≢ []) (
 
 module _ (number : ℕ) (l : List ℕ) (events : List Event) (new : Option JobValue) where
   -- memory may be wanting for a line that is granted such a request
-  stops : (step : Option JobValue) (read : Line) → IsReadIn step l read → SetsSome read → ServesLine machine number step l events new → tells_grant events ≡ true → StopsForMemory number step (l ∷ []) []
+  stops : (step : Option JobValue) (read : Line) → IsReadIn step l read → SetsSome read → ServesLine machine number step l events new → reports_grant events ≡ true → StopsForMemory number step (l ∷ []) []
   stops None read is sets h g = absurd (subst SetsSome is sets)
   stops (Some job) read (inr (fault, of, is)) sets h g = absurd (subst SetsSome is sets)
   stops (Some job) (line.Statement t (says.Request a)) (inl of) (some, long) (other, is, serves) g =
       let here = subst (λ x. Serves machine number (Some job) x events new) (one_reading.one_line false l other (line.Statement t (says.Request a)) is of) serves in
-      (line.Statement t (says.Request a), of, (refl, sets_name job t a some long here.0 here.1 (ap tells_grant (sym here.3) ∙ g) here.2))
+      (line.Statement t (says.Request a), of, (refl, sets_name job t a some long here.0 here.1 (ap reports_grant (sym here.3) ∙ g) here.2))
   stops (Some job) read (inl of) sets h g = absurd sets
 
   -- the lines that set names behind it
-  set_at : (step : Option JobValue) (set mid later : SetLines) (read : Line) → mid ≡ lines_before step set → IsReadIn step l read → ServesLine machine number step l events new → later ≡ set_behind number mid read events → IsSetBehind number step set l events later
-  set_at None set mid later read before is h e = e ∙ ap (λ x. set_behind number mid x events) is ∙ before
-  set_at (Some job) set mid later read before (inl of) h e = (read, of, e ∙ ap (λ m. set_behind number m read events) before)
+  set_at : (step : Option JobValue) (set mid later : SetLines) (read : Line) → mid ≡ lines_before step set → IsReadIn step l read → ServesLine machine number step l events new → later ≡ names_after number mid read events → AreNamesAfter number step set l events later
+  set_at None set mid later read before is h e = e ∙ ap (λ x. names_after number mid x events) is ∙ before
+  set_at (Some job) set mid later read before (inl of) h e = (read, of, e ∙ ap (λ m. names_after number m read events) before)
   set_at (Some job) set mid later read before (inr (fault, of, is)) (other, says, serves) e = absurd (one_reading.not_both false l other fault says of)
 
 module _ (w w' : WalkValue) (l : List ℕ) (read : Line) (is : IsReadIn w.step l read) where
-  pub stops_naming : (t : LineTold) → IsTold w l t w' → SetsSome read → tells_grant (events_told w.number w' t) ≡ true → StopsForMemory w.number w.step (l ∷ []) []
+  pub stops_naming : (t : LineEvent) → ServesAs w l t w' → SetsSome read → reports_grant (events_of_line w.number w' t) ≡ true → StopsForMemory w.number w.step (l ∷ []) []
   stops_naming (told.Faulted fault) h sets g = absurd (let f : false ≡ true = g in cc)
   stops_naming told.Nothing h sets g = absurd (let f : false ≡ true = g in cc)
   stops_naming (told.Began None card) h sets g = absurd (let f : false ≡ true = g in cc)
   stops_naming (told.Began (Some abended) card) h sets g = absurd (let f : false ≡ true = g in cc)
-  stops_naming (told.Answered t a) h sets g = stops w.number l (events_told w.number w' (told.Answered t a)) w'.step w.step read is sets h g
+  stops_naming (told.Answered t a) h sets g = stops w.number l (events_of_line w.number w' (told.Answered t a)) w'.step w.step read is sets h g
 
-  pub keeps_lines : (set mid later : SetLines) → mid ≡ lines_before w.step set → (t : LineTold) → IsTold w l t w' → later ≡ set_behind w.number mid read (events_told w.number w' t) → KeepsLines w set l w' t later
+  pub keeps_lines : (set mid later : SetLines) → mid ≡ lines_before w.step set → (t : LineEvent) → ServesAs w l t w' → later ≡ names_after w.number mid read (events_of_line w.number w' t) → KeepsLines w set l w' t later
   keeps_lines set mid later before (told.Faulted fault) h e = tt
-  keeps_lines set mid later before told.Nothing h e = set_at w.number l (events_told w.number w' told.Nothing) w'.step w.step set mid later read before is h e
-  keeps_lines set mid later before (told.Began end card) h e = set_at w.number l (events_told w.number w' (told.Began end card)) w'.step w.step set mid later read before is h e
-  keeps_lines set mid later before (told.Answered t a) h e = set_at w.number l (events_told w.number w' (told.Answered t a)) w'.step w.step set mid later read before is h e
+  keeps_lines set mid later before told.Nothing h e = set_at w.number l (events_of_line w.number w' told.Nothing) w'.step w.step set mid later read before is h e
+  keeps_lines set mid later before (told.Began end card) h e = set_at w.number l (events_of_line w.number w' (told.Began end card)) w'.step w.step set mid later read before is h e
+  keeps_lines set mid later before (told.Answered t a) h e = set_at w.number l (events_of_line w.number w' (told.Answered t a)) w'.step w.step set mid later read before is h e

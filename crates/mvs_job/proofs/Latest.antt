@@ -17,7 +17,7 @@ use Rattle.mvs_model.specs.Storage.{has_address}
 use Rattle.mvs_model.proofs.Orders.{name_cmp_total, same_name_is}
 use Rattle.job_script.proofs.Named.{get_entries}
 use Rattle.mvs_job.specs.declared.naming.Naming.{Naming}
-use Rattle.mvs_job.specs.Naming.{IsNaming, SetLines, first_of, is_behind, later, naming_at}
+use Rattle.mvs_job.specs.Naming.{IsNaming, SetLines, first_of, comes_later, later, naming_at}
 
 -- an entry of a list
 abbrev Among : Name × ℕ → List (Name × ℕ) → Type 0
@@ -83,7 +83,7 @@ module _ (job : JobValue) (a : ℕ) where
     at false l = let k = (says e m is).2 in let g = ltb-false n.number e.1 l in omega (arith, k, g)
 
   step_from : (r : Option Naming) (e : Name × ℕ) (n : Naming) → later job a r e ≡ Some n → (r ≡ Some n) ⊎ (naming_at job a e ≡ Some n)
-  step_from r e n h = at (is_behind r e.1) h where
+  step_from r e n h = at (comes_later r e.1) h where
     here : (o : Option Naming) → first_of o r ≡ Some n → (r ≡ Some n) ⊎ (o ≡ Some n)
     here None k = inl k
     here (Some m) k = inr k

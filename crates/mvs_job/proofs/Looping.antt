@@ -5,7 +5,7 @@ use Rattle.mvs_model.specs.declared.outcome.Outcome.{Outcome}
 use Rattle.mvs_model.specs.declared.outcome.Outcome.TheVariants.{ScriptFault}
 use Rattle.mvs_model.specs.Lines.{lines_of}
 use Rattle.mvs_job.specs.declared.printing.Stop.{Stop}
-use Rattle.mvs_job.specs.Telling.{WalkValue, new_walk}
+use Rattle.mvs_job.specs.LineEvents.{WalkValue, new_walk}
 use Rattle.mvs_job.specs.Consuming.{HasRun, Known, Leaves, Piece, RunsEntry, RunsLast, RunsNext}
 use Rattle.mvs_job.proofs.Driving.{run_ended, run_fault, run_next, run_start, run_stopped}
 

@@ -64,15 +64,15 @@ module _ (number : ℕ) (st : State) (t : Name) where
   pub text_none : (from end : ℕ) → from ≤ end → HasNone st.owners t from end → numbers_text end ≡ numbers_text from
   text_none from end low none = ap (flat_map line_text) (lines_none from end low none)
 
-  line_said : (from : ℕ) (line : SubpoolLine) → IsSubpoolLine st t from line → number_line line.number ≡ line ∷ []
-  line_said from line is =
+  line_meaning : (from : ℕ) (line : SubpoolLine) → IsSubpoolLine st t from line → number_line line.number ≡ line ∷ []
+  line_meaning from line is =
       ap (line_of_entry st.owners (λ s. bytes_held st s false) (λ s. bytes_held st s true) t line.number) is.has
       ∙ (λ i. record { number = line.number; owned = sym is.owned i; plain = sym is.plain i; pool = sym is.pool i } ∷ [])
 
   -- the lines up to a number, and its own
   lines_with : (from : ℕ) (line : SubpoolLine) → IsSubpoolLine st t from line → each_below (line.number + 1) number_line ≡ each_below from number_line ++ line ∷ []
   lines_with from line is =
-      each_next number_line line.number ∙ ap (λ z. z ++ number_line line.number) (lines_none from line.number is.behind is.first) ∙ ap (λ z. each_below from number_line ++ z) (line_said from line is)
+      each_next number_line line.number ∙ ap (λ z. z ++ number_line line.number) (lines_none from line.number is.behind is.first) ∙ ap (λ z. each_below from number_line ++ z) (line_meaning from line is)
 
   text_with : (from : ℕ) (line : SubpoolLine) → IsSubpoolLine st t from line → numbers_text (line.number + 1) ≡ numbers_text from ++ line_text line
   text_with from line is = ap (flat_map line_text) (lines_with from line is) ∙ flat_map-append line_text (each_below from number_line) (line ∷ []) ∙ ap (λ z. numbers_text from ++ z) (append-nil (line_text line))

@@ -35,7 +35,7 @@ use Rattle.mvs_model.specs.State.{State}
 use Rattle.mvs_model.specs.Steps.{Does, TakesSome}
 use Rattle.mvs_model.proofs.Tests.{false_true, none_some, some_none, true_false}
 use Rattle.request_forms.proofs.Refused.{concerns}
-use Rattle.mvs_job.specs.Observing.{Fails, Hearing, Hears, Passes, is_end, is_failure, is_refusal}
+use Rattle.mvs_job.specs.Observing.{Fails, Hearing, ObservesRequest, Passes, is_end, is_failure, is_refusal}
 
 -- ---- names that are not set
 
@@ -221,7 +221,7 @@ not_inactive : (st : State) (t : Name) (r : Request) (x : Refusal) → is_active
 not_inactive st t r x active h e = true_false (sym active ∙ concerns st t r refusals.NotActive (subst (IsRefused st t r) e h))
 
 -- what an observer hears of a request that is answered so
-pub heard_said : {O : Type 0} (heard : Hearing O) (before after : O) (job : JobValue) (t : Name) (a : Written) (r : Request) (x : Reply) (new : State) (st : State) → is_active job.state.owners t ≡ true → Hears heard before job t r x new after
+pub heard_said : {O : Type 0} (heard : Hearing O) (before after : O) (job : JobValue) (t : Name) (a : Written) (r : Request) (x : Reply) (new : State) (st : State) → is_active job.state.owners t ≡ true → ObservesRequest heard before job t r x new after
     → Passes before job t r (answer_of st a r x) after ⊎ Fails heard before job t r (answer_of st a r x) after
 heard_said heard before after job t a r x new st active (inl h) = let said = done_said st job.state new t a r x h.2 in inl (h.0, h.1, said.0, said.1)
 heard_said heard before after job t a r x new st active (inr h) =
@@ -237,6 +237,6 @@ settled_none st new t consequence.NoCell x s = ap places_in s.0
 settled_none st new t (consequence.Abend code) x s = ap places_in s.1
 
 -- of a request that is answered with a place nothing is heard
-pub unheard : {O : Type 0} (heard : Hearing O) (before after : O) (job : JobValue) (t : Name) (r : Request) (x : Reply) (new : State) → Hears heard before job t r x new after → (places_in x ≡ [] → ⊥) → after ≡ before
+pub unheard : {O : Type 0} (heard : Hearing O) (before after : O) (job : JobValue) (t : Name) (r : Request) (x : Reply) (new : State) → ObservesRequest heard before job t r x new after → (places_in x ≡ [] → ⊥) → after ≡ before
 unheard heard before after job t r x new (inl h) some = h.0
 unheard heard before after job t r x new (inr h) some = absurd (some (settled_none job.state new t (reply_to r h.0) x h.4))

@@ -19,7 +19,7 @@ use Rattle.mvs_model.specs.declared.watched.Failed.{Failed}
 use Rattle.mvs_model.specs.Job.{JobValue}
 use Rattle.mvs_job.specs.declared.consumer.End.{End}
 use Rattle.mvs_job.specs.declared.printer.Printer.{Printer}
-use Rattle.mvs_job.specs.declared.walk.LineTold.{LineTold}
+use Rattle.mvs_job.specs.declared.walk.LineEvent.{LineEvent}
 use Rattle.mvs_job.specs.declared.printing.Stop.{Stop}
 use Rattle.mvs_job.specs.declared.printing.Stop.TheVariants as stop
 use Rattle.mvs_job.specs.declared.run.RunFault.{RunFault}
@@ -30,7 +30,7 @@ use Rattle.mvs_job.specs.Printed.{printed}
 use Rattle.mvs_job.specs.Serving.{RunsLine}
 use Rattle.mvs_job.specs.Streams.{GivesUp, HasAnswered, HasEnded, HasGivenUp}
 use Rattle.mvs_job.specs.Observing.{Hearing}
-use Rattle.mvs_job.specs.Telling.{WalkValue, events_told}
+use Rattle.mvs_job.specs.LineEvents.{WalkValue, events_of_line}
 use Rattle.mvs_job.specs.Trace.{Arrives, Ending, Ends, Entry, Exhausts, IsTrace, Stops, events_of}
 use Rattle.mvs_job.proofs.Serving.{stopped_front}
 use Rattle.mvs_job.proofs.Tracing.{IsSplit, stops_walk, trace_split, traces_are_runs, walk_of}
@@ -48,12 +48,12 @@ pub prints_end : {S X : Type 0} (before after : Option (List ℕ)) (first s s' :
 prints_end before after first s s' n how (Ok x) events same p history e is known = ((printing events, ap printing (sym (same e is)), p), tt)
 prints_end before after first s s' n how (Err failed) events same p history e is known = ((printing events, ap printing (sym (same e is)), p), tt)
 
-module _ {S : Type 0} (heard : Hearing S) (sees : S → Option JobValue → List ℕ → Type 0) (before after : Option (List ℕ)) (first s s' : S) (n : ℕ) (line : List ℕ) (w : WalkValue) (t : LineTold) where
-  pub prints_line : {X : Type 0} (x : X) → Appends before after (printing (events_told n w t)) → AcceptsLine {S = S} {X = X} printed heard sees (keeps_nothing first) before after s s' n line w t (Ok x)
-  prints_line x a mid history e is seen observed known = ((printing (events_told n w t), ap printing (sym is.events), a), tt)
+module _ {S : Type 0} (heard : Hearing S) (sees : S → Option JobValue → List ℕ → Type 0) (before after : Option (List ℕ)) (first s s' : S) (n : ℕ) (line : List ℕ) (w : WalkValue) (t : LineEvent) where
+  pub prints_line : {X : Type 0} (x : X) → Appends before after (printing (events_of_line n w t)) → AcceptsLine {S = S} {X = X} printed heard sees (keeps_nothing first) before after s s' n line w t (Ok x)
+  prints_line x a mid history e is seen observed known = ((printing (events_of_line n w t), ap printing (sym is.events), a), tt)
 
-  pub prints_front : (X : Type 0) → AppendsFront before after (printing (events_told n w t)) → AcceptsLine {S = S} {X = X} printed heard sees (keeps_nothing first) before after s s' n line w t (Err stop.Write)
-  prints_front X a mid history e is seen observed known = ((printing (events_told n w t), ap printing (sym is.events), a), tt)
+  pub prints_front : (X : Type 0) → AppendsFront before after (printing (events_of_line n w t)) → AcceptsLine {S = S} {X = X} printed heard sees (keeps_nothing first) before after s s' n line w t (Err stop.Write)
+  prints_front X a mid history e is seen observed known = ((printing (events_of_line n w t), ap printing (sym is.events), a), tt)
 
 -- ---- the text of a trace
 

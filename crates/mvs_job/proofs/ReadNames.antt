@@ -12,7 +12,7 @@ use Rattle.mvs_model.specs.declared.line.Written.TheVariants as written
 use Rattle.mvs_model.specs.Grammar.{Meaning, Row}
 use Rattle.mvs_model.specs.Lines.{IsUnended}
 use Rattle.mvs_model.specs.Name.{padded}
-use Rattle.mvs_model.specs.Reading.{LineOf, ByKey, by_key, behind_form, checks, form_in, has_key, is_empty, is_equals, is_for, line_said, operands_in, operands_of, operation_in, parts_within, row_of, says_nothing, statement_of, task_in, text_of, words, ◌>>=◌}
+use Rattle.mvs_model.specs.Reading.{LineOf, ByKey, by_key, operands_after_form, checks, form_in, has_key, is_empty, is_equals, is_for, line_meaning, operands_in, operands_of, operation_in, parts_within, row_of, is_blank_or_comment, statement_of, task_in, text_of, words, ◌>>=◌}
 use Rattle.mvs_model.proofs.Reading.{first_fails, found_has, none_later, passing_have}
 use Rattle.mvs_model.proofs.Tests.{none_some}
 
@@ -89,7 +89,7 @@ operands_unended bytes h = either _ where
   either true = field (slice_get (words bytes) 2) refl
   either false = tt
 
-behind : (row : Row) (os : List (List ℕ)) → AreUnended os → AreUnended (behind_form row os)
+behind : (row : Row) (os : List (List ℕ)) → AreUnended os → AreUnended (operands_after_form row os)
 behind row os h = at (is_empty row.forms) os h where
   at : (b : Bool) (os : List (List ℕ)) → AreUnended os → AreUnended (cond b os (drop 1 os))
   at true os h = h
@@ -138,25 +138,25 @@ statement_unended meaning form os s h1 h2 = grind (arith, nat_tests, none_some, 
 read_unended : (first : Bool) (bytes : List ℕ) (l : Line) → LineOf first bytes l → IsUnended bytes
 read_unended first bytes l is = printable bytes (not-false _ (first_fails (drop 1 (checks first bytes)) (none_later 1 (checks first bytes) is.no_fault)))
 
-line_unended : (bytes : List ℕ) (l : Line) → IsUnended bytes → line_said bytes ≡ Some l → NamesUnended l
-line_unended bytes l h e = at (says_nothing bytes) e where
+line_unended : (bytes : List ℕ) (l : Line) → IsUnended bytes → line_meaning bytes ≡ Some l → NamesUnended l
+line_unended bytes l h e = at (is_blank_or_comment bytes) e where
   os : List (List ℕ)
   os = operands_of bytes
 
   form : List ℕ
   form = form_in (operation_in bytes) os
 
-  with_statement : (row : Row) (o : Option Statement) → statement_of row.meaning form (by_key (behind_form row os)) ≡ o → (o >>= λ s. Some (line.Statement (padded (task_in bytes)) s)) ≡ Some l → NamesUnended l
+  with_statement : (row : Row) (o : Option Statement) → statement_of row.meaning form (by_key (operands_after_form row os)) ≡ o → (o >>= λ s. Some (line.Statement (padded (task_in bytes)) s)) ≡ Some l → NamesUnended l
   with_statement row None said e = none_some e
   with_statement row (Some s) said e =
       subst NamesUnended {x = line.Statement (padded (task_in bytes)) s} (let g : Some (line.Statement (padded (task_in bytes)) s) ≡ Some l = e in cc)
       (unended_padded (task_in bytes) (unended_front _ bytes h), statement_unended row.meaning form _ s (under_unended _ (behind row os (operands_unended bytes h))) said)
 
-  with_row : (o : Option Row) → (o >>= λ row. statement_of row.meaning form (by_key (behind_form row os)) >>= λ s. Some (line.Statement (padded (task_in bytes)) s)) ≡ Some l → NamesUnended l
+  with_row : (o : Option Row) → (o >>= λ row. statement_of row.meaning form (by_key (operands_after_form row os)) >>= λ s. Some (line.Statement (padded (task_in bytes)) s)) ≡ Some l → NamesUnended l
   with_row None e = none_some e
   with_row (Some row) e = with_statement row _ refl e
 
-  at : (b : Bool) → cond b (Some line.Nothing) (row_of (operation_in bytes) os >>= λ row. statement_of row.meaning form (by_key (behind_form row os)) >>= λ s. Some (line.Statement (padded (task_in bytes)) s)) ≡ Some l → NamesUnended l
+  at : (b : Bool) → cond b (Some line.Nothing) (row_of (operation_in bytes) os >>= λ row. statement_of row.meaning form (by_key (operands_after_form row os)) >>= λ s. Some (line.Statement (padded (task_in bytes)) s)) ≡ Some l → NamesUnended l
   at true e = subst NamesUnended {x = line.Nothing} (let g : Some line.Nothing ≡ Some l = e in cc) tt
   at false e = with_row (row_of (operation_in bytes) os) e
 

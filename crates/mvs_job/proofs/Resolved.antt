@@ -41,7 +41,7 @@ use Rattle.mvs_model.proofs.SeenAccess.{below_each}
 use Rattle.mvs_model.specs.View.{IsBounded}
 use Rattle.job_script.specs.Areas.{IsArea, Fit}
 use Rattle.mvs_job.specs.Steady.{IsSteady}
-use Rattle.mvs_job.specs.Telling.{IsLentBy}
+use Rattle.mvs_job.specs.LineEvents.{IsAvailableIn}
 use Rattle.mvs_job.proofs.Steady.{takes_area, steady_step}
 
 some_same : {A : Type 0} → (x y : A) → Some x ≡ Some y → x ≡ y
@@ -152,11 +152,11 @@ answer_same old t a (request.Show from n) Done new step = ap (λ st. Data (bytes
 answer_same old t a r reply new step = refl
 
 -- an answer that speaks of bytes speaks of such that may be read
-lent_by : (st : State) (a : Short) → ((p : PlaceValue) → a ≡ short.Data p → changes.Granted st p × (p.len ≤ 4096)) → IsLentBy st a
+lent_by : (st : State) (a : Short) → ((p : PlaceValue) → a ≡ short.Data p → changes.Granted st p × (p.len ≤ 4096)) → IsAvailableIn st a
 lent_by st (short.Data p) h = h p refl
 lent_by st a h = tt
 
-pub answer_lent : (old : State) (t : Name) (r : Request) (reply : Reply) (new : State) (a : Short) → Step old t r reply new → ((p : PlaceValue) → a ≡ short.Data p → (r ≡ request.Show p.addr p.len) × (reply ≡ Done) × (p.len ≤ 4096)) → IsLentBy new a
+pub answer_lent : (old : State) (t : Name) (r : Request) (reply : Reply) (new : State) (a : Short) → Step old t r reply new → ((p : PlaceValue) → a ≡ short.Data p → (r ≡ request.Show p.addr p.len) × (reply ≡ Done) × (p.len ≤ 4096)) → IsAvailableIn new a
 answer_lent old t r reply new a step h = lent_by new a (λ p e.
     let is = h p e in
     ((shown_granted old t p new (subst (λ q. Step old t (request.Show p.addr p.len) q new) is.1 (subst (λ q. Step old t q reply new) is.0 step))).0, is.2))

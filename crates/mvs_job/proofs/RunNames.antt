@@ -36,7 +36,7 @@ use Rattle.mvs_model.specs.declared.line.Statement.TheVariants as says
 use Rattle.mvs_model.specs.declared.line.Written.{Written}
 use Rattle.std.specs.Option.{option_map, option_and_then}
 use Rattle.mvs_model.specs.Answers.{Answer, NoName, NotRun, Event}
-use Rattle.mvs_laws.specs.Laws.{KeptWellFormed}
+use Rattle.mvs_laws.specs.Laws.{StaysWellFormed}
 use Rattle.mvs_model.specs.Card.{CardValue}
 use Rattle.mvs_model.specs.Job.{JobValue}
 use Rattle.mvs_model.specs.Numbers.{above_begins, below_begins, first_page_above, first_page_below, page_bytes}
@@ -44,7 +44,7 @@ use Rattle.mvs_model.specs.Replies.{answer_of, where_answer}
 use Rattle.mvs_model.specs.Reports.{PageRun, label_of, map_runs, number_of, page_map, page_runs}
 use Rattle.mvs_model.specs.declared.report.MapRun.{MapRun}
 use Rattle.mvs_model.specs.Resolving.{resolved}
-use Rattle.mvs_model.specs.Runs.{Any, Asks, Does, IsPrinting, IsRun, Says, Tells, machine}
+use Rattle.mvs_model.specs.Runs.{Any, Asks, Does, IsPrinting, IsRun, AnswersTo, OnlyAnswers, machine}
 use Rattle.mvs_model.specs.Start.{start}
 use Rattle.mvs_model.specs.Walk.{Closes, JobEnds, Serves, Walks, ending}
 use Rattle.mvs_model.specs.WellFormed.{WellFormed}
@@ -237,26 +237,26 @@ map_fine st well fine =
     all_both (λ (r : MapRun). HolderUnended r.holder) (map_runs st.owners below_begins below) (map_runs st.owners above_begins above) (runs_fine st well fine below_begins below) (runs_fine st well fine above_begins above)
 
 -- what is so behind a statement
-abbrev GoesOn : Answer → JobValue → Type 0
-GoesOn answer new = AnswerUnended answer × TasksUnended new.state
+abbrev ContinuesRun : Answer → JobValue → Type 0
+ContinuesRun answer new = AnswerUnended answer × TasksUnended new.state
 
-tells_fine : (old : JobValue) (told answer : Answer) (new : JobValue) → TasksUnended old.state → AnswerUnended told → Tells old told answer new → GoesOn answer new
+tells_fine : (old : JobValue) (told answer : Answer) (new : JobValue) → TasksUnended old.state → AnswerUnended told → OnlyAnswers old told answer new → ContinuesRun answer new
 tells_fine old told answer new fine h e = (subst AnswerUnended (sym e.0) h, subst (λ j. TasksUnended j.state) (sym e.1) fine)
 
-asks_fine : (old : JobValue) (t : Name) (a : Written) (o : Option Request) (answer : Answer) (new : JobValue) → TasksUnended old.state → ((r : Request) → o ≡ Some r → RequestUnended r) → Asks Any old t a o answer new → GoesOn answer new
+asks_fine : (old : JobValue) (t : Name) (a : Written) (o : Option Request) (answer : Answer) (new : JobValue) → TasksUnended old.state → ((r : Request) → o ≡ Some r → RequestUnended r) → Asks Any old t a o answer new → ContinuesRun answer new
 asks_fine old t a None answer new fine f h = tells_fine old NoName answer new fine (tt {0}) h
 asks_fine old t a (Some r) answer new fine f h =
     let s = step_fine old.state fine t r h.reply new.state (f r refl) h.step in
     (subst AnswerUnended (sym h.told) (answered_fine old.state a r h.reply s.0), s.1)
 
-says_fine : (old : JobValue) (t : Name) (s : Statement) (answer : Answer) (new : JobValue) → WellFormed old.state → TasksUnended old.state → SaysUnended s → Says Any old t s answer new → GoesOn answer new
+says_fine : (old : JobValue) (t : Name) (s : Statement) (answer : Answer) (new : JobValue) → WellFormed old.state → TasksUnended old.state → SaysUnended s → AnswersTo Any old t s answer new → ContinuesRun answer new
 says_fine old t (says.Region below above fill residence) answer new is fine named h = absurd h
 says_fine old t (says.Request a) answer new is fine named h = asks_fine old t a (resolved old.names a) answer new fine (λ r e. resolved_fine old.names a r named e) h
 says_fine old t (says.Where name) answer new is fine named h = tells_fine old _ answer new fine (where_fine (get old.names name)) h
 says_fine old t says.ReportSubpools answer new is fine named h = tells_fine old _ answer new fine (tt {0}) h
 says_fine old t says.ReportMap answer new is fine named h = tells_fine old _ answer new fine (map_fine old.state is fine) h
 
-does_fine : (old : JobValue) (t : Name) (s : Statement) (answer : Answer) (new : JobValue) → WellFormed old.state → TasksUnended old.state → SaysUnended s → Does Any old t s answer new → GoesOn answer new
+does_fine : (old : JobValue) (t : Name) (s : Statement) (answer : Answer) (new : JobValue) → WellFormed old.state → TasksUnended old.state → SaysUnended s → Does Any old t s answer new → ContinuesRun answer new
 does_fine old t s answer new is fine named h = by_case (not (is_active old.state.owners t)) h (λ n. tells_fine old NotRun answer new fine (tt {0}) n) (λ k. says_fine old t s answer new is fine named k)
 
 no_task : (x : Name) → get (empty {X = Task} {R = name_cmp}) x ≡ None
@@ -294,7 +294,7 @@ serves_fine number (Some job) (line.Statement t s) events new is fine named h =
     let k = does_fine job t s d.0 d.1 is fine said d.2 in
     (subst (AllByRecursion EventUnended) (sym d.3) ((named.0, k.0), tt), subst (Holds TasksUnended) (sym d.4) k.1))
 
-module _ (well : KeptWellFormed) (all : List (List ℕ)) where
+module _ (well : StaysWellFormed) (all : List (List ℕ)) where
   running : (events : List Event) (number : ℕ) (old : Option JobValue) (lines : List (List ℕ)) → Reaches all events number old lines → Holds WellFormed old
   running events number None lines r = tt
   running events number (Some job) lines r = well job (record { lines = r.served; events = events; leads = r.leads })
@@ -311,9 +311,9 @@ module _ (well : KeptWellFormed) (all : List (List ℕ)) where
       subst (AllByRecursion EventUnended) (sym e) (all_both EventUnended first rest k.0 (walk_fine outcome lines (before ++ first) (number + 1) mid rest (reaches_next all before first number old mid l lines r serves) k.1 more))
 
 -- No name in the events of a run has a line feed.
-pub run_unended : KeptWellFormed → (script : List ℕ) (events : List Event) (outcome : Outcome) → IsRun script events outcome → AllByRecursion EventUnended events
+pub run_unended : StaysWellFormed → (script : List ℕ) (events : List Event) (outcome : Outcome) → IsRun script events outcome → AllByRecursion EventUnended events
 run_unended well script events outcome h = walk_fine well (lines_of script) outcome (lines_of script) [] 1 None events (record { served = []; lines = refl; counted = refl; leads = (refl, refl) }) tt h
 
 -- So no line of a printing begins with an asterisk.
-pub no_line_starred : KeptWellFormed → (script text : List ℕ) (outcome : Outcome) → IsPrinting script text outcome → without_starred text ≡ text
+pub no_line_starred : StaysWellFormed → (script text : List ℕ) (outcome : Outcome) → IsPrinting script text outcome → without_starred text ≡ text
 no_line_starred well script text outcome (events, run, e) = subst (λ x. without_starred x ≡ x) (sym e) (printing_stands events (run_unended well script events outcome run))

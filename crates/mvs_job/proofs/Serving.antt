@@ -3,7 +3,7 @@ use Rattle.std.proofs.Common.{◌≡◌, ℕ, List, [], ◌∷◌, ◌++◌, app
 use Rattle.std.specs.Prelude.{◌||◌, not, OnErr, IfOk, MatchResult, is_some}
 use Rattle.std.specs.Io.KnownBytes.{Keeps}
 use Rattle.std.proofs.KnownBytes.{Appends-trans}
-use Rattle.mvs_job.specs.Serving.{LineTells}
+use Rattle.mvs_job.specs.Serving.{MayHappen}
 use Rattle.mvs_model.specs.declared.name.Name.{Name}
 use Rattle.mvs_model.specs.declared.line.Line.{Line}
 use Rattle.mvs_model.specs.declared.line.Line.TheVariants as line
@@ -17,7 +17,7 @@ use Rattle.mvs_model.specs.declared.answer.Answer.{Answer as Short}
 use Rattle.mvs_model.specs.Answers.{Answer, Region, Event, Told}
 use Rattle.mvs_model.specs.declared.error.OutOfMemory.{OutOfMemory}
 use Rattle.mvs_model.specs.Job.{JobValue}
-use Rattle.mvs_model.specs.Lent.{lent, fallen_in}
+use Rattle.mvs_model.specs.FullAnswers.{full_answer, ended_with_in}
 use Rattle.mvs_model.specs.Lines.{card_of}
 use Rattle.mvs_model.specs.Memory.{TakesMemory, StopsForMemory}
 use Rattle.mvs_model.specs.Reading.{LineOf, IsReading}
@@ -33,9 +33,9 @@ use Rattle.mvs_laws.proofs.Going.{printed_both}
 use Rattle.job_script.specs.Writing.{Prints, AppendsFront}
 use Rattle.job_script.proofs.Appending.{front_longer, front_more}
 use Rattle.mvs_job.specs.declared.walk.Stopped.{Stopped}
-use Rattle.mvs_job.specs.declared.walk.LineTold.{LineTold}
-use Rattle.mvs_job.specs.declared.walk.LineTold.TheVariants as told
-use Rattle.mvs_job.specs.Telling.{WalkValue, IsTold, IsToldBy, IsLentBy, KeepsReply, card_said, ended, events_told, lent_in}
+use Rattle.mvs_job.specs.declared.walk.LineEvent.{LineEvent}
+use Rattle.mvs_job.specs.declared.walk.LineEvent.TheVariants as told
+use Rattle.mvs_job.specs.LineEvents.{WalkValue, ServesAs, ServesAsUnder, IsAvailableIn, KeepsReply, region_card, ended, events_of_line, full_answer_in}
 
 -- A request that is made, and whose names are set.
 pub made_by : (P : Condition) (old : JobValue) (t : Name) (a : Written) (r : Request) (reply : Reply) (new : JobValue) → Step old.state t r reply new.state → P old.state t r reply new.state
@@ -61,7 +61,7 @@ said_so first before bytes read l same reading is = subst (λ first. LineOf firs
 
 module _ (P : Condition) (old new : WalkValue) (bytes : List ℕ) (first : Bool) (read : Result Line Fault) (same : first ≡ is_first old.step) (reading : IsReading first bytes read) where
   -- a statement of the step
-  step_served : (t : Name) (s : Statement) (step later : JobValue) (answer : Answer) → card_said t s ≡ None → Does P step t s answer later
+  step_served : (t : Name) (s : Statement) (step later : JobValue) (answer : Answer) → region_card t s ≡ None → Does P step t s answer later
       → Serves (job_machine P) old.number (Some step) (line.Statement t s) (Told old.number t answer ∷ []) (Some later)
   step_served t (says.Region below above fill residence) step later answer is does = absurd (let f : Some (card_of t below above fill residence) ≡ None = is in cc)
   step_served t (says.Request a) step later answer is does = (answer, later, does, refl, refl)
@@ -69,31 +69,31 @@ module _ (P : Condition) (old new : WalkValue) (bytes : List ℕ) (first : Bool)
   step_served t says.ReportSubpools step later answer is does = (answer, later, does, refl, refl)
   step_served t says.ReportMap step later answer is does = (answer, later, does, refl, refl)
 
-  pub told_answered : (l : Line) (t : Name) (s : Statement) (step later : JobValue) (a : Short) → read ≡ Ok l → l ≡ line.Statement t s → card_said t s ≡ None → old.step ≡ Some step → new.step ≡ Some later
-      → Does P step t s (lent later.state (fallen_in new.reply) t a) later → IsToldBy P old bytes (told.Answered t a) new
+  pub told_answered : (l : Line) (t : Name) (s : Statement) (step later : JobValue) (a : Short) → read ≡ Ok l → l ≡ line.Statement t s → region_card t s ≡ None → old.step ≡ Some step → new.step ≡ Some later
+      → Does P step t s (full_answer later.state (ended_with_in new.reply) t a) later → ServesAsUnder P old bytes (told.Answered t a) new
   told_answered l t s step later a is l_is of_step e f does = (
     line.Statement t s,
     said_so first (is_first old.step) bytes read (line.Statement t s) same reading (is ∙ ap (λ x. Ok x) l_is),
-    subst (λ o. Serves (job_machine P) old.number old.step (line.Statement t s) (Told old.number t (lent_in o (fallen_in new.reply) t a) ∷ []) o) (sym f)
-        (subst (λ o. Serves (job_machine P) old.number o (line.Statement t s) (Told old.number t (lent later.state (fallen_in new.reply) t a) ∷ []) (Some later)) (sym e) (step_served t s step later (lent later.state (fallen_in new.reply) t a) of_step does)),
+    subst (λ o. Serves (job_machine P) old.number old.step (line.Statement t s) (Told old.number t (full_answer_in o (ended_with_in new.reply) t a) ∷ []) o) (sym f)
+        (subst (λ o. Serves (job_machine P) old.number o (line.Statement t s) (Told old.number t (full_answer later.state (ended_with_in new.reply) t a) ∷ []) (Some later)) (sym e) (step_served t s step later (full_answer later.state (ended_with_in new.reply) t a) of_step does)),
   )
 
   pub stops_at_request : (l : Line) (t : Name) (s : Statement) → read ≡ Ok l → l ≡ line.Statement t s → TakesMemory old.step (line.Statement t s) [] → StopsForMemory old.number old.step (bytes ∷ []) (ended None)
   stops_at_request l t s is l_is takes = (line.Statement t s, said_so first (is_first old.step) bytes read (line.Statement t s) same reading (is ∙ ap (λ x. Ok x) l_is), takes)
 
 -- what a line tells by a step that meets a condition it tells by a step
-pub told_by : (P : Condition) (old new : WalkValue) (bytes : List ℕ) (t : LineTold) → IsToldBy P old bytes t new → IsTold old bytes t new
+pub told_by : (P : Condition) (old new : WalkValue) (bytes : List ℕ) (t : LineEvent) → ServesAsUnder P old bytes t new → ServesAs old bytes t new
 told_by P old new bytes (told.Faulted fault) h = h
 told_by P old new bytes told.Nothing h = (h.0, h.1, line_other (λ _. P) (λ _. Any) old.number (λ _ _ _ _ _ _. tt) old.step h.0 _ new.step h.2)
 told_by P old new bytes (told.Began end card) h = (h.0, h.1, line_other (λ _. P) (λ _. Any) old.number (λ _ _ _ _ _ _. tt) old.step h.0 _ new.step h.2)
 told_by P old new bytes (told.Answered t a) h = (h.0, h.1, line_other (λ _. P) (λ _. Any) old.number (λ _ _ _ _ _ _. tt) old.step h.0 _ new.step h.2)
 
-pub told_each : (P : Condition) (old new : WalkValue) (bytes : List ℕ) (r : Result LineTold Stopped) (Q : Stopped → Type 0) → MatchResult r (λ t. IsToldBy P old bytes t new) Q → MatchResult r (λ t. IsTold old bytes t new) Q
+pub told_each : (P : Condition) (old new : WalkValue) (bytes : List ℕ) (r : Result LineEvent Stopped) (Q : Stopped → Type 0) → MatchResult r (λ t. ServesAsUnder P old bytes t new) Q → MatchResult r (λ t. ServesAs old bytes t new) Q
 told_each P old new bytes (Ok t) Q h = told_by P old new bytes t h
 told_each P old new bytes (Err e) Q h = h
 
 -- what a line that was served or has a fault may tell
-pub line_tells : (old new : WalkValue) (bytes : List ℕ) (t : LineTold) → IsTold old bytes t new → LineTells old bytes (events_told old.number new t)
+pub line_tells : (old new : WalkValue) (bytes : List ℕ) (t : LineEvent) → ServesAs old bytes t new → MayHappen old bytes (events_of_line old.number new t)
 line_tells old new bytes (told.Faulted fault) h = inr (fault, h.0, refl)
 line_tells old new bytes told.Nothing h = inl (new.step, h)
 line_tells old new bytes (told.Began end card) h = inl (new.step, h)
@@ -109,16 +109,16 @@ nothing_kept (Some xs) (Some ys) f = f.3 ∙ ap (λ x. xs ++ x) (none f.0 f.1 f.
 
 -- a call that stops at a write while it prints the end of a step, for want of memory
 pub stopped_front : (w : WalkValue) (bytes : List ℕ) (events : List Event) (a b : Option (List ℕ)) → StopsForMemory w.number w.step (bytes ∷ []) events → AppendsFront a b (printing events)
-    → Keeps a b ⊎ ((all : List Event) × LineTells w bytes all × AppendsFront a b (printing all))
+    → Keeps a b ⊎ ((all : List Event) × MayHappen w bytes all × AppendsFront a b (printing all))
 stopped_front w bytes events a b h f = at w.step h.0 h.1 h.2 refl where
-  kept : events ≡ [] → Keeps a b ⊎ ((all : List Event) × LineTells w bytes all × AppendsFront a b (printing all))
+  kept : events ≡ [] → Keeps a b ⊎ ((all : List Event) × MayHappen w bytes all × AppendsFront a b (printing all))
   kept e = inl (nothing_kept a b (subst (λ x. AppendsFront a b (printing x)) e f))
 
-  at : (o : Option JobValue) (l : Line) → LineOf (is_first o) bytes l → TakesMemory o l events → o ≡ w.step → Keeps a b ⊎ ((all : List Event) × LineTells w bytes all × AppendsFront a b (printing all))
+  at : (o : Option JobValue) (l : Line) → LineOf (is_first o) bytes l → TakesMemory o l events → o ≡ w.step → Keeps a b ⊎ ((all : List Event) × MayHappen w bytes all × AppendsFront a b (printing all))
   at o (line.Statement t (says.Region below above fill residence)) is e same =
       let card = card_of t below above fill residence in
       let more = Told w.number t (Region card) ∷ [] in
-      let tells : LineTells w bytes (ending machine o ++ more) = subst (λ o. LineTells w bytes (ending machine o ++ more)) (sym same) (inl (_, (line.Statement t (says.Region below above fill residence), subst (λ o. LineOf (is_first o) bytes (line.Statement t (says.Region below above fill residence))) same is, (refl, refl)))) in
+      let tells : MayHappen w bytes (ending machine o ++ more) = subst (λ o. MayHappen w bytes (ending machine o ++ more)) (sym same) (inl (_, (line.Statement t (says.Region below above fill residence), subst (λ o. LineOf (is_first o) bytes (line.Statement t (says.Region below above fill residence))) same is, (refl, refl)))) in
       inr (ending machine o ++ more, tells, subst (λ x. AppendsFront a b (printing (x ++ more))) e (rw (printed_both events more) (front_longer a b (printing events) (printing more) f)))
   at (Some job) (line.Statement t (says.Request r)) is h same = kept h.0
   at None line.Nothing is h same = absurd h
@@ -133,15 +133,15 @@ stopped_front w bytes events a b h f = at w.step h.0 h.1 h.2 refl where
 
 -- what a step serves, where it is the one that runs
 pub served_in_step : (P : Condition) (o : Option JobValue) (step later : JobValue) (t : Name) (s : Statement) (reply : Reply) (r : Result Short OutOfMemory) → o ≡ Some step
-    → MatchResult r (λ answer. Does P step t s (lent later.state (fallen_in reply) t answer) later) (λ _. TakesMemory (Some step) (line.Statement t s) [])
-    → IfOk r (IsLentBy later.state)
-    → MatchResult r (λ answer. (x : JobValue) × (y : JobValue) × (o ≡ Some x) × (◌≡◌ {A = Option JobValue} (Some later) (Some y)) × Does P x t s (lent y.state (fallen_in reply) t answer) y × IsLentBy y.state answer) (λ _. TakesMemory o (line.Statement t s) [])
-served_in_step P o step later t s reply (Ok answer) is does lent = (step, later, is, refl, does, lent)
-served_in_step P o step later t s reply (Err e) is takes lent = subst (λ o. TakesMemory o (line.Statement t s) []) (sym is) takes
+    → MatchResult r (λ answer. Does P step t s (full_answer later.state (ended_with_in reply) t answer) later) (λ _. TakesMemory (Some step) (line.Statement t s) [])
+    → IfOk r (IsAvailableIn later.state)
+    → MatchResult r (λ answer. (x : JobValue) × (y : JobValue) × (o ≡ Some x) × (◌≡◌ {A = Option JobValue} (Some later) (Some y)) × Does P x t s (full_answer y.state (ended_with_in reply) t answer) y × IsAvailableIn y.state answer) (λ _. TakesMemory o (line.Statement t s) [])
+served_in_step P o step later t s reply (Ok answer) is does full_answer = (step, later, is, refl, does, full_answer)
+served_in_step P o step later t s reply (Err e) is takes full_answer = subst (λ o. TakesMemory o (line.Statement t s) []) (sym is) takes
 
 -- the reply that a step keeps, where it is the one that runs
-pub kept_in_step : (o : Option JobValue) (step later : JobValue) (t : Name) (s : Statement) (before reply : Reply) (r : Result Short OutOfMemory) → o ≡ Some step → IfOk r (λ answer. KeepsReply step t s before (lent later.state (fallen_in reply) t answer) reply later)
-    → IfOk r (λ answer. (x : JobValue) × (y : JobValue) × (o ≡ Some x) × (◌≡◌ {A = Option JobValue} (Some later) (Some y)) × KeepsReply x t s before (lent y.state (fallen_in reply) t answer) reply y)
+pub kept_in_step : (o : Option JobValue) (step later : JobValue) (t : Name) (s : Statement) (before reply : Reply) (r : Result Short OutOfMemory) → o ≡ Some step → IfOk r (λ answer. KeepsReply step t s before (full_answer later.state (ended_with_in reply) t answer) reply later)
+    → IfOk r (λ answer. (x : JobValue) × (y : JobValue) × (o ≡ Some x) × (◌≡◌ {A = Option JobValue} (Some later) (Some y)) × KeepsReply x t s before (full_answer y.state (ended_with_in reply) t answer) reply y)
 kept_in_step o step later t s before reply (Ok answer) is kept = (step, later, is, refl, kept)
 kept_in_step o step later t s before reply (Err e) is kept = tt
 
@@ -163,7 +163,7 @@ err_of (Err e) other h = h
 
 -- what holds where memory was wanting
 pub not_answered : (P : Condition) (o new : Option JobValue) (t : Name) (s : Statement) (reply : Reply) (r : Result Short OutOfMemory) → ((x : Short) → r ≡ Ok x → ⊥)
-    → MatchResult r (λ answer. (x : JobValue) × (y : JobValue) × (o ≡ Some x) × (new ≡ Some y) × Does P x t s (lent y.state (fallen_in reply) t answer) y × IsLentBy y.state answer) (λ _. TakesMemory o (line.Statement t s) [])
+    → MatchResult r (λ answer. (x : JobValue) × (y : JobValue) × (o ≡ Some x) × (new ≡ Some y) × Does P x t s (full_answer y.state (ended_with_in reply) t answer) y × IsAvailableIn y.state answer) (λ _. TakesMemory o (line.Statement t s) [])
     → TakesMemory o (line.Statement t s) []
 not_answered P o new t s reply (Ok x) other h = absurd (other x refl)
 not_answered P o new t s reply (Err e) other h = h

@@ -16,23 +16,23 @@ use Rattle.mvs_model.specs.Job.{JobValue}
 use Rattle.mvs_model.specs.Lines.{ended_text, lines_of, IsUnended}
 use Rattle.mvs_model.specs.Name.{trimmed}
 use Rattle.mvs_model.specs.Resolving.{resolved}
-use Rattle.mvs_model.specs.Texts.{answer_text, code_text, data_lines, fault_number, map_text, printing, reply_line, said, subpool_text, text_of}
+use Rattle.mvs_model.specs.Texts.{answer_text, code_text, data_lines, fault_number, map_text, printing, reply_line, one_line_text, subpool_text, text_of}
 use Rattle.mvs_laws.proofs.Going.{printed_both}
-use Rattle.job_script.specs.ReasonTexts.{one_line, reason_line, why_said}
-use Rattle.mvs_model.specs.Owners.{goes}
+use Rattle.job_script.specs.ReasonTexts.{one_line, reason_line, why_text}
+use Rattle.mvs_model.specs.Owners.{is_among_ended}
 use Rattle.request_forms.specs.declared.facts.OwnedSubpool.{OwnedSubpool}
-use Rattle.job_script.specs.FactTexts.{fact_line, fact_said, freed_line, freed_said, stays_line, stays_said}
+use Rattle.job_script.specs.FactTexts.{fact_line, fact_text, freed_line, freed_text_of, stays_line, stays_text}
 use Rattle.mvs_job.specs.Facts.{IsFreeing, ended_by, freed_text, subpool_line}
 use Rattle.request_forms.specs.Facts.{owned_subpools}
 use Rattle.mvs_job.specs.declared.granting.Before.{Before}
-use Rattle.mvs_job.specs.Granting.{IsGranting, before_line, done_text, facts_of, granted_text, tells_grant}
-use Rattle.job_script.specs.NamingTexts.{naming_said}
+use Rattle.mvs_job.specs.Granting.{IsGranting, before_line, done_text, facts_of, granted_text, reports_grant}
+use Rattle.job_script.specs.NamingTexts.{naming_words}
 use Rattle.mvs_job.specs.declared.naming.Naming.{Naming}
 use Rattle.mvs_job.specs.Naming.{IsNamed, SetLines, naming_text}
 use Rattle.mvs_job.specs.Why.{spoken}
 use Rattle.mvs_job.specs.Consuming.{WrittenAfter}
 use Rattle.mvs_job.specs.Explained.{ExplainedArePrintings, IsExplainedAs, explained, set_by_entries}
-use Rattle.mvs_job.specs.Explaining.{IsBehind, IsExplanation, NoLineIsStarred, reason_text, without_starred}
+use Rattle.mvs_job.specs.Explaining.{IsExplanationText, IsExplanation, NoLineIsStarred, reason_text, without_starred}
 use Rattle.mvs_job.specs.Trace.{Closed, Entry, Executed, Exhausted, Faulty, Kind, events_of}
 use Rattle.mvs_job.proofs.Tracing.{traces_are_runs}
 use Rattle.mvs_job.proofs.Feeding.{all_before, lines_cut, lines_ended}
@@ -152,11 +152,11 @@ begins_so text =
     let more : 1 + position_or_len (λ b. b == 10) text ≡ suc (position_or_len (λ b. b == 10) text) = omega arith in
     ap (λ n. slice_index (take n (42 ∷ text)) 0) more
 
-line_out : (said : List ℕ) → IsLeftOut (one_line (codes "* " ++ said))
-line_out said = starred_out (before_first (λ b. b == 10) (codes "* " ++ said)) (unended (codes "* " ++ said)) (begins_so (codes " " ++ said))
+line_out : (one_line_text : List ℕ) → IsLeftOut (one_line (codes "* " ++ one_line_text))
+line_out one_line_text = starred_out (before_first (λ b. b == 10) (codes "* " ++ one_line_text)) (unended (codes "* " ++ one_line_text)) (begins_so (codes " " ++ one_line_text))
 
 reason_out : (t : Name) (request : Request) (reason : LineReason) → IsLeftOut (reason_line t request reason)
-reason_out t request reason = line_out (why_said t request reason)
+reason_out t request reason = line_out (why_text t request reason)
 
 text_out : (job : JobValue) (l : Line) (r : Option LineReason) → IsLeftOut (reason_text job l r)
 text_out job l None = none_left_out [] refl
@@ -169,17 +169,17 @@ text_out job (line.Statement t says.ReportMap) (Some reason) = reason_out t Retu
 
 explanation_out : (old : Option JobValue) (l : List ℕ) (events : List Event) (why : List ℕ) → IsExplanation old l events why → IsLeftOut why
 explanation_out None l events why e = none_left_out why e
-explanation_out (Some job) l events why (inl (said, is, (r, of, e))) = subst IsLeftOut (sym e) (text_out job said r)
+explanation_out (Some job) l events why (inl (one_line_text, is, (r, of, e))) = subst IsLeftOut (sym e) (text_out job one_line_text r)
 explanation_out (Some job) l events why (inr (fault, is, e)) = none_left_out why e
 
 out_both : (one other : List ℕ) → IsLeftOut one → IsLeftOut other → IsLeftOut (one ++ other)
 out_both one other a b more = ap without_starred (append_assoc one other more) ∙ a (other ++ more) ∙ b more
 
 subpool_out : (e : Name × List Name) (s : OwnedSubpool) → IsLeftOut (subpool_line e s)
-subpool_out e s = at (goes e.0 e.1 s.owner) s.had where
+subpool_out e s = at (is_among_ended e.0 e.1 s.owner) s.had where
   at : (b had : Bool) → IsLeftOut (cond b (freed_line s.number s.owner s.bytes s.pages) (cond had (stays_line s.number s.owner e.0) []))
-  at true had = line_out (freed_said s.number s.owner s.bytes s.pages)
-  at false true = line_out (stays_said s.number s.owner e.0)
+  at true had = line_out (freed_text_of s.number s.owner s.bytes s.pages)
+  at false true = line_out (stays_text s.number s.owner e.0)
   at false false = none_left_out [] refl
 
 each_out : {X : Type 0} (f : X → List ℕ) → ((x : X) → IsLeftOut (f x)) → (xs : List X) → IsLeftOut (flat_map f xs)
@@ -198,32 +198,32 @@ done_out : (b : Option Before) (l : Line) (new : Option JobValue) → IsLeftOut 
 done_out None l new = none_left_out [] refl
 done_out (Some b) l None = none_left_out [] refl
 done_out (Some b) line.Nothing (Some new) = none_left_out [] refl
-done_out (Some b) (line.Statement t (says.Request a)) (Some new) = each_out fact_line (λ f. line_out (fact_said f)) (facts_of b t a new)
+done_out (Some b) (line.Statement t (says.Request a)) (Some new) = each_out fact_line (λ f. line_out (fact_text f)) (facts_of b t a new)
 done_out (Some b) (line.Statement t (says.Region below above fill residence)) (Some new) = none_left_out [] refl
 done_out (Some b) (line.Statement t (says.Where name)) (Some new) = none_left_out [] refl
 done_out (Some b) (line.Statement t says.ReportSubpools) (Some new) = none_left_out [] refl
 done_out (Some b) (line.Statement t says.ReportMap) (Some new) = none_left_out [] refl
 
 granted_out : (b : Option Before) (l : Line) (events : List Event) (new : Option JobValue) → IsLeftOut (granted_text b l events new)
-granted_out b l events new = at (tells_grant events) where
+granted_out b l events new = at (reports_grant events) where
   at : (yes : Bool) → IsLeftOut (cond yes (done_text b l new) [])
   at true = done_out b l new
   at false = none_left_out [] refl
 
 granting_out : (old : Option JobValue) (l : List ℕ) (events : List Event) (new : Option JobValue) (done : List ℕ) → IsGranting old l events new done → IsLeftOut done
-granting_out old l events new done (inl (said, is, e)) = subst IsLeftOut (sym e) (granted_out (before_line old said) said events new)
+granting_out old l events new done (inl (one_line_text, is, e)) = subst IsLeftOut (sym e) (granted_out (before_line old one_line_text) one_line_text events new)
 granting_out old l events new done (inr (inl (none, e))) = none_left_out done e
 granting_out old l events new done (inr (inr (fault, is, e))) = none_left_out done e
 
 naming_out : (n : Option Naming) → IsLeftOut (naming_text n)
 naming_out None = none_left_out [] refl
-naming_out (Some n) = line_out (naming_said n.addr n.name n.place n.number)
+naming_out (Some n) = line_out (naming_words n.addr n.name n.place n.number)
 
 named_out : (old : Option JobValue) (set : SetLines) (l : List ℕ) (events : List Event) (named : List ℕ) → IsNamed old set l events named → IsLeftOut named
 named_out None set l events named e = none_left_out named e
 named_out (Some job) set l events named (a, tells, (n, is, e)) = subst IsLeftOut (sym e) (naming_out n)
 
-behind_out : (old : Option JobValue) (set : SetLines) (l : List ℕ) (events : List Event) (new : Option JobValue) (text : List ℕ) → IsBehind old set l events new text → IsLeftOut text
+behind_out : (old : Option JobValue) (set : SetLines) (l : List ℕ) (events : List Event) (new : Option JobValue) (text : List ℕ) → IsExplanationText old set l events new text → IsLeftOut text
 behind_out old set l events new text (why, named, freed, done, is, names, frees, grants, e) =
     let end = out_both freed done (freeing_out old events freed frees) (granting_out old l events new done grants) in
     subst IsLeftOut (sym e) (out_both why (named ++ (freed ++ done)) (explanation_out old l events why is) (out_both named (freed ++ done) (named_out old set l events named names) end))
@@ -232,10 +232,10 @@ behind_out old set l events new text (why, named, freed, done, is, names, frees,
 
 -- the text of an entry is the printing of its events, and what is left out
 entry_out : (set : SetLines) (e : Entry) (kind : Kind) (text : List ℕ) → IsExplainedAs set e kind text → (why : List ℕ) × (text ≡ printing e.events ++ why) × IsLeftOut why
-entry_out set e (Executed said) text (why, is, same) = (why, same, behind_out e.before set e.bytes e.events e.after why is)
+entry_out set e (Executed one_line_text) text (why, is, same) = (why, same, behind_out e.before set e.bytes e.events e.after why is)
 entry_out set e (Faulty fault) text same = ([], same ∙ sym (append-nil (printing e.events)), none_left_out [] refl)
 entry_out set e Closed text same = ([], same ∙ sym (append-nil (printing e.events)), none_left_out [] refl)
-entry_out set e (Exhausted said) text same = ([], same ∙ sym (append-nil (printing e.events)), none_left_out [] refl)
+entry_out set e (Exhausted one_line_text) text same = ([], same ∙ sym (append-nil (printing e.events)), none_left_out [] refl)
 
 left : (history entries : List Entry) (text : List ℕ) → WrittenAfter explained history entries text → without_starred text ≡ without_starred (printing (events_of entries))
 left history [] text is = ap without_starred is

@@ -25,13 +25,13 @@ use Rattle.mvs_job.specs.declared.printing.Stop.TheVariants as stop
 use Rattle.mvs_job.specs.declared.strict.StrictEnd.{StrictEnd}
 use Rattle.mvs_job.specs.declared.strict.Unserved.{Unserved}
 use Rattle.mvs_job.specs.declared.strict.Unserved.TheVariants as why
-use Rattle.mvs_job.specs.declared.walk.LineTold.{LineTold}
-use Rattle.mvs_job.specs.declared.walk.LineTold.TheVariants as told
+use Rattle.mvs_job.specs.declared.walk.LineEvent.{LineEvent}
+use Rattle.mvs_job.specs.declared.walk.LineEvent.TheVariants as told
 use Rattle.mvs_job.specs.Consuming.{IsEnd, IsEntry, Known, Leaves, LeavesText, Piece, keeps_nothing}
 use Rattle.mvs_job.specs.Printed.{printed}
 use Rattle.mvs_job.specs.Streams.{PrintedUpTo}
-use Rattle.mvs_job.specs.Strict.{Grows, HearsFront, Observes, PrintsStrictly, RunsObserved, Skipped, all_skipped, is_of_served, line_at, skipped_at, skipped_for, skipped_in}
-use Rattle.mvs_job.specs.Telling.{WalkValue, ended, events_told}
+use Rattle.mvs_job.specs.Strict.{Grows, ObservesFront, Observes, PrintsStrictly, RunsObserved, Skipped, all_skipped, is_of_served, line_at, skipped_at, skipped_for, skipped_in}
+use Rattle.mvs_job.specs.LineEvents.{WalkValue, ended, events_of_line}
 use Rattle.mvs_job.specs.Trace.{Arrives, Ending, Ends, Entry, Exhausts, IsExecuted, IsTrace, Stops, Traces, events_of}
 use Rattle.mvs_job.proofs.Printed.{exhausted_is_front, exhausted_printing, front_printing, printed_events}
 use Rattle.mvs_job.proofs.Tracing.{trace_cut, trace_split, traces_are_runs, walk_of}
@@ -212,7 +212,7 @@ strict_err before after script (Err why) h = strict_stopped before after script 
 
 module _ (script : List ℕ) (heard heard' : Option (List Skipped)) where
   -- what was heard of some lines that were executed
-  hears : (served left : List (List ℕ)) (n : ℕ) (step : Option JobValue) (entries : List Entry) → lines_of script ≡ served ++ left → n ≡ 1 + length served → Traces (Arrives step) 1 None served entries → Grows heard heard' (skipped_at entries) → HearsFront heard heard' script
+  hears : (served left : List (List ℕ)) (n : ℕ) (step : Option JobValue) (entries : List Entry) → lines_of script ≡ served ++ left → n ≡ 1 + length served → Traces (Arrives step) 1 None served entries → Grows heard heard' (skipped_at entries) → ObservesFront heard heard' script
   hears served left n step entries cut at t grows =
       let numbers = first_numbers (line_at script) 1 served left (subst (Numbers (line_at script) 1) cut (numbered (lines_of script) [] (lines_of script) 1 refl refl)) in (
         events_of entries,
@@ -228,7 +228,7 @@ module _ (script : List ℕ) (heard heard' : Option (List Skipped)) where
     run_observed outcome (text, a, w) =
         let o = observed w.entries (inl w.known) in (w.entries, text, w.trace, w.is, a, o.served, subst (λ (x : List Skipped). Grows heard heard' x) (sym (script_skipped script (Ends outcome) w.entries w.trace)) o.skipped)
 
-    pub run_heard : (why : Stop) → Leaves piece knows before after script s (Err why) → HearsFront heard heard' script
+    pub run_heard : (why : Stop) → Leaves piece knows before after script s (Err why) → ObservesFront heard heard' script
     run_heard stop.Write (text, a, w) =
         let r = trace_cut w.begun.how 1 None (lines_of script) w.entries w.next w.begun.rest w.begun.trace in
         hears r.served r.left (1 + length r.served) r.step w.entries r.lines_are refl r.trace (observed w.entries w.known).skipped
@@ -272,17 +272,17 @@ and_false : (a : Bool) → (a && false) ≡ false
 and_false true = refl
 and_false false = refl
 
-bytes_of : (n : ℕ) (line : List ℕ) (w : WalkValue) (t : LineTold) (e : Entry) → IsEntry n line w t e → list_all is_of_served (events_told n w t) ≡ false → e.bytes ≡ line
+bytes_of : (n : ℕ) (line : List ℕ) (w : WalkValue) (t : LineEvent) (e : Entry) → IsEntry n line w t e → list_all is_of_served (events_of_line n w t) ≡ false → e.bytes ≡ line
 bytes_of n line w told.Nothing e is unserved = ap (λ e. e.bytes) (is.of_line).5
 bytes_of n line w (told.Began ended card) e is unserved = ap (λ e. e.bytes) (is.of_line).5
 bytes_of n line w (told.Answered t a) e is unserved = ap (λ e. e.bytes) (is.of_line).5
 bytes_of n line w (told.Faulted fault) e is unserved = absurd (let f : true ≡ false = unserved in cc)
 
-module _ (fa all : Bool) (heard heard1 : Option (List Skipped)) (history : List Entry) (n : ℕ) (line : List ℕ) (w : WalkValue) (t : LineTold) (e : Entry) (o : Option Unserved) (is : IsEntry n line w t e)
-    (served : list_all is_of_served (events_told n w t) ≡ not (is_some o)) (skipped : (lines : ℕ → List ℕ) → all_skipped lines (events_told n w t) ≡ skipped_for n (lines n) o) (before : Observes fa all heard heard1 history) where
+module _ (fa all : Bool) (heard heard1 : Option (List Skipped)) (history : List Entry) (n : ℕ) (line : List ℕ) (w : WalkValue) (t : LineEvent) (e : Entry) (o : Option Unserved) (is : IsEntry n line w t e)
+    (served : list_all is_of_served (events_of_line n w t) ≡ not (is_some o)) (skipped : (lines : ℕ → List ℕ) → all_skipped lines (events_of_line n w t) ≡ skipped_for n (lines n) o) (before : Observes fa all heard heard1 history) where
   pub unserved_next : (heard2 : Option (List Skipped)) (why : Unserved) → o ≡ Some why → Grows heard1 heard2 (record { number = n; line = line; why = why } ∷ []) → Observes fa false heard heard2 (history ++ e ∷ [])
   unserved_next heard2 why some grows =
-      let none : list_all is_of_served (events_told n w t) ≡ false = served ∙ ap (λ o. not (is_some o)) some in
+      let none : list_all is_of_served (events_of_line n w t) ≡ false = served ∙ ap (λ o. not (is_some o)) some in
       let bytes = bytes_of n line w t e is none in
       subst (λ x. Observes fa x heard heard2 (history ++ e ∷ [])) (and_false all)
       (observes_next fa all heard history heard1 heard2 false e (record { number = n; line = line; why = why } ∷ []) before (ap (list_all is_of_served) is.events ∙ none)

@@ -5,7 +5,7 @@ use Rattle.mvs_model.specs.declared.request.Request.{Request}
 use Rattle.mvs_model.specs.declared.request.Reply.{Reply}
 use Rattle.mvs_model.specs.Job.{JobValue}
 use Rattle.mvs_model.specs.Place.{PlaceValue}
-use Rattle.mvs_job.specs.Telling.{WalkValue}
+use Rattle.mvs_job.specs.LineEvents.{WalkValue}
 use Rattle.mvs_job.specs.Valued.{MayWrite, Requests, RequestsOf, WritesOf}
 
 module _ (step : Option JobValue) (number : ℕ) (before : Reply) where

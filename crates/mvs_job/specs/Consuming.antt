@@ -7,9 +7,9 @@ use Rattle.mvs_model.specs.declared.watched.Failed.{Failed}
 use Rattle.job_script.specs.Writing.{AppendsFront}
 use Rattle.mvs_job.specs.declared.printing.Stop.{Stop}
 use Rattle.mvs_job.specs.declared.printing.Stop.TheVariants as stop
-use Rattle.mvs_job.specs.declared.walk.LineTold.{LineTold}
-use Rattle.mvs_job.specs.declared.walk.LineTold.TheVariants as told
-use Rattle.mvs_job.specs.Telling.{WalkValue, closing, ended, events_told}
+use Rattle.mvs_job.specs.declared.walk.LineEvent.{LineEvent}
+use Rattle.mvs_job.specs.declared.walk.LineEvent.TheVariants as told
+use Rattle.mvs_job.specs.LineEvents.{WalkValue, closing, ended, events_of_line}
 use Rattle.mvs_job.specs.Observing.{Hearing, ObservesLine}
 use Rattle.mvs_job.specs.declared.consumer.End.{End}
 use Rattle.mvs_job.specs.declared.consumer.End.TheVariants as end
@@ -29,14 +29,14 @@ pub record Known (S : Type 0) : Type 1 where
   pub had : S → List Entry → Type 0
 
 -- An entry is of a line with this result: it is executed, or has a fault.
-abbrev pub IsOfLine : LineTold → ℕ → List ℕ → Entry → Type 0
+abbrev pub IsOfLine : LineEvent → ℕ → List ℕ → Entry → Type 0
 IsOfLine (told.Faulted fault) number line e = IsFaulty number e.before line e
 IsOfLine t number line e = IsExecuted number e.before line e
 
 -- The entry is of the line with this number and this result, after which the job is in this state.
-pub record IsEntry (number : ℕ) (line : List ℕ) (w : WalkValue) (t : LineTold) (e : Entry) : Type 0 where
+pub record IsEntry (number : ℕ) (line : List ℕ) (w : WalkValue) (t : LineEvent) (e : Entry) : Type 0 where
   pub of_line : IsOfLine t number line e
-  pub events : e.events ≡ events_told number w t
+  pub events : e.events ≡ events_of_line number w t
   pub after : e.after ≡ w.step
 
 -- The entry is the last one of a trace that ends so.
@@ -65,7 +65,7 @@ Accepts piece knows before after s history e result =
 
 -- It does so whatever entries it had, for each entry that its arguments describe: it has looked at the line, and then it heard of the
 -- refusal of its request, if there was one.
-abbrev pub AcceptsLine : {S X : Type 0} → Piece → Hearing S → (S → Option JobValue → List ℕ → Type 0) → Known S → Option (List ℕ) → Option (List ℕ) → S → S → ℕ → List ℕ → WalkValue → LineTold → Result X Stop → Type 0
+abbrev pub AcceptsLine : {S X : Type 0} → Piece → Hearing S → (S → Option JobValue → List ℕ → Type 0) → Known S → Option (List ℕ) → Option (List ℕ) → S → S → ℕ → List ℕ → WalkValue → LineEvent → Result X Stop → Type 0
 AcceptsLine {S = S} piece heard sees knows before after s s' number line w t result =
     (mid : S) (history : List Entry) (e : Entry) → IsEntry number line w t e → sees mid e.before line → ObservesLine heard mid e.before line t w s → knows.has mid history → Accepts piece knows before after s' history e result
 

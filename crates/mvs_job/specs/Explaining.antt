@@ -21,9 +21,9 @@ use Rattle.mvs_job.specs.Facts.{IsFreeing, ended_by, freed_lines}
 use Rattle.mvs_job.specs.declared.explained.Explained.{Explained}
 use Rattle.mvs_job.specs.Granting.{IsGranting, granted_text}
 use Rattle.mvs_job.specs.Naming.{IsNamed, SetLines, naming_text}
-use Rattle.mvs_job.specs.declared.walk.LineTold.{LineTold}
-use Rattle.mvs_job.specs.declared.walk.LineTold.TheVariants as told
-use Rattle.mvs_job.specs.Telling.{WalkValue, events_told}
+use Rattle.mvs_job.specs.declared.walk.LineEvent.{LineEvent}
+use Rattle.mvs_job.specs.declared.walk.LineEvent.TheVariants as told
+use Rattle.mvs_job.specs.LineEvents.{WalkValue, events_of_line}
 use Rattle.mvs_job.specs.Why.{OfRead, spoken}
 
 -- ---- a line
@@ -44,17 +44,17 @@ IsExplanation (Some job) bytes events text =
     ⊎ ((fault : Fault) × FaultOf false bytes fault × (text ≡ []))
 
 -- what is printed of the reason of a line that says this and asks for this request
-abbrev pub said_of : Line → Request → Option LineReason → List ℕ
-said_of l request None = []
-said_of line.Nothing request (Some reason) = []
-said_of (line.Statement t s) request (Some reason) = reason_line t request reason
+abbrev pub reason_part : Line → Request → Option LineReason → List ℕ
+reason_part l request None = []
+reason_part line.Nothing request (Some reason) = []
+reason_part (line.Statement t s) request (Some reason) = reason_line t request reason
 
 -- ---- all of them
 
 -- The text comes after these events of the next line, which leads to this step: why it was refused, the name that has the address
 -- of the reason, the subpools that were freed if it ended a task, and what it changed if it was granted.
-abbrev pub IsBehind : Option JobValue → SetLines → List ℕ → List Event → Option JobValue → List ℕ → Type 0
-IsBehind old set bytes events new text =
+abbrev pub IsExplanationText : Option JobValue → SetLines → List ℕ → List Event → Option JobValue → List ℕ → Type 0
+IsExplanationText old set bytes events new text =
     (why : List ℕ) × (named : List ℕ) × (freed : List ℕ) × (done : List ℕ)
     × IsExplanation old bytes events why × IsNamed old set bytes events named × IsFreeing old events freed × IsGranting old bytes events new done
     × (text ≡ why ++ (named ++ (freed ++ done)))
@@ -72,11 +72,11 @@ NoLineIsStarred = (script text : List ℕ) (outcome : Outcome) → IsPrinting sc
 -- ---- what calls do
 
 -- the explanations of the last line, which has these events and leads to this step
-abbrev pub behind_said : Explained → List Event → Option JobValue → List ℕ
-behind_said x events new =
-    said_of x.why.read x.why.request x.reason ++ (naming_text x.naming ++ (freed_lines x.why.subpools (ended_by events) ++ granted_text x.why.before x.why.read events new))
+abbrev pub explanation_text : Explained → List Event → Option JobValue → List ℕ
+explanation_text x events new =
+    reason_part x.why.read x.why.request x.reason ++ (naming_text x.naming ++ (freed_lines x.why.subpools (ended_by events) ++ granted_text x.why.before x.why.read events new))
 
 -- what is printed of a line that had these events and led to this state
-abbrev pub told_text : Explained → ℕ → WalkValue → LineTold → List ℕ
-told_text x number w (told.Faulted fault) = printing (events_told number w (told.Faulted fault))
-told_text x number w t = printing (events_told number w t) ++ behind_said x (events_told number w t) w.step
+abbrev pub text_of_event : Explained → ℕ → WalkValue → LineEvent → List ℕ
+text_of_event x number w (told.Faulted fault) = printing (events_of_line number w (told.Faulted fault))
+text_of_event x number w t = printing (events_of_line number w t) ++ explanation_text x (events_of_line number w t) w.step

@@ -5,7 +5,7 @@ use Rattle.mvs_model.specs.declared.name.Name.{Name}
 use Rattle.mvs_model.specs.Answers.{Answer, Event, Told}
 use Rattle.mvs_model.specs.Answers as answer
 use Rattle.mvs_model.specs.Job.{JobValue}
-use Rattle.mvs_model.specs.Owners.{goes}
+use Rattle.mvs_model.specs.Owners.{is_among_ended}
 use Rattle.request_forms.specs.Facts.{owned_subpools}
 use Rattle.request_forms.specs.declared.facts.OwnedSubpool.{OwnedSubpool}
 use Rattle.job_script.specs.FactTexts.{freed_line, stays_line}
@@ -36,7 +36,7 @@ ended_by _ = None
 
 -- the line for a subpool at an end: it is freed, or it remains and the ending task shared it
 abbrev pub subpool_line : Name × List Name → OwnedSubpool → List ℕ
-subpool_line e s = if goes e.0 e.1 s.owner then freed_line s.number s.owner s.bytes s.pages else if s.had then stays_line s.number s.owner e.0 else []
+subpool_line e s = if is_among_ended e.0 e.1 s.owner then freed_line s.number s.owner s.bytes s.pages else if s.had then stays_line s.number s.owner e.0 else []
 
 -- what is printed of the subpools at an end, if there is one
 abbrev pub freed_lines : List OwnedSubpool → Option (Name × List Name) → List ℕ

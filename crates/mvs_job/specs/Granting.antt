@@ -24,7 +24,7 @@ use Rattle.mvs_model.specs.Reports.{each_below}
 use Rattle.mvs_model.specs.State.{State}
 use Rattle.job_script.specs.FactTexts.{fact_line}
 use Rattle.request_forms.specs.Facts.{listed}
-use Rattle.request_forms.specs.Standing.{free_above, free_below, label_had, label_meant}
+use Rattle.request_forms.specs.SubpoolLabels.{free_above, free_below, label_had, label_meant}
 use Rattle.mvs_job.specs.declared.granting.Before.{Before}
 
 -- ---- the step before
@@ -168,9 +168,9 @@ is_grant (answer.Map runs) = false
 is_grant (answer.Region card) = false
 
 -- whether the events of a line say so
-abbrev pub tells_grant : List Event → Bool
-tells_grant (Told number t a ∷ []) = is_grant a
-tells_grant _ = false
+abbrev pub reports_grant : List Event → Bool
+reports_grant (Told number t a ∷ []) = is_grant a
+reports_grant _ = false
 
 -- the lines for the changes of a line with this meaning, from the step after it
 abbrev pub done_text : Option Before → Line → Option JobValue → List ℕ
@@ -185,7 +185,7 @@ done_text (Some b) (line.Statement t says.ReportMap) (Some new) = []
 
 -- the same where the events say that a request was granted
 abbrev pub granted_text : Option Before → Line → List Event → Option JobValue → List ℕ
-granted_text b l events new = if tells_grant events then done_text b l new else []
+granted_text b l events new = if reports_grant events then done_text b l new else []
 
 -- The text is the changes of the next line, if it has these events: from the steps before and after it.
 abbrev pub IsGranting : Option JobValue → List ℕ → List Event → Option JobValue → List ℕ → Type 0

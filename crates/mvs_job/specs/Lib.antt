@@ -13,7 +13,7 @@ pub mod Sessions
 pub mod Steady
 pub mod Streams
 pub mod Strict
-pub mod Telling
+pub mod LineEvents
 pub mod Valued
 pub mod Why
 pub mod Trace

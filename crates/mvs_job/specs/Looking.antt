@@ -9,13 +9,13 @@ use Rattle.mvs_job.specs.declared.explained.Explained.{Explained}
 use Rattle.mvs_job.specs.Consuming.{Known}
 use Rattle.mvs_job.specs.Explained.{set_by_entries}
 use Rattle.mvs_job.specs.Granting.{IsReadIn, before_line}
-use Rattle.mvs_job.specs.Naming.{IsNamingOf, SetLines, address_told}
+use Rattle.mvs_job.specs.Naming.{IsNamingOf, SetLines, reason_address}
 use Rattle.mvs_job.specs.Why.{IsSurvey, KeepsWhy}
 
 -- What is kept of a refusal that is heard of: why, and the name that has the address of the reason.
 pub record KeepsExplained (old : Explained) (job : JobValue) (t : Name) (request : Request) (refusal : Refusal) (new : Explained) : Type 0 where
   pub why : KeepsWhy old.why job t request refusal new.why
-  pub naming : IsNamingOf job old.lines (option_and_then (address_told new.why.request) new.why.reason) new.naming
+  pub naming : IsNamingOf job old.lines (option_and_then (reason_address new.why.request) new.why.reason) new.naming
   pub lines : new.lines ≡ old.lines
 
 -- What is looked at before a line, which comes after lines that set these names in the step.

@@ -24,10 +24,10 @@ use Rattle.mvs_model.specs.Storage.{has_address}
 use Rattle.job_script.specs.NamingTexts.{naming_line}
 use Rattle.job_script.specs.ReasonTexts.{cell_of}
 use Rattle.mvs_job.specs.declared.naming.Naming.{Naming}
-use Rattle.mvs_job.specs.declared.walk.LineTold.{LineTold}
-use Rattle.mvs_job.specs.declared.walk.LineTold.TheVariants as told
-use Rattle.mvs_job.specs.Granting.{tells_grant}
-use Rattle.mvs_job.specs.Telling.{WalkValue, events_told}
+use Rattle.mvs_job.specs.declared.walk.LineEvent.{LineEvent}
+use Rattle.mvs_job.specs.declared.walk.LineEvent.TheVariants as told
+use Rattle.mvs_job.specs.Granting.{reports_grant}
+use Rattle.mvs_job.specs.LineEvents.{WalkValue, events_of_line}
 use Rattle.mvs_job.specs.Why.{OfRead, spoken}
 
 -- ---- the lines that set names
@@ -46,45 +46,45 @@ set_by number set [] = set
 set_by number set (name ∷ names) = set_by number (insert set name number) names
 
 -- the names after a line with this meaning and these events: a step begins with none, and a granted request sets its names
-abbrev pub set_behind : ℕ → SetLines → Line → List Event → SetLines
-set_behind number set (line.Statement t (says.Region below above fill residence)) events = no_lines
-set_behind number set (line.Statement t (says.Request a)) events = if tells_grant events then set_by number set (names_set a) else set
-set_behind number set l events = set
+abbrev pub names_after : ℕ → SetLines → Line → List Event → SetLines
+names_after number set (line.Statement t (says.Region below above fill residence)) events = no_lines
+names_after number set (line.Statement t (says.Request a)) events = if reports_grant events then set_by number set (names_set a) else set
+names_after number set l events = set
 
 -- The names after the next line, which has no fault: before the first step there are none.
-abbrev pub IsSetBehind : ℕ → Option JobValue → SetLines → List ℕ → List Event → SetLines → Type 0
-IsSetBehind number None set bytes events new = new ≡ no_lines
-IsSetBehind number (Some job) set bytes events new = (l : Line) × LineOf false bytes l × (new ≡ set_behind number set l events)
+abbrev pub AreNamesAfter : ℕ → Option JobValue → SetLines → List ℕ → List Event → SetLines → Type 0
+AreNamesAfter number None set bytes events new = new ≡ no_lines
+AreNamesAfter number (Some job) set bytes events new = (l : Line) × LineOf false bytes l × (new ≡ names_after number set l events)
 
 -- ---- the address of a reason
 
 -- the address in the reason of a request, if there is one
-abbrev pub address_told : Request → Reason → Option ℕ
-address_told request (OffDoubleword a) = Some a
-address_told request (NotHeld a holder) = Some a
-address_told request (Overlap one other a) = Some a
-address_told request (NoTakenCell spot) = Some (cell_of request)
-address_told request (NoAccess a holder) = Some a
-address_told request NotActive = None
-address_told request InvalidNumber = None
-address_told request (Shortage room) = None
-address_told request (NoMember k short) = None
-address_told request (NoPart cells size room) = None
-address_told request (NoSubpool keeper) = None
-address_told request WholeOfZero = None
-address_told request PoolInUse = None
-address_told request TooManyPools = None
-address_told request NoPool = None
-address_told request NoFreeCell = None
-address_told request TaskInUse = None
-address_told request TooManyTasks = None
-address_told request (NotOwned number owner) = None
-address_told request (ActiveSubtask subtask) = None
-address_told request Asked = None
+abbrev pub reason_address : Request → Reason → Option ℕ
+reason_address request (OffDoubleword a) = Some a
+reason_address request (NotHeld a holder) = Some a
+reason_address request (Overlap one other a) = Some a
+reason_address request (NoTakenCell spot) = Some (cell_of request)
+reason_address request (NoAccess a holder) = Some a
+reason_address request NotActive = None
+reason_address request InvalidNumber = None
+reason_address request (Shortage room) = None
+reason_address request (NoMember k short) = None
+reason_address request (NoPart cells size room) = None
+reason_address request (NoSubpool keeper) = None
+reason_address request WholeOfZero = None
+reason_address request PoolInUse = None
+reason_address request TooManyPools = None
+reason_address request NoPool = None
+reason_address request NoFreeCell = None
+reason_address request TaskInUse = None
+reason_address request TooManyTasks = None
+reason_address request (NotOwned number owner) = None
+reason_address request (ActiveSubtask subtask) = None
+reason_address request Asked = None
 
 -- the address in the reason of a line
 abbrev pub address_in : JobValue → Line → Option LineReason → Option ℕ
-address_in job (line.Statement t (says.Request a)) (Some (Refused reason)) = address_told (spoken (resolved job.names a)) reason
+address_in job (line.Statement t (says.Request a)) (Some (Refused reason)) = reason_address (spoken (resolved job.names a)) reason
 address_in job (line.Statement t (says.Request a)) (Some (NotSet name)) = None
 address_in job (line.Statement t (says.Request a)) None = None
 address_in job (line.Statement t (says.Region below above fill residence)) r = None
@@ -135,9 +135,9 @@ lines_before None set = no_lines
 lines_before (Some job) set = set
 
 -- the lines that set names are recorded after a line that has no fault
-abbrev pub KeepsLines : WalkValue → SetLines → List ℕ → WalkValue → LineTold → SetLines → Type 0
+abbrev pub KeepsLines : WalkValue → SetLines → List ℕ → WalkValue → LineEvent → SetLines → Type 0
 KeepsLines w set bytes new (told.Faulted fault) later = Unit {0}
-KeepsLines w set bytes new t later = IsSetBehind w.number w.step set bytes (events_told w.number new t) later
+KeepsLines w set bytes new t later = AreNamesAfter w.number w.step set bytes (events_of_line w.number new t) later
 
 -- A list has a length.
 abbrev pub HasLengths : Written → Type 0
@@ -172,9 +172,9 @@ abbrev pub naming_at : JobValue → ℕ → Name × ℕ → Option Naming
 naming_at job a e = option_and_then (λ p. if has_address p a then Some (record { addr = a; name = e.0; place = p; number = e.1 }) else None) (get job.names e.0)
 
 -- whether a line is after that of another name, if there is one
-abbrev pub is_behind : Option Naming → ℕ → Bool
-is_behind None number = true
-is_behind (Some n) number = nat_lt n.number number
+abbrev pub comes_later : Option Naming → ℕ → Bool
+comes_later None number = true
+comes_later (Some n) number = nat_lt n.number number
 
 -- one of two
 abbrev pub first_of : Option Naming → Option Naming → Option Naming
@@ -183,4 +183,4 @@ first_of (Some n) other = Some n
 
 -- the later one of a name and the next
 abbrev pub later : JobValue → ℕ → Option Naming → Name × ℕ → Option Naming
-later job a latest e = if is_behind latest e.1 then first_of (naming_at job a e) latest else latest
+later job a latest e = if comes_later latest e.1 then first_of (naming_at job a e) latest else latest

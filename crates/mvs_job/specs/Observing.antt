@@ -18,7 +18,7 @@ use Rattle.mvs_model.specs.Answers as answer
 use Rattle.mvs_model.specs.Causes.{IsPassed, IsRefused}
 use Rattle.mvs_model.specs.Consequences.{Settles, reply_to}
 use Rattle.mvs_model.specs.Job.{JobValue}
-use Rattle.mvs_model.specs.Lent.{fallen_in, lent}
+use Rattle.mvs_model.specs.FullAnswers.{ended_with_in, full_answer}
 use Rattle.mvs_model.specs.Owners.{is_active}
 use Rattle.mvs_model.specs.Reading.{LineOf}
 use Rattle.mvs_model.specs.Reasons.{MemberLacks}
@@ -27,9 +27,9 @@ use Rattle.mvs_model.specs.Resolving.{resolved}
 use Rattle.mvs_model.specs.State.{State}
 use Rattle.mvs_model.specs.Steps.{Does}
 use Rattle.mvs_model.specs.Walk.{is_first}
-use Rattle.mvs_job.specs.declared.walk.LineTold.{LineTold}
-use Rattle.mvs_job.specs.declared.walk.LineTold.TheVariants as told
-use Rattle.mvs_job.specs.Telling.{WalkValue, card_said}
+use Rattle.mvs_job.specs.declared.walk.LineEvent.{LineEvent}
+use Rattle.mvs_job.specs.declared.walk.LineEvent.TheVariants as told
+use Rattle.mvs_job.specs.LineEvents.{WalkValue, region_card}
 
 -- What an observer is after it has heard of a refusal: of a task's request in a job, for something, and of what a member of a list
 -- lacks.
@@ -99,15 +99,15 @@ is_end (answer.Region card) = false
 
 -- A task's request in a job was answered so by its step: it passes and is done, and nothing is heard; or it is refused and settled,
 -- and this is heard.
-abbrev pub Hears : {O : Type 0} → Hearing O → O → JobValue → Name → Request → Reply → State → O → Type 0
-Hears heard before job t request reply new after =
+abbrev pub ObservesRequest : {O : Type 0} → Hearing O → O → JobValue → Name → Request → Reply → State → O → Type 0
+ObservesRequest heard before job t request reply new after =
     ((after ≡ before) × IsPassed job.state t request × Does job.state t request reply new)
     ⊎ ((refusal : Refusal) × (left : Shortfall) × IsRefused job.state t request refusal × LeftFor job t request refusal left × Settles job.state t (reply_to request refusal) reply new
     × heard before job t request refusal left after)
 
 -- The names stay, and what became of former steps; a task has abended where the reply says so.
-abbrev pub IsRestKept : JobValue → Reply → JobValue → Type 0
-IsRestKept old reply new = (new.names ≡ old.names) × (new.former ≡ old.former) × (new.abended ≡ (old.abended || is_abend reply))
+abbrev pub KeepsNamesAndFormer : JobValue → Reply → JobValue → Type 0
+KeepsNamesAndFormer old reply new = (new.names ≡ old.names) × (new.former ≡ old.former) × (new.abended ≡ (old.abended || is_abend reply))
 
 -- A request passed, and this was not heard of; only a return ends its task then.
 abbrev pub Passes : {O : Type 0} → O → JobValue → Name → Request → Answer → O → Type 0
@@ -131,10 +131,10 @@ Observes heard before job t says.ReportSubpools answer after = after ≡ before
 Observes heard before job t says.ReportMap answer after = after ≡ before
 
 -- The same of a line in a step, with what it says: one that is not a statement of a step makes no request.
-abbrev pub ObservesLine : {O : Type 0} → Hearing O → O → Option JobValue → List ℕ → LineTold → WalkValue → O → Type 0
+abbrev pub ObservesLine : {O : Type 0} → Hearing O → O → Option JobValue → List ℕ → LineEvent → WalkValue → O → Type 0
 ObservesLine heard before step bytes told.Nothing new after = LineOf (is_first step) bytes line.Nothing × (after ≡ before)
-ObservesLine heard before step bytes (told.Began end card) new after = (t : Name) × (s : Statement) × LineOf (is_first step) bytes (line.Statement t s) × (card_said t s ≡ Some card) × (after ≡ before)
+ObservesLine heard before step bytes (told.Began end card) new after = (t : Name) × (s : Statement) × LineOf (is_first step) bytes (line.Statement t s) × (region_card t s ≡ Some card) × (after ≡ before)
 ObservesLine heard before step bytes (told.Answered t a) new after =
     (s : Statement) × (job : JobValue) × (later : JobValue) × LineOf (is_first step) bytes (line.Statement t s) × (step ≡ Some job) × (new.step ≡ Some later)
-    × Observes heard before job t s (lent later.state (fallen_in new.reply) t a) after
+    × Observes heard before job t s (full_answer later.state (ended_with_in new.reply) t a) after
 ObservesLine heard before step bytes (told.Faulted fault) new after = after ≡ before

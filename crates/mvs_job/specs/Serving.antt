@@ -10,12 +10,12 @@ use Rattle.mvs_model.specs.Walk.{ServesLine, Faults, is_first}
 use Rattle.job_script.specs.Writing.{AppendsFront}
 use Rattle.mvs_job.specs.declared.printing.Stop.{Stop}
 use Rattle.mvs_job.specs.declared.printing.Stop.TheVariants as stop
-use Rattle.mvs_job.specs.declared.walk.LineTold.{LineTold}
-use Rattle.mvs_job.specs.Telling.{WalkValue, IsTold, events_told}
+use Rattle.mvs_job.specs.declared.walk.LineEvent.{LineEvent}
+use Rattle.mvs_job.specs.LineEvents.{WalkValue, ServesAs, events_of_line}
 
 -- the possible result of a line: its answer, or its fault
-abbrev pub LineTells : WalkValue → List ℕ → List Event → Type 0
-LineTells w line events = ((new : Option JobValue) × ServesLine machine w.number w.step line events new) ⊎ Faults w.number (is_first w.step) line events
+abbrev pub MayHappen : WalkValue → List ℕ → List Event → Type 0
+MayHappen w line events = ((new : Option JobValue) × ServesLine machine w.number w.step line events new) ⊎ Faults w.number (is_first w.step) line events
 
 -- The effect of the call for one line, between two moments of a writer: the line is executed, and the job continues; it has a
 -- fault, which is printed; or the call stops: at a write, after nothing or the beginning of the events was printed; or because
@@ -23,10 +23,10 @@ LineTells w line events = ((new : Option JobValue) × ServesLine machine w.numbe
 abbrev pub RunsLine : Option (List ℕ) → Option (List ℕ) → WalkValue → List ℕ → WalkValue → Result Bool Stop → Type 0
 RunsLine before after w line new (Ok true) = (events : List Event) × Appends before after (printing events) × ServesLine machine w.number w.step line events new.step
 RunsLine before after w line new (Ok false) = (events : List Event) × Appends before after (printing events) × Faults w.number (is_first w.step) line events
-RunsLine before after w line new (Err stop.Write) = Keeps before after ⊎ ((events : List Event) × LineTells w line events × AppendsFront before after (printing events))
+RunsLine before after w line new (Err stop.Write) = Keeps before after ⊎ ((events : List Event) × MayHappen w line events × AppendsFront before after (printing events))
 RunsLine before after w line new (Err stop.Memory) = (events : List Event) × Appends before after (printing events) × StopsForMemory w.number w.step (line ∷ []) events
 
 -- The effect of the call that returns the events of the line.
-abbrev pub TellsLine : Option (List ℕ) → Option (List ℕ) → WalkValue → List ℕ → WalkValue → Result LineTold Stop → Type 0
-TellsLine before after w line new (Ok told) = IsTold w line told new × Appends before after (printing (events_told w.number new told))
-TellsLine before after w line new (Err stop) = RunsLine before after w line new (Err stop)
+abbrev pub ReturnsEvent : Option (List ℕ) → Option (List ℕ) → WalkValue → List ℕ → WalkValue → Result LineEvent Stop → Type 0
+ReturnsEvent before after w line new (Ok told) = ServesAs w line told new × Appends before after (printing (events_of_line w.number new told))
+ReturnsEvent before after w line new (Err stop) = RunsLine before after w line new (Err stop)

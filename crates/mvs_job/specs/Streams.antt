@@ -17,7 +17,7 @@ use Rattle.mvs_job.specs.declared.stream.Turn.{Turn}
 use Rattle.mvs_job.specs.declared.stream.Turn.TheVariants.{On, Ended}
 use Rattle.mvs_job.specs.Consuming.{HasRun, IsFront, IsShort, IsWritten, Known, Leaves, Piece, Written, keeps_nothing}
 use Rattle.mvs_job.specs.Exchanging.{Exchanges}
-use Rattle.mvs_job.specs.Telling.{WalkValue}
+use Rattle.mvs_job.specs.LineEvents.{WalkValue}
 use Rattle.mvs_job.specs.Trace.{Arrives, Ends, Entry, Exhausts, Traces}
 
 -- the whole printing, or a front of one
@@ -38,7 +38,7 @@ PrintedUpTo stop.Memory start now script = PrintedBefore start now script
 
 -- After the consumed bytes the job is in this state: the complete lines in them have run, the text between the two moments of the
 -- writer is what the consumer writes for them, and these bytes are kept of an incomplete line.
-pub record Stands (piece : Piece) {S : Type 0} (knows : Known S) (start now : Option (List ℕ)) (consumed : List ℕ) (w : WalkValue) (kept : List ℕ) (s : S) : Type 0 where
+pub record HasConsumed (piece : Piece) {S : Type 0} (knows : Known S) (start now : Option (List ℕ)) (consumed : List ℕ) (w : WalkValue) (kept : List ℕ) (s : S) : Type 0 where
   pub lines : List (List ℕ)
   pub cut : consumed ≡ ended_text lines ++ kept
   pub each : AllByRecursion IsUnended lines
@@ -49,25 +49,25 @@ pub record Stands (piece : Piece) {S : Type 0} (knows : Known S) (start now : Op
 -- stops. The script may go on with any bytes.
 abbrev pub Feeds : {S : Type 0} → Piece → Known S → Option (List ℕ) → Option (List ℕ) → List ℕ → WalkValue → List ℕ → S → WalkValue → List ℕ → S → Result Bool Stop → Type 0
 Feeds piece knows before after bytes w kept s w' kept' s' result =
-    (start : Option (List ℕ)) (consumed : List ℕ) → Stands piece knows start before consumed w kept s → MatchResult result
-    (λ goes_on. MatchBool goes_on (Stands piece knows start after (consumed ++ bytes) w' kept' s') ((more : List ℕ) → Leaves piece knows start after (consumed ++ (bytes ++ more)) s' (Ok ScriptFault)))
+    (start : Option (List ℕ)) (consumed : List ℕ) → HasConsumed piece knows start before consumed w kept s → MatchResult result
+    (λ continues. MatchBool continues (HasConsumed piece knows start after (consumed ++ bytes) w' kept' s') ((more : List ℕ) → Leaves piece knows start after (consumed ++ (bytes ++ more)) s' (Ok ScriptFault)))
     (λ stop. (more : List ℕ) → Leaves piece knows start after (consumed ++ (bytes ++ more)) s' (Err stop))
 
 -- The effect of the first of some bytes, as many as the result says.
 abbrev pub FeedsSome : {S : Type 0} → Piece → Known S → Option (List ℕ) → Option (List ℕ) → List ℕ → WalkValue → List ℕ → S → WalkValue → List ℕ → S → Result (Option ℕ) Stop → Type 0
 FeedsSome piece knows before after bytes w kept s w' kept' s' result =
-    (start : Option (List ℕ)) (consumed : List ℕ) → Stands piece knows start before consumed w kept s → MatchResult result
-    (λ taken. MatchOption taken ((more : List ℕ) → Leaves piece knows start after (consumed ++ (bytes ++ more)) s' (Ok ScriptFault)) (λ n. Stands piece knows start after (consumed ++ take n bytes) w' kept' s'))
+    (start : Option (List ℕ)) (consumed : List ℕ) → HasConsumed piece knows start before consumed w kept s → MatchResult result
+    (λ taken. MatchOption taken ((more : List ℕ) → Leaves piece knows start after (consumed ++ (bytes ++ more)) s' (Ok ScriptFault)) (λ n. HasConsumed piece knows start after (consumed ++ take n bytes) w' kept' s'))
     (λ stop. (more : List ℕ) → Leaves piece knows start after (consumed ++ (bytes ++ more)) s' (Err stop))
 
 -- The effect of the end of the script.
 abbrev pub Finishes : {S : Type 0} → Piece → Known S → Option (List ℕ) → Option (List ℕ) → WalkValue → List ℕ → S → S → Result Outcome Stop → Type 0
-Finishes piece knows before after w kept s s' result = (start : Option (List ℕ)) (consumed : List ℕ) → Stands piece knows start before consumed w kept s → Leaves piece knows start after consumed s' result
+Finishes piece knows before after w kept s s' result = (start : Option (List ℕ)) (consumed : List ℕ) → HasConsumed piece knows start before consumed w kept s → Leaves piece knows start after consumed s' result
 
 -- Of the unread bytes, count were consumed, and the job is after them. An incomplete line is not too long yet.
 abbrev pub IsUnderWay : {S : Type 0} → Piece → Known S → Option (List ℕ) → Option (List ℕ) → Option (List ℕ) → Option (List ℕ) → ℕ → WalkValue → List ℕ → S → Type 0
 IsUnderWay piece knows unread left start now count w kept s =
-    (consumed : List ℕ) × Consumes unread left consumed × (length consumed ≡ count) × Stands piece knows start now consumed w kept s × (length kept < 256)
+    (consumed : List ℕ) × Consumes unread left consumed × (length consumed ≡ count) × HasConsumed piece knows start now consumed w kept s × (length kept < 256)
 
 -- All lines that have ended in some bytes of a script have run, and the text is what the consumer writes for them. The rest may still
 -- become a line.

@@ -109,8 +109,8 @@ RunsObserved piece before after heard heard' script outcome all =
     × (all ≡ list_all is_of_served (events_of entries)) × Grows heard heard' (all_skipped (line_at script) (events_of entries))
 
 -- Just the lines are heard of that were not served of the first lines of a script, in a run of it.
-abbrev pub HearsFront : Option (List Skipped) → Option (List Skipped) → List ℕ → Type 0
-HearsFront heard heard' script =
+abbrev pub ObservesFront : Option (List Skipped) → Option (List Skipped) → List ℕ → Type 0
+ObservesFront heard heard' script =
     (events : List Event) × (number : ℕ) × (step : Option JobValue) × (left : List (List ℕ)) × Reaches (lines_of script) events number step left × Grows heard heard' (all_skipped (line_at script) events)
 
 -- the lines of some entries that were not executed, in order

@@ -11,7 +11,7 @@ use Rattle.mvs_model.specs.Place.{PlaceValue}
 use Rattle.mvs_model.specs.Replies.{is_abend}
 use Rattle.mvs_model.specs.Steps.{Step}
 use Rattle.mvs_model.specs.Requests.{bytes_from}
-use Rattle.mvs_job.specs.Telling.{WalkValue}
+use Rattle.mvs_job.specs.LineEvents.{WalkValue}
 
 -- The numbers of a pool that is built are in their ranges.
 abbrev pub BuildsInRange : Request → Type 0

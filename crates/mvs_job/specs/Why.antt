@@ -31,8 +31,8 @@ use Rattle.mvs_model.specs.Reasons.{Explains, IsReason}
 use Rattle.mvs_model.specs.Resolving.{first_unset, looked_up, resolved}
 use Rattle.request_forms.specs.Facts.{owned_subpools}
 use Rattle.request_forms.specs.declared.facts.OwnedSubpool.{OwnedSubpool}
-use Rattle.mvs_job.specs.declared.walk.LineTold.{LineTold}
-use Rattle.mvs_job.specs.declared.walk.LineTold.TheVariants as told
+use Rattle.mvs_job.specs.declared.walk.LineEvent.{LineEvent}
+use Rattle.mvs_job.specs.declared.walk.LineEvent.TheVariants as told
 use Rattle.mvs_job.specs.declared.why.Why.{Why}
 use Rattle.mvs_job.specs.Observing.{is_refusal}
 
@@ -46,21 +46,21 @@ abbrev pub refused : Option Reason → Option LineReason
 refused = option_map (λ reason. Refused reason)
 
 -- Why a request is refused whose names are looked up: where one is not set, this is the reason.
-abbrev pub OfAsked : JobValue → Name → Written → Option Request → Option LineReason → Type 0
-OfAsked job t a None r = r ≡ option_map (λ name. NotSet name) (first_unset job.names (looked_up a))
-OfAsked job t a (Some request) r = (reason : Option Reason) × IsReason job.state t request reason × (r ≡ refused reason)
+abbrev pub OfRequest : JobValue → Name → Written → Option Request → Option LineReason → Type 0
+OfRequest job t a None r = r ≡ option_map (λ name. NotSet name) (first_unset job.names (looked_up a))
+OfRequest job t a (Some request) r = (reason : Option Reason) × IsReason job.state t request reason × (r ≡ refused reason)
 
 -- Why an active task's statement is refused: a report never is, and the question after a name where it is not set.
-abbrev pub OfSaid : JobValue → Name → Statement → Option LineReason → Type 0
-OfSaid job t (says.Request a) r = OfAsked job t a (resolved job.names a) r
-OfSaid job t (says.Where name) r = MatchOption (get job.names name) (r ≡ Some (NotSet name)) (λ _. r ≡ None)
-OfSaid job t (says.Region below above fill residence) r = r ≡ None
-OfSaid job t says.ReportSubpools r = r ≡ None
-OfSaid job t says.ReportMap r = r ≡ None
+abbrev pub OfActiveStatement : JobValue → Name → Statement → Option LineReason → Type 0
+OfActiveStatement job t (says.Request a) r = OfRequest job t a (resolved job.names a) r
+OfActiveStatement job t (says.Where name) r = MatchOption (get job.names name) (r ≡ Some (NotSet name)) (λ _. r ≡ None)
+OfActiveStatement job t (says.Region below above fill residence) r = r ≡ None
+OfActiveStatement job t says.ReportSubpools r = r ≡ None
+OfActiveStatement job t says.ReportMap r = r ≡ None
 
 -- Why a task's statement is refused: the task is not active, or for what it says.
 abbrev pub OfStatement : JobValue → Name → Statement → Option LineReason → Type 0
-OfStatement job t s r = MatchBool (not (is_active job.state.owners t)) (r ≡ Some (Refused NotActive)) (OfSaid job t s r)
+OfStatement job t s r = MatchBool (not (is_active job.state.owners t)) (r ≡ Some (Refused NotActive)) (OfActiveStatement job t s r)
 
 -- Why a line is refused: REGION is of no step, and so never is.
 abbrev pub OfLine : JobValue → Line → Option LineReason → Type 0
@@ -72,13 +72,13 @@ OfLine job (line.Statement t says.ReportSubpools) r = OfStatement job t says.Rep
 OfLine job (line.Statement t says.ReportMap) r = OfStatement job t says.ReportMap r
 
 -- whether the events of a line say that it was refused
-abbrev pub tells_refusal : List Event → Bool
-tells_refusal (Told number t answer ∷ []) = is_refusal answer
-tells_refusal _ = false
+abbrev pub reports_refusal : List Event → Bool
+reports_refusal (Told number t answer ∷ []) = is_refusal answer
+reports_refusal _ = false
 
 -- Why the line that was read as this is refused, which has these events: there is a reason just where they say so.
 abbrev pub OfRead : JobValue → Line → List Event → Option LineReason → Type 0
-OfRead job l events r = OfLine job l r × (is_some r ≡ tells_refusal events)
+OfRead job l events r = OfLine job l r × (is_some r ≡ reports_refusal events)
 
 -- The same by the text of a line; one with a fault is not executed.
 abbrev pub OfBytes : JobValue → List ℕ → List Event → Option LineReason → Type 0
@@ -147,6 +147,6 @@ answer_reason step l reason short.Subpools = refused reason
 answer_reason step l reason short.Map = refused reason
 
 -- the same by what the line led to
-abbrev pub line_reason : Option JobValue → Line → Option Reason → LineTold → Option LineReason
+abbrev pub line_reason : Option JobValue → Line → Option Reason → LineEvent → Option LineReason
 line_reason step l reason (told.Answered t answer) = answer_reason step l reason answer
 line_reason step l reason told = None

@@ -4,15 +4,15 @@ ghost use Rattle.std.specs.Prelude.{◌≡◌, ◌<◌, ◌+◌, ◌^◌, ◌⊎
 ghost use Rattle.std.specs.Io.KnownBytes.{Appends};
 ghost use Rattle.mvs_model.specs.Memory.{StopsForMemory};
 ghost use Rattle.mvs_model.specs.Texts.{printing};
-ghost use Rattle.mvs_job.specs.Apart.{StandsBehind};
+ghost use Rattle.mvs_job.specs.Apart.{AppendsExplanation};
 ghost use Rattle.mvs_job.specs.Naming.{KeepsLines, no_lines};
 ghost use Rattle.mvs_job.specs.Serving.{RunsLine};
-ghost use Rattle.mvs_job.specs.Telling.{IsLent, IsTold, ended, events_told};
+ghost use Rattle.mvs_job.specs.LineEvents.{IsAvailable, ServesAs, ended, events_of_line};
 ghost use Rattle.mvs_job.specs.Why.{OfNext};
 
 use crate::explained::Explained;
 use crate::printing::Stop;
-use crate::walk::{LineTold, Stopped, Walk};
+use crate::walk::{LineEvent, Stopped, Walk};
 use mvs_model::reason::LineReason;
 use mvs_model::watched::Watched;
 use std::alloc::Global;
@@ -55,16 +55,16 @@ impl Explainer {
         &mut self,
         walk: &mut Walk,
         line: &[u8],
-    ) -> Result<(LineTold, Option<LineReason>), Stopped>
+    ) -> Result<(LineEvent, Option<LineReason>), Stopped>
         requires { walk.old.number + 1 < 2 ^ 32 }
-        ensures told { MatchResult result (λ r. IsTold walk.old line.now r.0 walk.new)
+        ensures told { MatchResult result (λ r. ServesAs walk.old line.now r.0 walk.new)
             (λ stopped. StopsForMemory walk.old.number walk.old.step (line.now ∷ [])
             (ended stopped.ended)) }
         ensures reason { IfOk result
-            (λ r. OfNext walk.old.step line.now (events_told walk.old.number walk.new r.0) r.1) }
+            (λ r. OfNext walk.old.step line.now (events_of_line walk.old.number walk.new r.0) r.1) }
         ensures lines { IfOk result
             (λ r. KeepsLines walk.old self.old line.now walk.new r.0 self.new) }
-        ensures lent { IfOk result (λ r. IsLent walk.new r.0) }
+        ensures full_answer { IfOk result (λ r. IsAvailable walk.new r.0) }
         ensures number { walk.new.number ≡ walk.old.number + 1 }
     {
         match self.explained.serve(walk, line) {
@@ -81,18 +81,18 @@ impl Explainer {
         line: &[u8],
         writer: &mut Watched<W>,
         behind: &mut Watched<V>,
-    ) -> Result<LineTold, Stop>
+    ) -> Result<LineEvent, Stop>
         requires { walk.old.number + 1 < 2 ^ 32 }
-        ensures told { IfOk result (λ told. IsTold walk.old line.now told walk.new) }
+        ensures told { IfOk result (λ told. ServesAs walk.old line.now told walk.new) }
         ensures printed { IfOk result
             (λ told. Appends (W.contents writer.old.inner) (W.contents writer.new.inner)
-            (printing (events_told walk.old.number walk.new told))) }
+            (printing (events_of_line walk.old.number walk.new told))) }
         ensures behind { IfOk result
-            (StandsBehind (V.contents behind.old.inner) (V.contents behind.new.inner) walk.old
+            (AppendsExplanation (V.contents behind.old.inner) (V.contents behind.new.inner) walk.old
             self.old line.now walk.new) }
         ensures lines { IfOk result
             (λ told. KeepsLines walk.old self.old line.now walk.new told self.new) }
-        ensures lent { IfOk result (IsLent walk.new) }
+        ensures full_answer { IfOk result (IsAvailable walk.new) }
         ensures number { walk.new.number ≡ walk.old.number + 1 }
         // Memory is exhausted only at a REGION statement, and at a granted request that sets a name; then one writer has what is printed
         // before the answer to it.
@@ -106,10 +106,10 @@ impl Explainer {
             Ok(told) => told,
             Err(stop) => return Err(stop),
         };
-        if let LineTold::Faulted(_) = told {
+        if let LineEvent::Faulted(_) = told {
             return Ok(told);
         }
-        match self.explained.print_behind(walk, &told, behind) {
+        match self.explained.print_explanation(walk, &told, behind) {
             Ok(()) => Ok(told),
             Err(_) => Err(Stop::Write),
         }

@@ -2,13 +2,13 @@
 
 ghost use Rattle.std.specs.Prelude.{◌≡◌, List, Option, ℕ, true, OnOk, OnErr, IsErrOf};
 ghost use Rattle.mvs_model.specs.Job.{JobValue};
-ghost use Rattle.mvs_job.specs.Telling.{IsLent};
+ghost use Rattle.mvs_job.specs.LineEvents.{IsAvailable};
 ghost use Rattle.mvs_job.specs.Consuming.{AcceptsEnd, AcceptsLine, Known, Piece};
 ghost use Rattle.mvs_job.specs.Trace.{Entry};
 
 use crate::observer::Observer;
 use crate::printing::Stop;
-use crate::walk::{LineTold, Walk};
+use crate::walk::{LineEvent, Walk};
 use mvs_model::watched::{Failed, Watched};
 use std::io::Write;
 
@@ -46,9 +46,9 @@ pub trait Consumer: Observer {
         line_number: u32,
         line: &[u8],
         walk: &Walk,
-        told: &LineTold,
+        told: &LineEvent,
     ) -> Result<(), Stop>
-        requires { IsLent walk.now told.now }
+        requires { IsAvailable walk.now told.now }
         ensures accepted { (first : Self) → AcceptsLine piece Self.heard sees (knows first)
             (W.contents writer.old.inner) (W.contents writer.new.inner) self.old self.new line_number
             line.now walk.now told.now result }

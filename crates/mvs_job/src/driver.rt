@@ -7,7 +7,7 @@ ghost use Rattle.mvs_job.specs.Consuming.{Leaves, RunsLast, RunsNext};
 use crate::consumer::{Consumer, End};
 use crate::lines::line_end;
 use crate::printing::Stop;
-use crate::walk::{LineTold, Walk};
+use crate::walk::{LineEvent, Walk};
 use mvs_model::outcome::Outcome;
 use mvs_model::place::Addr;
 use mvs_model::want::Placement;
@@ -36,7 +36,7 @@ pub fn run_entry<W: Write, C: Consumer>(
     consumer.look(walk, line);
     match walk.observed_line(line, hints, consumer) {
         Ok(told) => match consumer.entry(writer, line_number, line, walk, &told) {
-            Ok(()) => Ok(!matches!(told, LineTold::Faulted(_))),
+            Ok(()) => Ok(!matches!(told, LineEvent::Faulted(_))),
             Err(stop) => Err(stop),
         },
         Err(stopped) => match consumer.end(writer, line_number, End::Exhausted(stopped.ended)) {

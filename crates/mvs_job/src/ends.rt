@@ -1,17 +1,17 @@
 //! What is freed with a task that ends: the subpools that tasks own before it ends, and those of them that are freed.
 
 ghost use Rattle.std.specs.Prelude.{◌≡◌, [], false, None, Some, ℕ};
-ghost use Rattle.mvs_model.specs.Lent.{lent};
+ghost use Rattle.mvs_model.specs.FullAnswers.{full_answer};
 ghost use Rattle.mvs_model.specs.Name.{same_name};
-ghost use Rattle.mvs_model.specs.Owners.{goes};
+ghost use Rattle.mvs_model.specs.Owners.{is_among_ended};
 ghost use Rattle.mvs_model.specs.State.{State};
 ghost use Rattle.request_forms.specs.Facts.{owned_subpools};
 ghost use Rattle.job_script.specs.Writing.{Prints};
-ghost use Rattle.mvs_job.specs.Telling.{IsLent, events_told};
+ghost use Rattle.mvs_job.specs.LineEvents.{IsAvailable, events_of_line};
 ghost use Rattle.mvs_job.specs.Facts.{end_of, ended_by, freed_lines, subpool_line};
 
 use crate::job::Job;
-use crate::walk::{LineTold, Walk};
+use crate::walk::{LineEvent, Walk};
 use job_script::{print_freed, print_stays};
 use mvs_model::answer::Answer;
 use mvs_model::name::Name;
@@ -61,8 +61,8 @@ pub(crate) fn is_same(one: &Name, other: &Name) -> bool
 }
 
 // Whether a task ends, with one that does and those that fall with it.
-fn goes(task: &Name, fallen: &[Name], other: &Name) -> bool
-    ensures { result ≡ goes task.now fallen.now other.now }
+fn is_among_ended(task: &Name, fallen: &[Name], other: &Name) -> bool
+    ensures { result ≡ is_among_ended task.now fallen.now other.now }
 {
     let mut any = is_same(other, task);
     for name in fallen {
@@ -81,7 +81,7 @@ fn print_subpool<W: Write>(
     ensures { Prints W.contents writer.old writer.new result
         (subpool_line (task.now, fallen.now) subpool.now) }
 {
-    if goes(task, fallen, &subpool.owner) {
+    if is_among_ended(task, fallen, &subpool.owner) {
         return print_freed(
             writer,
             subpool.number,
@@ -122,7 +122,7 @@ fn print_end<W: Write>(
 ) -> Result<(), Failed>
     ensures { (st : State)
         → Prints W.contents writer.old writer.new result
-        (freed_lines subpools.now (end_of task.now (lent st fallen.now task.now answer.now))) }
+        (freed_lines subpools.now (end_of task.now (full_answer st fallen.now task.now answer.now))) }
 {
     match answer {
         Answer::Abended(_) => print_subpools(writer, task, fallen, subpools),
@@ -147,18 +147,18 @@ fn print_end<W: Write>(
 pub(crate) fn print_frees<W: Write>(
     writer: &mut Watched<W>,
     walk: &Walk,
-    told: &LineTold,
+    told: &LineEvent,
     subpools: &[OwnedSubpool],
 ) -> Result<(), Failed>
-    requires { IsLent walk.now told.now }
+    requires { IsAvailable walk.now told.now }
     ensures { (number : ℕ)
         → Prints W.contents writer.old writer.new result
-        (freed_lines subpools.now (ended_by (events_told number walk.now told.now))) }
+        (freed_lines subpools.now (ended_by (events_of_line number walk.now told.now))) }
 {
     match told {
-        LineTold::Answered { task, answer } => {
+        LineEvent::Answered { task, answer } => {
             print_end(writer, task, walk.fallen(), answer, subpools)
         }
-        LineTold::Nothing | LineTold::Began { .. } | LineTold::Faulted(_) => Ok(()),
+        LineEvent::Nothing | LineEvent::Began { .. } | LineEvent::Faulted(_) => Ok(()),
     }
 }

@@ -6,20 +6,20 @@ ghost use Rattle.job_script.specs.Writing.{Prints};
 ghost use Rattle.mvs_job.specs.Looking.{IsLooking, KeepsExplained, knows_set};
 ghost use Rattle.mvs_model.specs.Memory.{StopsForMemory};
 ghost use Rattle.mvs_job.specs.Explained.{explained};
-ghost use Rattle.mvs_job.specs.Explaining.{IsBehind, behind_said, told_text};
-ghost use Rattle.mvs_job.specs.Granting.{tells_grant};
-ghost use Rattle.mvs_job.specs.Naming.{IsNamingOf, KeepsLines, SetsSome, address_told, no_lines, set_behind};
-ghost use Rattle.mvs_job.specs.Serving.{TellsLine};
-ghost use Rattle.mvs_job.specs.Telling.{IsLent, IsTold, ended, events_told};
+ghost use Rattle.mvs_job.specs.Explaining.{IsExplanationText, explanation_text, text_of_event};
+ghost use Rattle.mvs_job.specs.Granting.{reports_grant};
+ghost use Rattle.mvs_job.specs.Naming.{IsNamingOf, KeepsLines, SetsSome, reason_address, no_lines, names_after};
+ghost use Rattle.mvs_job.specs.Serving.{ReturnsEvent};
+ghost use Rattle.mvs_job.specs.LineEvents.{IsAvailable, ServesAs, ended, events_of_line};
 ghost use Rattle.mvs_job.specs.Why.{OfNext, line_reason};
 
 use crate::consumer::{Consumer, End};
 use crate::ends::print_frees;
 use crate::job::Job;
-use crate::naming::{Naming, SetLines, address_told, print_named};
+use crate::naming::{Naming, SetLines, reason_address, print_named};
 use crate::observer::Observer;
 use crate::printing::{Stop, print_closing, print_ended, print_line};
-use crate::walk::{LineTold, Stopped, Walk};
+use crate::walk::{LineEvent, Stopped, Walk};
 use crate::why::Why;
 use mvs_model::error::OutOfMemory;
 use mvs_model::name::Name;
@@ -74,7 +74,7 @@ impl Consumer for Explained {
         line_number: u32,
         line: &[u8],
         walk: &Walk,
-        told: &LineTold,
+        told: &LineEvent,
     ) -> Result<(), Stop> {
         let Ok(()) = self.keep(line_number, walk, told) else {
             return Err(Stop::Memory);
@@ -114,12 +114,12 @@ impl Explained {
     // Returns the name that has the address in the reason of a request.
     fn name(&self, job: &Job) -> Option<Naming>
         ensures { IsNamingOf job.now self.now.lines
-            (option_and_then (address_told self.now.why.request) self.now.why.reason) result }
+            (option_and_then (reason_address self.now.why.request) self.now.why.reason) result }
     {
         let Some(reason) = &self.why.reason else {
             return None;
         };
-        let Some(addr) = address_told(&self.why.request, reason) else {
+        let Some(addr) = reason_address(&self.why.request, reason) else {
             return None;
         };
         self.lines.naming(job, addr)
@@ -140,39 +140,39 @@ impl Explained {
         &mut self,
         number: u32,
         walk: &Walk,
-        told: &LineTold,
+        told: &LineEvent,
     ) -> Result<(), OutOfMemory>
-        requires { IsLent walk.now told.now }
+        requires { IsAvailable walk.now told.now }
         ensures why { self.new.why ≡ self.old.why }
         ensures naming { self.new.naming ≡ self.old.naming }
         ensures reason { self.new.reason
             ≡ line_reason walk.now.step self.old.why.read self.old.why.reason told.now }
         ensures lines { OnOk result
-            (self.new.lines ≡ set_behind number self.old.lines self.old.why.read
-            (events_told number walk.now told.now)) }
+            (self.new.lines ≡ names_after number self.old.lines self.old.why.read
+            (events_of_line number walk.now told.now)) }
         ensures err { OnErr result (SetsSome self.old.why.read
-            × (tells_grant (events_told number walk.now told.now) ≡ true)) }
+            × (reports_grant (events_of_line number walk.now told.now) ≡ true)) }
     {
         self.reason = self.why.line_reason(walk, told);
         self.lines.keep(number, &self.why.read, told)
     }
 
     /// Looks at a line, executes it, and keeps why it was not executed as it asks.
-    pub(crate) fn serve(&mut self, walk: &mut Walk, line: &[u8]) -> Result<LineTold, Stopped>
+    pub(crate) fn serve(&mut self, walk: &mut Walk, line: &[u8]) -> Result<LineEvent, Stopped>
         requires { walk.old.number + 1 < 2 ^ 32 }
-        ensures told { MatchResult result (λ told. IsTold walk.old line.now told walk.new)
+        ensures told { MatchResult result (λ told. ServesAs walk.old line.now told walk.new)
             (λ stopped. StopsForMemory walk.old.number walk.old.step (line.now ∷ [])
             (ended stopped.ended)) }
         ensures lines { IfOk result
             (λ told. KeepsLines walk.old self.old.lines line.now walk.new told self.new.lines) }
         ensures behind { IfOk result
-            (λ told. let events = events_told walk.old.number walk.new told in
-            IsBehind walk.old.step self.old.lines line.now events walk.new.step
-            (behind_said self.new events walk.new.step)) }
+            (λ told. let events = events_of_line walk.old.number walk.new told in
+            IsExplanationText walk.old.step self.old.lines line.now events walk.new.step
+            (explanation_text self.new events walk.new.step)) }
         ensures reason { IfOk result
-            (λ told. OfNext walk.old.step line.now (events_told walk.old.number walk.new told)
+            (λ told. OfNext walk.old.step line.now (events_of_line walk.old.number walk.new told)
             self.new.reason) }
-        ensures lent { IfOk result (IsLent walk.new) }
+        ensures full_answer { IfOk result (IsAvailable walk.new) }
         ensures number { walk.new.number ≡ walk.old.number + 1 }
     {
         let number = walk.number();
@@ -194,17 +194,17 @@ impl Explained {
         walk: &mut Walk,
         line: &[u8],
         writer: &mut Watched<W>,
-    ) -> Result<LineTold, Stop>
+    ) -> Result<LineEvent, Stop>
         requires { walk.old.number + 1 < 2 ^ 32 }
-        ensures ran { TellsLine (W.contents writer.old.inner) (W.contents writer.new.inner)
+        ensures ran { ReturnsEvent (W.contents writer.old.inner) (W.contents writer.new.inner)
             walk.old line.now walk.new result }
         ensures lines { IfOk result
             (λ told. KeepsLines walk.old self.old.lines line.now walk.new told self.new.lines) }
         ensures behind { IfOk result
-            (λ told. let events = events_told walk.old.number walk.new told in
-            IsBehind walk.old.step self.old.lines line.now events walk.new.step
-            (behind_said self.new events walk.new.step)) }
-        ensures lent { IfOk result (IsLent walk.new) }
+            (λ told. let events = events_of_line walk.old.number walk.new told in
+            IsExplanationText walk.old.step self.old.lines line.now events walk.new.step
+            (explanation_text self.new events walk.new.step)) }
+        ensures full_answer { IfOk result (IsAvailable walk.new) }
         ensures number { walk.new.number ≡ walk.old.number + 1 }
         ensures ok { OnOk result (writer.new.failed ≡ writer.old.failed) }
         ensures write { IsErrOf result Stop.Write → writer.new.failed ≡ true }
@@ -224,16 +224,16 @@ impl Explained {
 
     /// Prints why a line with these events was refused, the name that has the address of the reason, the subpools that were freed
     /// if it ended a task, and what it changed if it was granted.
-    pub(crate) fn print_behind<W: Write>(
+    pub(crate) fn print_explanation<W: Write>(
         &mut self,
         walk: &Walk,
-        told: &LineTold,
+        told: &LineEvent,
         writer: &mut Watched<W>,
     ) -> Result<(), Failed>
-        requires { IsLent walk.now told.now }
+        requires { IsAvailable walk.now told.now }
         ensures printed { (number : ℕ)
             → Prints W.contents writer.old writer.new result
-            (behind_said self.old (events_told number walk.now told.now) walk.now.step) }
+            (explanation_text self.old (events_of_line number walk.now told.now) walk.now.step) }
         ensures lines { self.new.lines ≡ self.old.lines }
     {
         self.why.print(writer, &self.reason)?;
@@ -248,17 +248,17 @@ impl Explained {
         writer: &mut Watched<W>,
         number: u32,
         walk: &Walk,
-        told: &LineTold,
+        told: &LineEvent,
     ) -> Result<(), Failed>
-        requires { IsLent walk.now told.now }
+        requires { IsAvailable walk.now told.now }
         ensures printed { Prints W.contents writer.old writer.new result
-            (told_text self.old number walk.now told.now) }
+            (text_of_event self.old number walk.now told.now) }
         ensures lines { self.new.lines ≡ self.old.lines }
     {
         print_line(writer, number, walk, told)?;
-        if let LineTold::Faulted(_) = told {
+        if let LineEvent::Faulted(_) = told {
             return Ok(());
         }
-        self.print_behind(walk, told, writer)
+        self.print_explanation(walk, told, writer)
     }
 }

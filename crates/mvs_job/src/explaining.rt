@@ -13,7 +13,7 @@ use crate::explained::Explained;
 use crate::laws::explained_are_printings;
 use crate::run::{RunFault, run_source};
 use crate::source::Source;
-use crate::told::Told;
+use crate::hints::Told;
 use mvs_model::outcome::Outcome;
 use mvs_model::want::Placement;
 use mvs_model::watched::Watched;

@@ -1,7 +1,7 @@
 //! What a granted request changed: what is looked up before it, and what is reported after it.
 
 ghost use Rattle.std.specs.Prelude.{◌≡◌, ◌≤◌, ◌<◌, ◌+◌, ◌^◌, ◌++◌, [], ◌∷◌, ℕ, List, length, flat_map};
-ghost use Rattle.mvs_model.specs.Lent.{lent};
+ghost use Rattle.mvs_model.specs.FullAnswers.{full_answer};
 ghost use Rattle.mvs_model.specs.Numbers.{task_numbers};
 ghost use Rattle.mvs_model.specs.Reports.{each_below};
 ghost use Rattle.mvs_model.specs.State.{State};
@@ -388,7 +388,7 @@ pub(crate) fn print_facts<W: Write>(writer: &mut Watched<W>, facts: &[Fact]) -> 
 /// Whether an answer says that a request was granted.
 pub(crate) fn is_grant(answer: &Answer) -> bool
     ensures { (st : State) (fallen : List TaskName) (t : TaskName)
-        → result ≡ is_grant (lent st fallen t answer.now) }
+        → result ≡ is_grant (full_answer st fallen t answer.now) }
 {
     match answer {
         Answer::Rc0 | Answer::Granted(_) | Answer::Cell | Answer::Attached => true,

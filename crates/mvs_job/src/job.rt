@@ -6,7 +6,7 @@ ghost use Rattle.mvs_model.specs.declared.line.Line.TheVariants as line;
 ghost use Rattle.mvs_model.specs.declared.name.Name.{Name as TaskName};
 ghost use Rattle.mvs_model.specs.Card.{IsCard};
 ghost use Rattle.mvs_model.specs.Job.{JobValue, job_at};
-ghost use Rattle.mvs_model.specs.Lent.{fallen_in, lent};
+ghost use Rattle.mvs_model.specs.FullAnswers.{ended_with_in, full_answer};
 ghost use Rattle.mvs_model.specs.Lines.{IsStatement, IsWritten};
 ghost use Rattle.mvs_model.specs.Memory.{SetsName, TakesMemory};
 ghost use Rattle.mvs_model.specs.Numbers.{most_shown};
@@ -18,10 +18,10 @@ ghost use Rattle.mvs_model.specs.Runs.{Asks, Does, Makes};
 ghost use Rattle.mvs_model.specs.State.{State};
 ghost use Rattle.mvs_model.specs.View.{IsBounded};
 ghost use Rattle.request_forms.specs.Taking.{Takes};
-ghost use Rattle.mvs_job.specs.Telling.{IsLentBy, KeepsReply, Replies, card_said};
+ghost use Rattle.mvs_job.specs.LineEvents.{IsAvailableIn, KeepsReply, Replies, region_card};
 ghost use Rattle.mvs_job.specs.Valued.{BuildsInRange, MayWrite, Requests};
 ghost use Rattle.mvs_model.specs.Steps.{Step as MachineStep};
-ghost use Rattle.mvs_job.specs.Observing.{Fails, Hears, IsRestKept, Observes, Passes};
+ghost use Rattle.mvs_job.specs.Observing.{Fails, ObservesRequest, KeepsNamesAndFormer, Observes, Passes};
 
 use crate::observer::Observer;
 use job_script::{Names, resolve, set_names, unset};
@@ -49,7 +49,7 @@ pub struct Job {
 
 impl Model for Job {
     ghost use Rattle.mvs_model.specs.Job.{JobValue};
-    ghost use Rattle.mvs_job.specs.Telling.{job_code};
+    ghost use Rattle.mvs_job.specs.LineEvents.{job_code};
     ghost use Rattle.mvs_job.specs.Steady.{IsSteady};
 
     ghost Value = { JobValue };
@@ -79,7 +79,7 @@ fn builds_in_range(request: &Request)
 // Returns the answer of a grant: its length, if the request is variable.
 fn grant_answer(written: &Written, place: &Place) -> Answer
     ensures answer { (st : State) (fallen : List TaskName) (t : TaskName)
-        → lent st fallen t result ≡ replies.grant_answer written.now place.now }
+        → full_answer st fallen t result ≡ replies.grant_answer written.now place.now }
     ensures quiet { (p : PlaceValue) → result ≢ Answer.Data p }
 {
     match written {
@@ -109,7 +109,7 @@ fn grant_answer(written: &Written, place: &Place) -> Answer
 // Returns the answer of a request that read or wrote bytes: the job has what SHOW read.
 fn done_answer(request: &Request) -> Answer
     ensures answer { (st : State) (fallen : List TaskName) (t : TaskName)
-        → lent st fallen t result ≡ replies.done_answer st request.now }
+        → full_answer st fallen t result ≡ replies.done_answer st request.now }
     ensures shown { (p : PlaceValue) → result ≡ Answer.Data p
         → (request.now ≡ Request.Show p.addr p.len) × (p.len ≤ most_shown) }
 {
@@ -122,7 +122,7 @@ fn done_answer(request: &Request) -> Answer
 // Returns the answer for the reply to a request.
 fn answer_of(written: &Written, request: &Request, reply: &Reply) -> Answer
     ensures answer { (st : State) (t : TaskName)
-        → lent st (fallen_in reply.now) t result
+        → full_answer st (ended_with_in reply.now) t result
         ≡ replies.answer_of st written.now request.now reply.now }
     ensures shown { (p : PlaceValue) → result ≡ Answer.Data p
         → (request.now ≡ Request.Show p.addr p.len) × (reply.now ≡ Reply.Done)
@@ -145,8 +145,8 @@ fn answer_of(written: &Written, request: &Request, reply: &Reply) -> Answer
 // Returns the answer to WHERE.
 fn where_answer(place: Option<Place>) -> Answer
     ensures answer { (st : State) (fallen : List TaskName) (t : TaskName)
-        → lent st fallen t result ≡ replies.where_answer place }
-    ensures quiet { (st : State) → IsLentBy st result }
+        → full_answer st fallen t result ≡ replies.where_answer place }
+    ensures quiet { (st : State) → IsAvailableIn st result }
 {
     match place {
         Some(place) => Answer::At(place.addr()),
@@ -237,9 +237,9 @@ impl Job {
         observer: &mut O,
     )
         ensures step { MachineStep self.old.state task.now request.now reply.new self.new.state }
-        ensures rest { IsRestKept self.old reply.new self.new }
+        ensures rest { KeepsNamesAndFormer self.old reply.new self.new }
         ensures told { Takes told.now self.old.state task.now request.now reply.new self.new.state }
-        ensures observed { Hears O.heard observer.old self.old task.now request.now reply.new
+        ensures observed { ObservesRequest O.heard observer.old self.old task.now request.now reply.new
             self.new.state observer.new }
     {
         builds_in_range(request);
@@ -268,20 +268,20 @@ impl Job {
         ensures served { MatchResult result
             (λ answer. Asks (Takes told.now) self.old task.now written.now
             (resolved self.old.names written.now)
-            (lent self.new.state (fallen_in reply.new) task.now answer) self.new)
+            (full_answer self.new.state (ended_with_in reply.new) task.now answer) self.new)
             (λ _. SetsName self.old task.now written.now) }
         ensures reply { IfOk result
             (λ answer. MatchOption (resolved self.old.names written.now) (reply.new ≡ reply.old)
             (λ asked. Makes (Replies reply.new) self.old task.now written.now asked
-            (lent self.new.state (fallen_in reply.new) task.now answer) self.new)) }
+            (full_answer self.new.state (ended_with_in reply.new) task.now answer) self.new)) }
         ensures observed { IfOk result
             (λ answer. MatchOption (resolved self.old.names written.now)
             (observer.new ≡ observer.old)
-            (λ asked. let said = lent self.new.state (fallen_in reply.new) task.now answer in
+            (λ asked. let said = full_answer self.new.state (ended_with_in reply.new) task.now answer in
             Passes observer.old self.old task.now asked said observer.new
             ⊎ Fails O.heard observer.old self.old task.now asked said observer.new)) }
         ensures unheard { OnErr result (observer.new ≡ observer.old) }
-        ensures lent { IfOk result (IsLentBy self.new.state) }
+        ensures full_answer { IfOk result (IsAvailableIn self.new.state) }
     {
         let Some(()) = resolve(&self.names, written, request) else {
             return Ok(Answer::NoName);
@@ -306,19 +306,19 @@ impl Job {
         observer: &mut O,
     ) -> Result<Answer, OutOfMemory>
         requires in_range { IsStatement false task.now statement.now }
-        requires of_step { card_said task.now statement.now ≡ None }
+        requires of_step { region_card task.now statement.now ≡ None }
         ensures served { MatchResult result
             (λ answer. Does (Takes told.now) self.old task.now statement.now
-            (lent self.new.state (fallen_in reply.new) task.now answer) self.new)
+            (full_answer self.new.state (ended_with_in reply.new) task.now answer) self.new)
             (λ _. TakesMemory (Some self.old) (line.Statement task.now statement.now) []) }
         ensures reply { IfOk result
             (λ answer. KeepsReply self.old task.now statement.now reply.old
-            (lent self.new.state (fallen_in reply.new) task.now answer) reply.new self.new) }
+            (full_answer self.new.state (ended_with_in reply.new) task.now answer) reply.new self.new) }
         ensures observed { IfOk result
             (λ answer. Observes O.heard observer.old self.old task.now statement.now
-            (lent self.new.state (fallen_in reply.new) task.now answer) observer.new) }
+            (full_answer self.new.state (ended_with_in reply.new) task.now answer) observer.new) }
         ensures unheard { OnErr result (observer.new ≡ observer.old) }
-        ensures lent { IfOk result (IsLentBy self.new.state) }
+        ensures full_answer { IfOk result (IsAvailableIn self.new.state) }
     {
         if !self.step.is_active(task) {
             return Ok(Answer::NotRun);

@@ -21,7 +21,7 @@ mod session;
 mod source;
 mod stream;
 mod strict;
-mod told;
+mod hints;
 mod walk;
 mod why;
 
@@ -39,6 +39,6 @@ pub use run::{RunFault, run_from, run_job, run_source};
 pub use session::Session;
 pub use source::Source;
 pub use strict::{Hears, Strict, StrictEnd, Unserved, run_observed, run_strictly};
-pub use told::Told;
-pub use walk::{Closing, LineTold, Stopped, Walk};
+pub use hints::Told;
+pub use walk::{Closing, LineEvent, Stopped, Walk};
 pub use why::Why;

@@ -7,13 +7,13 @@ ghost use Rattle.mvs_model.specs.Resolving.{names_set};
 ghost use Rattle.mvs_model.specs.Storage.{has_address};
 ghost use Rattle.job_script.specs.ReasonTexts.{cell_of};
 ghost use Rattle.job_script.specs.Writing.{Prints};
-ghost use Rattle.mvs_job.specs.Granting.{tells_grant};
-ghost use Rattle.mvs_job.specs.Naming.{HasLengths, IsNaming, SetsSome, address_told, first_of, is_behind, later, lines_before, naming_at, naming_text, no_lines, set_behind, set_by};
-ghost use Rattle.mvs_job.specs.Telling.{IsLent, WalkValue, events_told};
+ghost use Rattle.mvs_job.specs.Granting.{reports_grant};
+ghost use Rattle.mvs_job.specs.Naming.{HasLengths, IsNaming, SetsSome, reason_address, first_of, comes_later, later, lines_before, naming_at, naming_text, no_lines, names_after, set_by};
+ghost use Rattle.mvs_job.specs.LineEvents.{IsAvailable, WalkValue, events_of_line};
 
 use crate::job::Job;
-use crate::walk::{LineTold, Walk};
-use crate::why::tells_grant;
+use crate::walk::{LineEvent, Walk};
+use crate::why::reports_grant;
 use job_script::{names_set, print_naming};
 use mvs_model::error::OutOfMemory;
 use mvs_model::line::{Line, Statement, Written};
@@ -66,8 +66,8 @@ fn cell(request: &Request) -> Addr
 }
 
 /// Returns the address in the reason of a request.
-pub(crate) fn address_told(request: &Request, reason: &Reason) -> Option<Addr>
-    ensures { result ≡ address_told request.now reason.now }
+pub(crate) fn reason_address(request: &Request, reason: &Reason) -> Option<Addr>
+    ensures { result ≡ reason_address request.now reason.now }
 {
     match reason {
         Reason::OffDoubleword(addr)
@@ -121,8 +121,8 @@ fn naming_at(job: &Job, addr: Addr, name: &Name, number: u32) -> Option<Naming>
 }
 
 // Returns whether a line is after that of another name, if there is one.
-fn is_behind(latest: &Option<Naming>, number: u32) -> bool
-    ensures { result ≡ is_behind latest.now number }
+fn comes_later(latest: &Option<Naming>, number: u32) -> bool
+    ensures { result ≡ comes_later latest.now number }
 {
     match latest {
         Some(naming) => naming.number < number,
@@ -134,7 +134,7 @@ fn is_behind(latest: &Option<Naming>, number: u32) -> bool
 fn later(latest: Option<Naming>, job: &Job, addr: Addr, name: &Name, number: u32) -> Option<Naming>
     ensures { result ≡ later job.now addr latest (name.now, number) }
 {
-    if !is_behind(&latest, number) {
+    if !comes_later(&latest, number) {
         return latest;
     }
     match naming_at(job, addr, name, number) {
@@ -207,13 +207,13 @@ impl SetLines {
         &mut self,
         number: u32,
         read: &Line,
-        told: &LineTold,
+        told: &LineEvent,
     ) -> Result<(), OutOfMemory>
-        ensures ok { OnOk result ((walk : WalkValue) → IsLent walk told.now
-            → self.new ≡ set_behind number self.old read.now (events_told number walk told.now)) }
+        ensures ok { OnOk result ((walk : WalkValue) → IsAvailable walk told.now
+            → self.new ≡ names_after number self.old read.now (events_of_line number walk told.now)) }
         ensures err { OnErr result (SetsSome read.now
-            × ((walk : WalkValue) → IsLent walk told.now
-            → tells_grant (events_told number walk told.now) ≡ true)) }
+            × ((walk : WalkValue) → IsAvailable walk told.now
+            → reports_grant (events_of_line number walk told.now) ≡ true)) }
     {
         match read {
             Line::Statement(_, Statement::Region { .. }) => {
@@ -221,7 +221,7 @@ impl SetLines {
                 Ok(())
             }
             Line::Statement(_, Statement::Request(written)) => {
-                if !tells_grant(told) {
+                if !reports_grant(told) {
                     return Ok(());
                 }
                 has_lengths(written);

@@ -7,7 +7,7 @@ use crate::consumer::{Consumer, End};
 use crate::job::Job;
 use crate::observer::Observer;
 use crate::printing::{Stop, print_closing, print_ended, print_line};
-use crate::walk::{LineTold, Walk};
+use crate::walk::{LineEvent, Walk};
 use mvs_model::name::Name;
 use mvs_model::reason::Shortfall;
 use mvs_model::refusal::Refusal;
@@ -47,7 +47,7 @@ impl Consumer for Printer {
         line_number: u32,
         line: &[u8],
         walk: &Walk,
-        told: &LineTold,
+        told: &LineEvent,
     ) -> Result<(), Stop> {
         match print_line(writer, line_number, walk, told) {
             Ok(()) => Ok(()),

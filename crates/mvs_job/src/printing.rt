@@ -2,20 +2,20 @@
 
 ghost use Rattle.std.specs.Prelude.{◌≡◌, ◌<◌, ◌+◌, ◌^◌, ◌∷◌, [], List, true, OnOk, IsErrOf};
 ghost use Rattle.mvs_model.specs.declared.name.Name.{Name as TaskName};
-ghost use Rattle.mvs_model.specs.Lent.{lent};
+ghost use Rattle.mvs_model.specs.FullAnswers.{full_answer};
 ghost use Rattle.mvs_model.specs.Texts.{answer_text, printing};
 ghost use Rattle.job_script.specs.Writing.{Prints};
 ghost use Rattle.mvs_job.specs.Replying.{plain_answer};
 ghost use Rattle.mvs_job.specs.Serving.{RunsLine};
-ghost use Rattle.mvs_job.specs.Telling.{IsLent, IsLentBy, closing, ended, events_told};
+ghost use Rattle.mvs_job.specs.LineEvents.{IsAvailable, IsAvailableIn, closing, ended, events_of_line};
 
 use crate::driver::run_entry;
 use crate::job::Job;
 use crate::printer::Printer;
 use crate::reports::{print_map, print_subpools};
 use crate::stream::fault_of;
-use crate::walk::{LineTold, Walk};
-use job_script::{print_abend, print_data, print_fault, print_region, print_said, print_step_end};
+use crate::walk::{LineEvent, Walk};
+use job_script::{print_abend, print_data, print_fault, print_region, print_short_answer, print_step_end};
 use mvs_model::answer::Answer;
 use mvs_model::line::Fault;
 use mvs_model::name::Name;
@@ -54,11 +54,11 @@ fn print_shown<W: Write>(
     job: &Job,
     place: Place,
 ) -> Result<(), Failed>
-    requires { IsLentBy job.now.state (Answer.Data place) }
+    requires { IsAvailableIn job.now.state (Answer.Data place) }
     ensures { (fallen : List TaskName)
         → Prints W.contents writer.old writer.new result
         (answer_text line_number task.now
-        (lent job.now.state fallen task.now (Answer.Data place))) }
+        (full_answer job.now.state fallen task.now (Answer.Data place))) }
 {
     match job.step().bytes(place) {
         Some(bytes) => print_data(writer, line_number, task, bytes),
@@ -75,9 +75,9 @@ fn print_answer<W: Write>(
     fallen: &[Name],
     answer: &Answer,
 ) -> Result<(), Failed>
-    requires { IsLentBy job.now.state answer.now }
+    requires { IsAvailableIn job.now.state answer.now }
     ensures { Prints W.contents writer.old writer.new result
-        (answer_text line_number task.now (lent job.now.state fallen.now task.now answer.now)) }
+        (answer_text line_number task.now (full_answer job.now.state fallen.now task.now answer.now)) }
 {
     match answer {
         Answer::Data(place) => print_shown(writer, line_number, task, job, *place),
@@ -94,7 +94,7 @@ fn print_answer<W: Write>(
         | Answer::NoCell
         | Answer::Attached
         | Answer::Ended
-        | Answer::Done => print_said(writer, line_number, task, answer),
+        | Answer::Done => print_short_answer(writer, line_number, task, answer),
     }
 }
 
@@ -110,16 +110,16 @@ pub fn print_reply<W: Write>(
         (answer_text line_number task.now (plain_answer reply.now)) }
 {
     match reply {
-        Reply::NotRun => print_said(writer, line_number, task, &Answer::NotRun),
-        Reply::Rc0 => print_said(writer, line_number, task, &Answer::Rc0),
-        Reply::Obtained(_) => print_said(writer, line_number, task, &Answer::Rc0),
-        Reply::Listed(_) => print_said(writer, line_number, task, &Answer::Rc0),
-        Reply::Rc4 => print_said(writer, line_number, task, &Answer::Rc4),
-        Reply::Cell(_) => print_said(writer, line_number, task, &Answer::Cell),
-        Reply::NoCell => print_said(writer, line_number, task, &Answer::NoCell),
-        Reply::Attached => print_said(writer, line_number, task, &Answer::Attached),
-        Reply::Ended => print_said(writer, line_number, task, &Answer::Ended),
-        Reply::Done => print_said(writer, line_number, task, &Answer::Done),
+        Reply::NotRun => print_short_answer(writer, line_number, task, &Answer::NotRun),
+        Reply::Rc0 => print_short_answer(writer, line_number, task, &Answer::Rc0),
+        Reply::Obtained(_) => print_short_answer(writer, line_number, task, &Answer::Rc0),
+        Reply::Listed(_) => print_short_answer(writer, line_number, task, &Answer::Rc0),
+        Reply::Rc4 => print_short_answer(writer, line_number, task, &Answer::Rc4),
+        Reply::Cell(_) => print_short_answer(writer, line_number, task, &Answer::Cell),
+        Reply::NoCell => print_short_answer(writer, line_number, task, &Answer::NoCell),
+        Reply::Attached => print_short_answer(writer, line_number, task, &Answer::Attached),
+        Reply::Ended => print_short_answer(writer, line_number, task, &Answer::Ended),
+        Reply::Done => print_short_answer(writer, line_number, task, &Answer::Done),
         Reply::Abended(code, fallen) => {
             print_abend(writer, line_number, task, *code, fallen.names())
         }
@@ -131,23 +131,23 @@ pub fn print_line<W: Write>(
     writer: &mut Watched<W>,
     line_number: u32,
     walk: &Walk,
-    told: &LineTold,
+    told: &LineEvent,
 ) -> Result<(), Failed>
-    requires { IsLent walk.now told.now }
+    requires { IsAvailable walk.now told.now }
     ensures { Prints W.contents writer.old writer.new result
-        (printing (events_told line_number walk.now told.now)) }
+        (printing (events_of_line line_number walk.now told.now)) }
 {
     match told {
-        LineTold::Nothing => Ok(()),
-        LineTold::Began { ended: end, card } => {
+        LineEvent::Nothing => Ok(()),
+        LineEvent::Began { ended: end, card } => {
             print_ended(writer, *end)?;
             print_region(writer, line_number, card)
         }
-        LineTold::Answered { task, answer } => match walk.job() {
+        LineEvent::Answered { task, answer } => match walk.job() {
             Some(job) => print_answer(writer, line_number, task, job, walk.fallen(), answer),
             None => unreachable!(),
         },
-        LineTold::Faulted(fault) => print_fault(writer, line_number, *fault),
+        LineEvent::Faulted(fault) => print_fault(writer, line_number, *fault),
     }
 }
 

@@ -15,7 +15,7 @@ use crate::consumer::Consumer;
 use crate::printer::Printer;
 use crate::source::Source;
 use crate::stream::{Stream, Turn};
-use crate::told::Told;
+use crate::hints::Told;
 use mvs_model::numbers::MOST_SCRIPT_BYTES;
 use mvs_model::outcome::Outcome;
 use mvs_model::want::Placement;

@@ -9,12 +9,12 @@ ghost use Rattle.mvs_model.specs.Numbers.{subpool_numbers};
 ghost use Rattle.mvs_model.specs.Runs.{machine};
 ghost use Rattle.mvs_model.specs.Walk.{Closes};
 ghost use Rattle.mvs_job.specs.Sessions.{new_session};
-ghost use Rattle.mvs_job.specs.Telling.{IsLent, IsTold, KeepsReplyOf, closing, ended, events_told, goes_on};
+ghost use Rattle.mvs_job.specs.LineEvents.{IsAvailable, ServesAs, KeepsReplyOf, closing, ended, events_of_line, continues};
 ghost use Rattle.mvs_job.specs.Why.{OfNext};
 ghost use Rattle.mvs_job.specs.Valued.{RequestsOf, WritesOf};
 
 use crate::apart::Explainer;
-use crate::walk::{Closing, LineTold, Stopped, Walk};
+use crate::walk::{Closing, LineEvent, Stopped, Walk};
 use mvs_model::name::Name;
 use mvs_model::place::Place;
 use mvs_model::reason::LineReason;
@@ -27,7 +27,7 @@ use std::marker::Model;
 #[derive(Drop)]
 pub struct Session {
     walk: Walk,
-    goes_on: bool,
+    continues: bool,
 }
 
 impl Model for Session {
@@ -37,7 +37,7 @@ impl Model for Session {
 
     ghost coded = { session_code };
 
-    ghost view = { λ s. record { walk = s.walk; goes_on = s.goes_on } };
+    ghost view = { λ s. record { walk = s.walk; continues = s.continues } };
 }
 
 impl Session {
@@ -47,25 +47,25 @@ impl Session {
     {
         Session {
             walk: Walk::new(alloc, placement),
-            goes_on: true,
+            continues: true,
         }
     }
 
     /// Returns whether the job accepts a line: it has not ended, and there is a number for the next line.
     pub fn takes_line(&self) -> bool
         ensures yes { result ≡ true
-            → (self.now.goes_on ≡ true) × (self.now.walk.number + 1 < 2 ^ 32) }
+            → (self.now.continues ≡ true) × (self.now.walk.number + 1 < 2 ^ 32) }
         ensures no { result ≡ false
-            → (self.now.goes_on ≡ false) ⊎ (2 ^ 32 ≤ self.now.walk.number + 1) }
+            → (self.now.continues ≡ false) ⊎ (2 ^ 32 ≤ self.now.walk.number + 1) }
     {
-        self.goes_on && self.walk.number() < u32::MAX
+        self.continues && self.walk.number() < u32::MAX
     }
 
     /// Returns whether the job continues: no line had a fault, memory was not exhausted, and it was not closed.
-    pub fn goes_on(&self) -> bool
-        ensures { result ≡ self.now.goes_on }
+    pub fn continues(&self) -> bool
+        ensures { result ≡ self.now.continues }
     {
-        self.goes_on
+        self.continues
     }
 
     /// Returns the state of the job: the number of the next line, and the long data of the last answer.
@@ -77,21 +77,21 @@ impl Session {
 
     /// Executes one line, which is given without its newline, and returns its events. A fault ends the job, and so does want of
     /// memory.
-    pub fn line(&mut self, line: &[u8]) -> Result<LineTold, Stopped>
-        requires goes_on { self.old.goes_on ≡ true }
+    pub fn line(&mut self, line: &[u8]) -> Result<LineEvent, Stopped>
+        requires continues { self.old.continues ≡ true }
         requires number { self.old.walk.number + 1 < 2 ^ 32 }
-        ensures told { MatchResult result (λ told. IsTold self.old.walk line.now told self.new.walk)
+        ensures told { MatchResult result (λ told. ServesAs self.old.walk line.now told self.new.walk)
             (λ stopped. StopsForMemory self.old.walk.number self.old.walk.step (line.now ∷ [])
             (ended stopped.ended)) }
         ensures reply { IfOk result
             (λ told. KeepsReplyOf self.old.walk line.now told self.new.walk) }
-        ensures lent { IfOk result (IsLent self.new.walk) }
+        ensures full_answer { IfOk result (IsAvailable self.new.walk) }
         ensures number { self.new.walk.number ≡ self.old.walk.number + 1 }
-        ensures goes_on { self.new.goes_on ≡ goes_on result }
+        ensures continues { self.new.continues ≡ continues result }
     {
         let told = self.walk.line(line, &[]);
-        self.goes_on = match &told {
-            Ok(LineTold::Faulted(_)) => false,
+        self.continues = match &told {
+            Ok(LineEvent::Faulted(_)) => false,
             Ok(_) => true,
             Err(_) => false,
         };
@@ -104,23 +104,23 @@ impl Session {
         &mut self,
         explainer: &mut Explainer,
         line: &[u8],
-    ) -> Result<(LineTold, Option<LineReason>), Stopped>
-        requires goes_on { self.old.goes_on ≡ true }
+    ) -> Result<(LineEvent, Option<LineReason>), Stopped>
+        requires continues { self.old.continues ≡ true }
         requires number { self.old.walk.number + 1 < 2 ^ 32 }
         ensures told { MatchResult result
-            (λ r. IsTold self.old.walk line.now r.0 self.new.walk)
+            (λ r. ServesAs self.old.walk line.now r.0 self.new.walk)
             (λ stopped. StopsForMemory self.old.walk.number self.old.walk.step (line.now ∷ [])
             (ended stopped.ended)) }
         ensures reason { IfOk result
             (λ r. OfNext self.old.walk.step line.now
-            (events_told self.old.walk.number self.new.walk r.0) r.1) }
-        ensures lent { IfOk result (λ r. IsLent self.new.walk r.0) }
+            (events_of_line self.old.walk.number self.new.walk r.0) r.1) }
+        ensures full_answer { IfOk result (λ r. IsAvailable self.new.walk r.0) }
         ensures number { self.new.walk.number ≡ self.old.walk.number + 1 }
-        ensures goes_on { IfOk result (λ r. self.new.goes_on ≡ goes_on (Ok r.0)) }
+        ensures continues { IfOk result (λ r. self.new.continues ≡ continues (Ok r.0)) }
     {
         let told = explainer.line(&mut self.walk, line);
-        self.goes_on = match &told {
-            Ok((LineTold::Faulted(_), _)) => false,
+        self.continues = match &told {
+            Ok((LineEvent::Faulted(_), _)) => false,
             Ok(_) => true,
             Err(_) => false,
         };
@@ -130,9 +130,9 @@ impl Session {
     /// Serves a request of a task that is given by values, and keeps the reply; false where no step runs. It is no line: it has no
     /// number, and sets no name.
     pub fn request(&mut self, task: &Name, request: &Request) -> bool
-        requires { self.old.goes_on ≡ true }
+        requires { self.old.continues ≡ true }
         ensures served { RequestsOf self.old.walk task.now request.now result self.new.walk }
-        ensures goes_on { self.new.goes_on ≡ true }
+        ensures continues { self.new.continues ≡ true }
     {
         self.walk.request(task, request)
     }
@@ -140,23 +140,23 @@ impl Session {
     /// Writes bytes over those of a place, and answers whether it did: not where no step runs, nor where one of them may not be
     /// written, and then all stay.
     pub fn write(&mut self, place: Place, bytes: &[u8]) -> bool
-        requires goes_on { self.old.goes_on ≡ true }
+        requires continues { self.old.continues ≡ true }
         requires len { length bytes.now ≡ place.len }
         ensures written { WritesOf self.old.walk place bytes.now result self.new.walk }
-        ensures goes_on { self.new.goes_on ≡ true }
+        ensures continues { self.new.continues ≡ true }
     {
         self.walk.write(place, bytes)
     }
 
     /// Ends a job that has no more lines, and answers how it ends.
     pub fn close(&mut self) -> Closing
-        requires { self.old.goes_on ≡ true }
+        requires { self.old.continues ≡ true }
         ensures closed { Closes machine self.old.walk.number self.old.walk.step
             (closing self.old.walk.number result.ended) result.outcome }
         ensures walk { self.new.walk ≡ self.old.walk }
-        ensures over { self.new.goes_on ≡ false }
+        ensures over { self.new.continues ≡ false }
     {
-        self.goes_on = false;
+        self.continues = false;
         self.walk.close()
     }
 }

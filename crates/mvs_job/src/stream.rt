@@ -3,7 +3,7 @@
 ghost use Rattle.std.specs.Prelude.{◌≡◌, ◌≢◌, ◌<◌, ◌≤◌, ◌+◌, ◌^◌, ◌++◌, ◌∷◌, [], List, ℕ, Option, length, take, slice_index, true, IfOk, IfSome, OnOk, IsErrOf, MatchResult};
 ghost use Rattle.std.specs.Io.KnownBytes.{Consumes, IsAtEnd, Keeps};
 ghost use Rattle.mvs_job.specs.Consuming.{RunsNext};
-ghost use Rattle.mvs_job.specs.Telling.{new_walk};
+ghost use Rattle.mvs_job.specs.LineEvents.{new_walk};
 ghost use Rattle.mvs_job.specs.Streams.{Feeds, FeedsSome, Finishes, HasEnded, HasGivenUp, IsUnderWay, Takes, fault_of};
 
 use crate::consumer::Consumer;
@@ -11,7 +11,7 @@ use crate::driver::{run_end, run_entry};
 use crate::printing::Stop;
 use crate::run::RunFault;
 use crate::source::Source;
-use crate::told::Told;
+use crate::hints::Told;
 use crate::walk::Walk;
 use job_script::{LineBuffer, Pushed};
 use memchr::memchr;
@@ -112,9 +112,9 @@ impl Stream {
         ensures write { IsErrOf result Stop.Write → writer.new.failed ≡ true }
     {
         let told = self.told.of(self.walk.number());
-        let goes_on = run_entry(&mut self.walk, self.line.bytes(), told, writer, consumer);
+        let continues = run_entry(&mut self.walk, self.line.bytes(), told, writer, consumer);
         self.line.clear();
-        goes_on
+        continues
     }
 
     // Consumes the next byte, and returns whether the job continues.

@@ -5,8 +5,8 @@ ghost use Rattle.std.specs.List.{list_all};
 ghost use Rattle.mvs_model.specs.Numbers.{most_script_bytes};
 ghost use Rattle.mvs_job.specs.Streams.{PrintedUpTo};
 ghost use Rattle.mvs_job.specs.Consuming.{LeavesText};
-ghost use Rattle.mvs_job.specs.Strict.{Grows, HearsFront, Observes, PrintsStrictly, RunsObserved, Skipped, all_skipped, is_of_served, skipped_for, why_unserved};
-ghost use Rattle.mvs_job.specs.Telling.{IsLent, events_told};
+ghost use Rattle.mvs_job.specs.Strict.{Grows, ObservesFront, Observes, PrintsStrictly, RunsObserved, Skipped, all_skipped, is_of_served, skipped_for, why_unserved};
+ghost use Rattle.mvs_job.specs.LineEvents.{IsAvailable, events_of_line};
 
 use crate::consumer::{Consumer, End};
 use crate::driver::run_lines;
@@ -14,7 +14,7 @@ use crate::job::Job;
 use crate::observer::Observer;
 use crate::printer::Printer;
 use crate::printing::Stop;
-use crate::walk::{LineTold, Walk};
+use crate::walk::{LineEvent, Walk};
 use mvs_model::answer::Answer;
 use mvs_model::name::Name;
 use mvs_model::outcome::Outcome;
@@ -77,17 +77,17 @@ fn why_unserved(answer: &Answer) -> Option<Unserved>
 }
 
 // Returns why a line was not executed, by its events, if it was not.
-fn why_of(walk: &Walk, told: &LineTold) -> Option<Unserved>
-    requires { IsLent walk.now told.now }
+fn why_of(walk: &Walk, told: &LineEvent) -> Option<Unserved>
+    requires { IsAvailable walk.now told.now }
     ensures served { (number : ℕ)
-        → list_all is_of_served (events_told number walk.now told.now) ≡ not (is_some result) }
+        → list_all is_of_served (events_of_line number walk.now told.now) ≡ not (is_some result) }
     ensures skipped { (number : ℕ) (lines : ℕ → List ℕ)
-        → all_skipped lines (events_told number walk.now told.now)
+        → all_skipped lines (events_of_line number walk.now told.now)
         ≡ skipped_for number (lines number) result }
 {
     match told {
-        LineTold::Answered { answer, .. } => why_unserved(answer),
-        LineTold::Nothing | LineTold::Began { .. } | LineTold::Faulted(_) => None,
+        LineEvent::Answered { answer, .. } => why_unserved(answer),
+        LineEvent::Nothing | LineEvent::Began { .. } | LineEvent::Faulted(_) => None,
     }
 }
 
@@ -163,7 +163,7 @@ impl<'a, C: Consumer, H: Hears> Consumer for Strict<'a, C, H> {
         line_number: u32,
         line: &[u8],
         walk: &Walk,
-        told: &LineTold,
+        told: &LineEvent,
     ) -> Result<(), Stop> {
         self.consumer.entry(writer, line_number, line, walk, told)?;
         if let Some(why) = why_of(walk, told) {
@@ -205,7 +205,7 @@ pub fn run_observed<W: Write, H: Hears, C: Consumer>(
         (λ stop. LeavesText C.piece (W.contents writer.old.inner) (W.contents writer.new.inner)
         script.now (Err stop)) }
     ensures heard { IfErr result
-        (λ stop. HearsFront (H.heard hearer.old) (H.heard hearer.new) script.now) }
+        (λ stop. ObservesFront (H.heard hearer.old) (H.heard hearer.new) script.now) }
     ensures ok { OnOk result (writer.new.failed ≡ writer.old.failed) }
     ensures write { IsErrOf result Stop.Write → writer.new.failed ≡ true }
 {
@@ -237,7 +237,7 @@ pub fn run_strictly<W: Write, H: Hears>(
         script.now) }
     // And what is heard of is each of the lines before that was not served.
     ensures heard { IfErr result
-        (λ stop. HearsFront (H.heard hearer.old) (H.heard hearer.new) script.now) }
+        (λ stop. ObservesFront (H.heard hearer.old) (H.heard hearer.new) script.now) }
     ensures ok { OnOk result (writer.new.failed ≡ writer.old.failed) }
     ensures write { IsErrOf result Stop.Write → writer.new.failed ≡ true }
 {

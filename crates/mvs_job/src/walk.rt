@@ -4,13 +4,13 @@ ghost use Rattle.std.specs.Prelude.{◌≡◌, ◌<◌, ◌+◌, ◌^◌, ◌∷
 ghost use Rattle.mvs_model.specs.declared.line.Line.TheVariants as line;
 ghost use Rattle.mvs_model.specs.Card.{IsCard};
 ghost use Rattle.mvs_model.specs.Job.{JobValue, job_at};
-ghost use Rattle.mvs_model.specs.Lent.{fallen_in, lent};
+ghost use Rattle.mvs_model.specs.FullAnswers.{ended_with_in, full_answer};
 ghost use Rattle.mvs_model.specs.Lines.{IsStatement};
 ghost use Rattle.mvs_model.specs.Memory.{StopsForMemory, TakesMemory};
 ghost use Rattle.mvs_model.specs.Runs.{Does, machine};
 ghost use Rattle.mvs_model.specs.Walk.{Closes, has_abended, is_first};
 ghost use Rattle.request_forms.specs.Taking.{Takes};
-ghost use Rattle.mvs_job.specs.Telling.{IsLent, IsLentBy, IsToldBy, KeepsReply, KeepsReplyOf, card_said, closing, end_told, ended, new_walk};
+ghost use Rattle.mvs_job.specs.LineEvents.{IsAvailable, IsAvailableIn, ServesAsUnder, KeepsReply, KeepsReplyOf, region_card, closing, end_of_step, ended, new_walk};
 ghost use Rattle.mvs_job.specs.Valued.{RequestsOf, WritesOf};
 ghost use Rattle.mvs_job.specs.Observing.{ObservesLine};
 
@@ -33,7 +33,7 @@ use thiserror::Error;
 
 /// The events of a line.
 #[derive(Clone, Copy, Debug, PartialEq, Eq)]
-pub enum LineTold {
+pub enum LineEvent {
     /// It is blank or a comment.
     Nothing,
     /// A REGION statement: the step that ran, if one did, has ended, and a task of it had abended or not; and another one has
@@ -77,7 +77,7 @@ pub struct Walk {
 }
 
 impl Model for Walk {
-    ghost use Rattle.mvs_job.specs.Telling.{WalkValue, walk_code};
+    ghost use Rattle.mvs_job.specs.LineEvents.{WalkValue, walk_code};
 
     ghost Value = { WalkValue };
 
@@ -89,7 +89,7 @@ impl Model for Walk {
 // The card of a REGION statement of a task; the other statements have none.
 fn card_of(task: &Name, statement: &Statement) -> Option<Card>
     requires { (first : Bool) × IsStatement first task.now statement.now }
-    ensures card { result ≡ card_said task.now statement.now }
+    ensures card { result ≡ region_card task.now statement.now }
     ensures in_range { IfSome result IsCard }
 {
     match statement {
@@ -108,7 +108,7 @@ fn card_of(task: &Name, statement: &Statement) -> Option<Card>
 
 // Whether a task of the step that runs has abended, if one runs.
 fn end_of(job: &Option<Job>) -> Option<bool>
-    ensures { result ≡ end_told job.now }
+    ensures { result ≡ end_of_step job.now }
 {
     job.as_ref().map(|job| job.step().abended())
 }
@@ -132,9 +132,9 @@ fn begin(
 ) -> Result<Option<bool>, Stopped>
     requires { IsCard card.now }
     ensures { MatchResult result
-        (λ ended. (ended ≡ end_told job.old)
+        (λ ended. (ended ≡ end_of_step job.old)
         × (job.new ≡ Some (job_at card.now (has_abended machine job.old))))
-        (λ stopped. stopped.ended ≡ end_told job.old) }
+        (λ stopped. stopped.ended ≡ end_of_step job.old) }
 {
     let ended = end_of(job);
     let former = has_abended(job);
@@ -180,7 +180,7 @@ impl Walk {
 
     /// The tasks that ended with the one that abended, where the last request that was made abended.
     pub fn fallen(&self) -> &[Name]
-        ensures { result.now ≡ fallen_in self.now.reply }
+        ensures { result.now ≡ ended_with_in self.now.reply }
     {
         match &self.reply {
             Reply::Abended(_, fallen) => fallen.names(),
@@ -222,14 +222,14 @@ impl Walk {
 
     /// Executes one line, which is given without its newline. Areas and cells are placed at the hinted addresses if the machine
     /// allows that.
-    pub fn line(&mut self, line: &[u8], told: &[Addr]) -> Result<LineTold, Stopped>
+    pub fn line(&mut self, line: &[u8], told: &[Addr]) -> Result<LineEvent, Stopped>
         requires { self.old.number + 1 < 2 ^ 32 }
-        ensures told { MatchResult result (λ answered. IsToldBy (Takes told.now) self.old line.now answered self.new)
+        ensures told { MatchResult result (λ answered. ServesAsUnder (Takes told.now) self.old line.now answered self.new)
             (λ stopped. StopsForMemory self.old.number self.old.step (line.now ∷ [])
             (ended stopped.ended)) }
         // Where the line makes a request, the reply that is kept is the one to that, and else the one before.
         ensures reply { IfOk result (λ answered. KeepsReplyOf self.old line.now answered self.new) }
-        ensures lent { IfOk result (IsLent self.new) }
+        ensures full_answer { IfOk result (IsAvailable self.new) }
         ensures number { self.new.number ≡ self.old.number + 1 }
     {
         self.observed_line(line, told, &mut Unobserved)
@@ -241,9 +241,9 @@ impl Walk {
         line: &[u8],
         told: &[Addr],
         observer: &mut O,
-    ) -> Result<LineTold, Stopped>
+    ) -> Result<LineEvent, Stopped>
         requires { self.old.number + 1 < 2 ^ 32 }
-        ensures told { MatchResult result (λ answered. IsToldBy (Takes told.now) self.old line.now answered self.new)
+        ensures told { MatchResult result (λ answered. ServesAsUnder (Takes told.now) self.old line.now answered self.new)
             (λ stopped. StopsForMemory self.old.number self.old.step (line.now ∷ [])
             (ended stopped.ended)) }
         ensures reply { IfOk result (λ answered. KeepsReplyOf self.old line.now answered self.new) }
@@ -252,20 +252,20 @@ impl Walk {
             observer.new) }
         // Where memory is exhausted, it hears nothing.
         ensures unheard { OnErr result (observer.new ≡ observer.old) }
-        ensures lent { IfOk result (IsLent self.new) }
+        ensures full_answer { IfOk result (IsAvailable self.new) }
         ensures number { self.new.number ≡ self.old.number + 1 }
     {
         self.number += 1;
         match read_line(line, self.job.is_none(), &mut self.read) {
             Ok(()) => {}
-            Err(fault) => return Ok(LineTold::Faulted(fault)),
+            Err(fault) => return Ok(LineEvent::Faulted(fault)),
         }
         let Line::Statement(task, statement) = &self.read else {
-            return Ok(LineTold::Nothing);
+            return Ok(LineEvent::Nothing);
         };
         if let Some(card) = card_of(task, statement) {
             return match begin(&mut self.job, self.alloc, self.placement, &card) {
-                Ok(ended) => Ok(LineTold::Began { ended, card }),
+                Ok(ended) => Ok(LineEvent::Began { ended, card }),
                 Err(stopped) => Err(stopped),
             };
         }
@@ -283,7 +283,7 @@ impl Walk {
         let Ok(answer) = served else {
             return Err(Stopped { ended: None });
         };
-        Ok(LineTold::Answered {
+        Ok(LineEvent::Answered {
             task: *task,
             answer,
         })

@@ -2,16 +2,16 @@
 
 ghost use Rattle.std.specs.Prelude.{◌≡◌, ℕ, None, Some};
 ghost use Rattle.job_script.specs.Writing.{Prints};
-ghost use Rattle.mvs_job.specs.Explaining.{said_of};
-ghost use Rattle.mvs_job.specs.Granting.{IsReadIn, before_line, granted_text, tells_grant};
-ghost use Rattle.mvs_job.specs.Telling.{IsLent, WalkValue, events_told};
+ghost use Rattle.mvs_job.specs.Explaining.{reason_part};
+ghost use Rattle.mvs_job.specs.Granting.{IsReadIn, before_line, granted_text, reports_grant};
+ghost use Rattle.mvs_job.specs.LineEvents.{IsAvailable, WalkValue, events_of_line};
 ghost use Rattle.mvs_job.specs.Why.{IsRequestOf, IsSurvey, KeepsWhy, line_reason, unset_of};
 
 use crate::ends::{OwnedSubpools, no_subpools, put_owned};
 use crate::granting::{Before, Facts, before_request, is_grant, no_facts, print_facts, put_facts};
 use crate::job::Job;
 use crate::observer::Observer;
-use crate::walk::{LineTold, Walk};
+use crate::walk::{LineEvent, Walk};
 use job_script::{print_reason, read_line};
 use mvs_model::answer::Answer;
 use mvs_model::line::{Line, Statement, Written};
@@ -41,13 +41,13 @@ fn before_line(job: &Job, read: &Line) -> Option<Before>
 }
 
 /// Returns whether the events of a line say that a request was granted.
-pub(crate) fn tells_grant(told: &LineTold) -> bool
-    ensures { (number : ℕ) (walk : WalkValue) → IsLent walk told.now
-        → result ≡ tells_grant (events_told number walk told.now) }
+pub(crate) fn reports_grant(told: &LineEvent) -> bool
+    ensures { (number : ℕ) (walk : WalkValue) → IsAvailable walk told.now
+        → result ≡ reports_grant (events_of_line number walk told.now) }
 {
     match told {
-        LineTold::Answered { answer, .. } => is_grant(answer),
-        LineTold::Nothing | LineTold::Began { .. } | LineTold::Faulted(_) => false,
+        LineEvent::Answered { answer, .. } => is_grant(answer),
+        LineEvent::Nothing | LineEvent::Began { .. } | LineEvent::Faulted(_) => false,
     }
 }
 
@@ -163,10 +163,10 @@ impl Why {
     }
 
     /// Returns why the line was not executed as it asks, by its events.
-    pub fn line_reason(&self, walk: &Walk, told: &LineTold) -> Option<LineReason>
+    pub fn line_reason(&self, walk: &Walk, told: &LineEvent) -> Option<LineReason>
         ensures { result ≡ line_reason walk.now.step self.now.read self.now.reason told.now }
     {
-        let LineTold::Answered { answer, .. } = told else {
+        let LineEvent::Answered { answer, .. } = told else {
             return None;
         };
         match answer {
@@ -198,7 +198,7 @@ impl Why {
         reason: &Option<LineReason>,
     ) -> Result<(), Failed>
         ensures { Prints W.contents writer.old writer.new result
-            (said_of self.now.read self.now.request reason.now) }
+            (reason_part self.now.read self.now.request reason.now) }
     {
         let Some(reason) = reason else {
             return Ok(());
@@ -214,15 +214,15 @@ impl Why {
         &mut self,
         writer: &mut Watched<W>,
         walk: &Walk,
-        told: &LineTold,
+        told: &LineEvent,
     ) -> Result<(), Failed>
-        requires { IsLent walk.now told.now }
+        requires { IsAvailable walk.now told.now }
         ensures { (number : ℕ)
             → Prints W.contents writer.old writer.new result
-            (granted_text self.old.before self.old.read (events_told number walk.now told.now)
+            (granted_text self.old.before self.old.read (events_of_line number walk.now told.now)
             walk.now.step) }
     {
-        if !tells_grant(told) {
+        if !reports_grant(told) {
             return Ok(());
         }
         let Some(before) = &self.before else {

@@ -18,8 +18,8 @@ use Rattle.mvs_model.specs.Answers as tells
 use Rattle.mvs_model.specs.Answers.{Answer, Event}
 use Rattle.mvs_model.specs.Job.{JobValue, job_at}
 use Rattle.mvs_model.specs.Walk.{Serves, Walks, JobEnds}
-use Rattle.mvs_model.specs.Runs.{Condition, Tells, Asks, Says, Does, Any, machine_where, machine}
-use Rattle.mvs_model.specs.Determined.{picked, Entered, Picks, HasPlaces, PlacesDetermine, Needs, Obeys, ToldDecide}
+use Rattle.mvs_model.specs.Runs.{Condition, OnlyAnswers, Asks, AnswersTo, Does, Any, machine_where, machine}
+use Rattle.mvs_model.specs.Determined.{picked, Entered, Picks, HasPlaces, PlacesDetermine, Needs, Obeys, HintsDecide}
 use Rattle.mvs_model.proofs.OneSteps.{by_two, one_step}
 use Rattle.mvs_laws.proofs.Walking.{served_first, served_in, steps_serve}
 use Rattle.mvs_laws.proofs.OneWalk as walk
@@ -40,7 +40,7 @@ module _ (P Q : Entered) (decide : Decide P Q) (entries : ℕ → List ℕ) (num
       let former : a.former ≡ b.former = x.former ∙ sym y.former in
       (x.told ∙ ap (answer_of old.state k r) s.0 ∙ sym y.told, λ i. record { state = s.1 i; names = names i; abended = abended i; former = former i })
 
-  says_one : (s : Statement) → Says (P (entries number)) old t s answer a → Says (Q (entries number)) old t s other b → (answer ≡ other) × (a ≡ b)
+  says_one : (s : Statement) → AnswersTo (P (entries number)) old t s answer a → AnswersTo (Q (entries number)) old t s other b → (answer ≡ other) × (a ≡ b)
   says_one (says.Region below above fill residence) x y = absurd x
   says_one (says.Request k) x y = asks_one k (resolved old.names k) x y
   says_one (says.Where name) x y = (x.0 ∙ sym y.0, x.1 ∙ sym y.1)
@@ -65,8 +65,8 @@ needs_decide : Decide Needs Obeys
 needs_decide [] old t r one other a b x y p q = one_step old t r one other a b x y (p.0 ∙ sym (p.1 refl other b y))
 needs_decide (k ∷ ks) old t r one other a b x y p q = one_step old t r one other a b x y (p.0 ∙ sym (q (λ e. cc) one a x p.0))
 
-pub told_decide : ToldDecide
-told_decide entries script one other o p x y = runs_one Needs Obeys needs_decide entries script one other o p x y
+pub hints_decide : HintsDecide
+hints_decide entries script one other o p x y = runs_one Needs Obeys needs_decide entries script one other o p x y
 
 abbrev pub Meets : Condition → Condition → Type 0
 Meets C D = (old : State) (t : Name) (r : Request) (reply : Reply) (new : State) → C old t r reply new → D old t r reply new
@@ -77,7 +77,7 @@ module _ (C D : Condition) (meets : Meets C D) where
   asks_other old t k None answer new x = x
   asks_other old t k (Some r) answer new x = record { reply = x.reply; step = x.step; meets = meets old.state t r x.reply new.state x.meets; names = x.names; abended = x.abended; former = x.former; told = x.told }
 
-  says_other : (old : JobValue) (t : Name) (s : Statement) (answer : Answer) (new : JobValue) → Says C old t s answer new → Says D old t s answer new
+  says_other : (old : JobValue) (t : Name) (s : Statement) (answer : Answer) (new : JobValue) → AnswersTo C old t s answer new → AnswersTo D old t s answer new
   says_other old t (says.Region below above fill residence) answer new x = absurd x
   says_other old t (says.Request k) answer new x = asks_other old t k (resolved old.names k) answer new x
   says_other old t (says.Where name) answer new x = x
@@ -86,7 +86,7 @@ module _ (C D : Condition) (meets : Meets C D) where
 
   does_other : (old : JobValue) (t : Name) (s : Statement) (answer : Answer) (new : JobValue) → Does C old t s answer new → Does D old t s answer new
   does_other old t s answer new x = by (not (is_active old.state.owners t)) x where
-    by : (b : Bool) → MatchBool b (Tells old tells.NotRun answer new) (Says C old t s answer new) → MatchBool b (Tells old tells.NotRun answer new) (Says D old t s answer new)
+    by : (b : Bool) → MatchBool b (OnlyAnswers old tells.NotRun answer new) (AnswersTo C old t s answer new) → MatchBool b (OnlyAnswers old tells.NotRun answer new) (AnswersTo D old t s answer new)
     by true x = x
     by false x = says_other old t s answer new x
 
@@ -114,7 +114,7 @@ asks_at : (old : JobValue) (t : Name) (k : Written) (r : Option Request) (answer
 asks_at old t k None answer new x = ([], x)
 asks_at old t k (Some r) answer new x = (picked r x.reply new.state, record { reply = x.reply; step = x.step; meets = refl; names = x.names; abended = x.abended; former = x.former; told = x.told })
 
-says_at : (old : JobValue) (t : Name) (s : Statement) (answer : Answer) (new : JobValue) → Says Any old t s answer new → (at : List ℕ) × Says (Picks at) old t s answer new
+says_at : (old : JobValue) (t : Name) (s : Statement) (answer : Answer) (new : JobValue) → AnswersTo Any old t s answer new → (at : List ℕ) × AnswersTo (Picks at) old t s answer new
 says_at old t (says.Region below above fill residence) answer new x = absurd x
 says_at old t (says.Request k) answer new x = asks_at old t k (resolved old.names k) answer new x
 says_at old t (says.Where name) answer new x = ([], x)
@@ -123,7 +123,7 @@ says_at old t says.ReportMap answer new x = ([], x)
 
 does_at : (old : JobValue) (t : Name) (s : Statement) (answer : Answer) (new : JobValue) → Does Any old t s answer new → (at : List ℕ) × Does (Picks at) old t s answer new
 does_at old t s answer new x = by (not (is_active old.state.owners t)) x where
-  by : (b : Bool) → MatchBool b (Tells old tells.NotRun answer new) (Says Any old t s answer new) → (at : List ℕ) × MatchBool b (Tells old tells.NotRun answer new) (Says (Picks at) old t s answer new)
+  by : (b : Bool) → MatchBool b (OnlyAnswers old tells.NotRun answer new) (AnswersTo Any old t s answer new) → (at : List ℕ) × MatchBool b (OnlyAnswers old tells.NotRun answer new) (AnswersTo (Picks at) old t s answer new)
   by true x = ([], x)
   by false x = says_at old t s answer new x
 

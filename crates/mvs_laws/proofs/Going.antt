@@ -23,10 +23,10 @@ use Rattle.mvs_model.specs.ReadingLaws.{Reading, Said, Wrong}
 use Rattle.mvs_model.specs.Replies.{is_abend}
 use Rattle.mvs_model.specs.Resolving.{resolved, all_set, names_set, places_in}
 use Rattle.mvs_model.specs.Walk.{is_first, ending, Serves, ServesLine, Closes, Walks, JobEnds, Leads}
-use Rattle.mvs_model.specs.Runs.{Condition, Tells, Asks, Says, Does, Any, job_machine, machine, IsRunning}
+use Rattle.mvs_model.specs.Runs.{Condition, OnlyAnswers, Asks, AnswersTo, Does, Any, job_machine, machine, IsRunning}
 use Rattle.mvs_model.specs.Memory.{TakesMemory, StopsForMemory}
 use Rattle.mvs_laws.specs.Going.{Holds, Sized, Reaches}
-use Rattle.mvs_laws.specs.Laws.{PagesKept, NeverStuck, EachIsPrinted}
+use Rattle.mvs_laws.specs.Laws.{PagesHaveOneSubpool, NeverStuck, EachIsPrinted}
 use Rattle.mvs_laws.proofs.Requested.{is_request}
 use Rattle.mvs_laws.proofs.Kept.{Closed, plan_in_range, step_keeps}
 use Rattle.mvs_laws.proofs.Pages.{Pages, pages_closed}
@@ -42,7 +42,7 @@ module _ (P : State → Type 0) (closed : Closed P) (at_start : (card : CardValu
   asks_keeps old t a None answer new h1 h2 h3 = subst (λ job. P job.state) (sym h2.1) h3
   asks_keeps old t a (Some r) answer new h1 h2 h3 = step_keeps P closed old.state t r h2.reply new.state (plan_in_range r (h1 r refl)) h2.step h3
 
-  says_keeps : (old : JobValue) (t : Name) (s : Statement) (answer : Answer) (new : JobValue) → IsStatement false t s → Says C old t s answer new → P old.state → P new.state
+  says_keeps : (old : JobValue) (t : Name) (s : Statement) (answer : Answer) (new : JobValue) → IsStatement false t s → AnswersTo C old t s answer new → P old.state → P new.state
   says_keeps old t s answer new h1 h2 h3 = grind (arith, nat_tests, asks_keeps, is_request)
 
   does_keeps : (old : JobValue) (t : Name) (s : Statement) (answer : Answer) (new : JobValue) → IsStatement false t s → Does C old t s answer new → P old.state → P new.state
@@ -82,7 +82,7 @@ pub start_sized : (card : CardValue) → PoolsSized (start card)
 start_sized card name pool e = none_some (sym (no_pools name) ∙ e)
 
 -- In every state of a run each page is of one subpool.
-pub pages_kept : PagesKept
+pub pages_kept : PagesHaveOneSubpool
 pages_kept = running_keeps Pages pages_closed (λ card is. start_pages card)
 
 leads_sized : (number : ℕ) (lines : List (List ℕ)) (old : Option JobValue) (events : List Event) (new : Option JobValue) → Leads machine number old lines events new → Sized old → Sized new
@@ -105,7 +105,7 @@ asks_some old t a (Some q) r all =
       record { reply = s.0; step = s.1.1; meets = tt; names = refl; abended = refl; former = refl; told = refl },
     )
 
-says_some : (old : JobValue) (t : Name) (s : Statement) → IsOfStep s → IsStatement false t s → PoolsSized old.state → (answer : Answer) × (new : JobValue) × Says Any old t s answer new
+says_some : (old : JobValue) (t : Name) (s : Statement) → IsOfStep s → IsStatement false t s → PoolsSized old.state → (answer : Answer) × (new : JobValue) × AnswersTo Any old t s answer new
 says_some old t (says.Region below above fill residence) i r all = absurd i
 says_some old t (says.Request a) i r all = asks_some old t a (resolved old.names a) (λ q e. is_request old.names a q r.1 e) all
 says_some old t (says.Where name) i r all = (_, old, (refl, refl))
@@ -118,7 +118,7 @@ either_some false p q = q
 
 pub does_some : (old : JobValue) (t : Name) (s : Statement) → IsOfStep s → IsStatement false t s → PoolsSized old.state → (answer : Answer) × (new : JobValue) × Does Any old t s answer new
 does_some old t s i r all =
-    either_some {P = Tells old NotRun} {Q = Says Any old t s} (not (is_active old.state.owners t)) (_, old, (refl, refl)) (says_some old t s i r all)
+    either_some {P = OnlyAnswers old NotRun} {Q = AnswersTo Any old t s} (not (is_active old.state.owners t)) (_, old, (refl, refl)) (says_some old t s i r all)
 
 step_served : (number : ℕ) (job : JobValue) (t : Name) (s : Statement) → IsOfStep s → IsStatement false t s → PoolsSized job.state → (events : List Event) × (new : Option JobValue) × Serves machine number (Some job) (line.Statement t s) events new
 step_served number job t s i r all =

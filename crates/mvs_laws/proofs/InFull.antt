@@ -31,7 +31,7 @@ use Rattle.mvs_model.specs.Lines.{card_of, IsWritten}
 use Rattle.mvs_model.specs.Resolving.{resolved, all_set, names_set, places_in}
 use Rattle.mvs_model.specs.Replies.{is_abend}
 use Rattle.mvs_model.specs.Walk.{Closes, ServesLine, Walks, JobEnds}
-use Rattle.mvs_model.specs.Runs.{Makes, Tells, Asks, Says, Does, job_machine}
+use Rattle.mvs_model.specs.Runs.{Makes, OnlyAnswers, Asks, AnswersTo, Does, job_machine}
 use Rattle.mvs_laws.specs.Tidy.{IsInFull, InFull}
 use Rattle.mvs_laws.specs.TidyExamples.{ReadsAs, area_x, fixed, job, moves, one_page, MovesInFull}
 use Rattle.mvs_laws.proofs.Going.{line_keeps, start_sized}
@@ -92,7 +92,7 @@ does_full old t a h r sized = at (not (is_active old.state.owners t)) where
   asked : (answer : Answer) × (new : JobValue) × Asks InFull old t a (resolved old.names a) answer new
   asked = asks_full old t a (resolved old.names a) h (λ q e. (touch old.names a q h e, is_request old.names a q r e)) sized
 
-  at : (b : Bool) → (answer : Answer) × (new : JobValue) × MatchBool b (Tells old tells.NotRun answer new) (Asks InFull old t a (resolved old.names a) answer new)
+  at : (b : Bool) → (answer : Answer) × (new : JobValue) × MatchBool b (OnlyAnswers old tells.NotRun answer new) (Asks InFull old t a (resolved old.names a) answer new)
   at true = (_, old, (refl, refl))
   at false = asked
 
@@ -176,7 +176,7 @@ obtain_does = at (is_active at_start.state.owners job) job_active where
         record { reply = s.0; step = s.1.1; meets = obtain_full s.0 g.0 g.1 g.2; names = refl; abended = refl; former = refl; told = refl },
       )
 
-  at : (b : Bool) → b ≡ true → (answer : Answer) × (new : JobValue) × MatchBool (not b) (Tells at_start tells.NotRun answer new) (Says InFull at_start job (says.Request obtain_x) answer new)
+  at : (b : Bool) → b ≡ true → (answer : Answer) × (new : JobValue) × MatchBool (not b) (OnlyAnswers at_start tells.NotRun answer new) (AnswersTo InFull at_start job (says.Request obtain_x) answer new)
   at true e = made
   at false e = false_true e
 

@@ -31,11 +31,11 @@ use Rattle.mvs_model.specs.Requests.{is_invalid, on_doubleword}
 use Rattle.mvs_model.specs.Answers.{Answer, NoName, Rc0, Rc4, Attached, Ended, Done, Data}
 use Rattle.mvs_model.specs.Replies.{grant_answer}
 use Rattle.mvs_laws.specs.Labels as now
-use Rattle.mvs_laws.specs.Labels.{Labels, Spot, Tells, Abends, Leaves, GrantsEach, all_named, without, rounded, some_meet, is_held, has_offset, is_there, spot_of, spots_of, area_of, with_bytes, bytes_in}
+use Rattle.mvs_laws.specs.Labels.{Labels, Spot, AnswersWith, Abends, Leaves, GrantsEach, all_named, without, rounded, some_meet, is_held, has_offset, is_there, spot_of, spots_of, area_of, with_bytes, bytes_in}
 
 -- A conditional request is answered 4, and an unconditional one abends.
 abbrev pub Fails : Bool → Labels → Name → Code → Answer → Labels → Type 0
-Fails true old t code answer new = Tells Rc4 old answer new
+Fails true old t code answer new = AnswersWith Rc4 old answer new
 Fails false old t code answer new = Abends old t code answer new
 
 -- An invalid subpool number abends; else all is granted, and the names are set.
@@ -44,7 +44,7 @@ Obtains old t form n lengths areas told answer new =
     MatchBool (is_invalid n)
     (Abends old t (bad_subpool (family form) true) answer new)
     ((mid : Labels) × GrantsEach old (keeper old.owners t n) n lengths mid
-    × Tells told (record mid { names = all_named mid.names areas lengths old.count }) answer new)
+    × AnswersWith told (record mid { names = all_named mid.names areas lengths old.count }) answer new)
 
 -- whether the places may be released from what the task has under a number
 abbrev pub may_free : Labels → Option ℕ → List Spot → Bool
@@ -60,7 +60,7 @@ Releases old t form n qs answer new =
     (Abends old t (bad_address (family form)) answer new)
     (MatchBool (not (may_free old (subpool_meant old.owners t n) (map rounded qs)))
     (Fails (is_conditional form) old t (not_held (family form)) answer new)
-    (Tells Rc0 (without old (λ l i. list_any (λ q. has_offset q l i) (map rounded qs))) answer new)))
+    (AnswersWith Rc0 (without old (λ l i. list_any (λ q. has_offset q l i) (map rounded qs))) answer new)))
 
 -- All of a subpool is gone; subpool 0 may not be released so.
 abbrev pub Empties : Labels → Name → Form → ℕ → Answer → Labels → Type 0
@@ -69,19 +69,19 @@ Empties old t form n answer new =
     (Abends old t (bad_subpool (family form) false) answer new)
     (MatchBool (n == 0)
     (Abends old t whole_of_zero answer new)
-    (Tells Rc0 (without old (λ l i. has (λ s. old.subpool l == s) (subpool_meant old.owners t n))) answer new))
+    (AnswersWith Rc0 (without old (λ l i. has (λ s. old.subpool l == s) (subpool_meant old.owners t n))) answer new))
 
 -- what becomes of ATTACH, by the code that refuses it
 abbrev pub Attaches : Labels → Name → Name → GiftsValue → Residence → Option Code → Answer → Labels → Type 0
 Attaches old t name gifts residence (Some code) answer new = Abends old t code answer new
-Attaches old t name gifts residence None answer new = (o : Owners) × Attach old.owners t name gifts residence o × Tells Attached (record old { owners = o }) answer new
+Attaches old t name gifts residence None answer new = (o : Owners) × Attach old.owners t name gifts residence o × AnswersWith Attached (record old { owners = o }) answer new
 
 -- A return ends the task; with an active subtask it abends.
 abbrev pub Returns : Labels → Name → Answer → Labels → Type 0
 Returns old t answer new =
     MatchBool (has_subtask old.owners t)
     (Abends old t active_subtask answer new)
-    ((fallen : List Name) × (mid : Labels) × Leaves old t fallen mid × Tells Ended mid answer new)
+    ((fallen : List Name) × (mid : Labels) × Leaves old t fallen mid × AnswersWith Ended mid answer new)
 
 -- An access abends where an offset is gone or outside of its area.
 abbrev pub Accesses : Labels → Name → Bool → Type 0 → Answer → Labels → Type 0
@@ -93,11 +93,11 @@ Asks old t (written.Obtain form n ask variable area) answer new =
     Obtains old t form n (ask.most ∷ []) (area ∷ []) (grant_answer (written.Obtain form n ask variable area) (place_at 0 (round8 ask.most))) answer new
 Asks old t (written.ObtainList form n lengths start areas) answer new = Obtains old t form n lengths areas Rc0 answer new
 Asks old t (written.Release form n location len) answer new =
-    MatchOption (spots_of old (location ∷ []) (len ∷ [])) (Tells NoName old answer new) (λ qs. Releases old t form n qs answer new)
+    MatchOption (spots_of old (location ∷ []) (len ∷ [])) (AnswersWith NoName old answer new) (λ qs. Releases old t form n qs answer new)
 Asks old t (written.ReleaseArea form n area) answer new =
-    MatchOption (area_of old area) (Tells NoName old answer new) (λ q. Releases old t form n (q ∷ []) answer new)
+    MatchOption (area_of old area) (AnswersWith NoName old answer new) (λ q. Releases old t form n (q ∷ []) answer new)
 Asks old t (written.ReleaseList form n locations lengths) answer new =
-    MatchOption (spots_of old locations lengths) (Tells NoName old answer new) (λ qs. Releases old t form n qs answer new)
+    MatchOption (spots_of old locations lengths) (AnswersWith NoName old answer new) (λ qs. Releases old t form n qs answer new)
 Asks old t (written.ReleaseWhole form n) answer new = Empties old t form n answer new
 Asks old t (written.Build pool n size primary secondary loc) answer new = ⊥
 Asks old t (written.Get pool conditional cell) answer new = ⊥
@@ -107,15 +107,15 @@ Asks old t (written.Attach name gifts residence) answer new = Attaches old t nam
 Asks old t written.Return answer new = Returns old t answer new
 Asks old t (written.Abend n) answer new = Abends old t (User n) answer new
 Asks old t (written.Show location n) answer new =
-    MatchOption (spot_of old location n) (Tells NoName old answer new)
-    (λ q. Accesses old t (is_there old q) (Tells (Data (bytes_in old q.label q.place.addr n)) old answer new) answer new)
+    MatchOption (spot_of old location n) (AnswersWith NoName old answer new)
+    (λ q. Accesses old t (is_there old q) (AnswersWith (Data (bytes_in old q.label q.place.addr n)) old answer new) answer new)
 Asks old t (written.Put location bytes) answer new =
-    MatchOption (spot_of old location (length bytes)) (Tells NoName old answer new)
-    (λ q. Accesses old t (is_there old q) (Tells Done (with_bytes old q (slice_get bytes)) answer new) answer new)
+    MatchOption (spot_of old location (length bytes)) (AnswersWith NoName old answer new)
+    (λ q. Accesses old t (is_there old q) (AnswersWith Done (with_bytes old q (slice_get bytes)) answer new) answer new)
 Asks old t (written.Move to from n) answer new =
-    MatchOption (spot_of old to n) (Tells NoName old answer new)
-    (λ q. MatchOption (spot_of old from n) (Tells NoName old answer new)
-    (λ r. Accesses old t (is_there old q && is_there old r) (Tells Done (with_bytes old q (λ i. old.byte r.label (r.place.addr + i))) answer new) answer new))
+    MatchOption (spot_of old to n) (AnswersWith NoName old answer new)
+    (λ q. MatchOption (spot_of old from n) (AnswersWith NoName old answer new)
+    (λ r. Accesses old t (is_there old q && is_there old r) (AnswersWith Done (with_bytes old q (λ i. old.byte r.label (r.place.addr + i))) answer new) answer new))
 
 -- ---- both ways
 

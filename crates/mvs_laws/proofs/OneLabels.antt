@@ -17,7 +17,7 @@ use Rattle.mvs_model.specs.Texts.{printing}
 use Rattle.mvs_model.specs.Lines.{lines_of}
 use Rattle.mvs_model.specs.Walk.{ServesLine}
 use Rattle.mvs_laws.specs.Labels as labels
-use Rattle.mvs_laws.specs.Labels.{Labels, first_labels, Spot, rounded, is_there, without, all_named, spot_of, spots_of, area_of, Leaves, Tells, Abends, Grants, GrantsEach, Says, Does, label_machine}
+use Rattle.mvs_laws.specs.Labels.{Labels, first_labels, Spot, rounded, is_there, without, all_named, spot_of, spots_of, area_of, Leaves, AnswersWith, Abends, Grants, GrantsEach, AnswersTo, Does, label_machine}
 use Rattle.mvs_laws.proofs.LabelCases.{ask_cases, may_free, Fails, Obtains, Releases, Empties, Attaches, Returns, Asks}
 use Rattle.mvs_laws.specs.Tidy.{OneLabelRun, PlacesDoNotMatter, PlacesAreNotPrinted}
 use Rattle.mvs_laws.proofs.TidySteps.{tidy_run}
@@ -44,10 +44,10 @@ module _ (old : Labels) (t : Name) (answer other : Answer) (a b : Labels) where
   abbrev pub One : Type 0
   One = (answer ≡ other) × (a ≡ b)
 
-  tells_one : (told : Answer) (after : Labels) → Tells told after answer a → Tells told after other b → One
+  tells_one : (told : Answer) (after : Labels) → AnswersWith told after answer a → AnswersWith told after other b → One
   tells_one told after x y = (x.0 ∙ sym y.0, x.1 ∙ sym y.1)
 
-  tells_two : (told : Answer) (after later : Labels) → after ≡ later → Tells told after answer a → Tells told later other b → One
+  tells_two : (told : Answer) (after later : Labels) → after ≡ later → AnswersWith told after answer a → AnswersWith told later other b → One
   tells_two told after later e x y = (x.0 ∙ sym y.0, x.1 ∙ e ∙ sym y.1)
 
   abends_one : (code : Code) → Abends old t code answer a → Abends old t code other b → One
@@ -85,7 +85,7 @@ module _ (old : Labels) (t : Name) (answer other : Answer) (a b : Labels) where
   returns_one x y = by_two (has_subtask old.owners t) x y (λ p q. abends_one (System 0xA03) p q) (λ p q. tells_two tells.Ended _ _ (leaves_one old t p.0 q.0 p.1 q.1 p.2 q.2).1 p.3 q.3)
 
   -- what names no label says so, and the rest has one result
-  set_one : {X : Type 0} (v : Option X) (P Q : X → Type 0) → ((x : X) → P x → Q x → One) → MatchOption v (Tells tells.NoName old answer a) P → MatchOption v (Tells tells.NoName old other b) Q → One
+  set_one : {X : Type 0} (v : Option X) (P Q : X → Type 0) → ((x : X) → P x → Q x → One) → MatchOption v (AnswersWith tells.NoName old answer a) P → MatchOption v (AnswersWith tells.NoName old other b) Q → One
   set_one v P Q h1 h2 h3 = grind (arith, nat_tests, tells_one)
 
   cases_one : (k : Written) → Asks old t k answer a → Asks old t k other b → One
@@ -109,7 +109,7 @@ module _ (old : Labels) (t : Name) (answer other : Answer) (a b : Labels) where
   asks_one : (k : Written) → labels.Asks old t k answer a → labels.Asks old t k other b → One
   asks_one k x y = cases_one k (ask_cases old a t answer k x) (ask_cases old b t other k y)
 
-  says_one : (s : Statement) → Says old t s answer a → Says old t s other b → One
+  says_one : (s : Statement) → AnswersTo old t s answer a → AnswersTo old t s other b → One
   says_one s h1 h2 = grind (arith, nat_tests, set_one, asks_one)
 
   does_one : (s : Statement) → Does old t s answer a → Does old t s other b → One

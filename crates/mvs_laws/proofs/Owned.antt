@@ -27,7 +27,7 @@ use Rattle.mvs_model.specs.Start.{start}
 use Rattle.mvs_model.specs.State.{State, Holding, plain}
 use Rattle.mvs_model.specs.Subpool.{is_subpool_number}
 use Rattle.mvs_model.specs.WellFormed.{HasOwners, Owned}
-use Rattle.mvs_laws.specs.Laws.{KeptWellFormed}
+use Rattle.mvs_laws.specs.Laws.{StaysWellFormed}
 use Rattle.mvs_laws.proofs.Going.{pages_kept, running_keeps, start_sized}
 use Rattle.mvs_laws.proofs.Kept.{Closed, IsAsker, enters_tasks}
 use Rattle.mvs_model.proofs.Orders.{same_name_is, same_name_self}
@@ -289,7 +289,7 @@ start_owned card = record {
   no_entry t n s e = let f : None ≡ Some s = sym (get-empty entry_cmp (t, n)) ∙ e in absurd (cc)
 
 -- In every state of a run all of it holds.
-pub well_formed : KeptWellFormed
+pub well_formed : StaysWellFormed
 well_formed job is =
     let apart = running_keeps StaysApart apart_closed (λ card is. (start_apart card, start_sized card)) job is in
     record {

@@ -16,7 +16,7 @@ use Rattle.mvs_model.specs.Determined.{is_list}
 use Rattle.mvs_model.proofs.Tests.{true_false, false_true}
 use Rattle.mvs_model.specs.Causes.{Cause, ◌when◌, ◌whenever◌, ◌unless◌, Refused, Passed, IsRefused, cell_causes, free_causes, causes_of, causes}
 use Rattle.mvs_model.specs.Consequences.{reply_to, Settles}
-use Rattle.mvs_laws.specs.Refusals.{EachOneRefusal, ReasonsTell, RefusalsTell, AttemptsAreSteps}
+use Rattle.mvs_laws.specs.Refusals.{EachOneRefusal, ReasonsDecideReplies, RefusalsDecideReplies, AttemptsAreSteps}
 
 -- A cause that refuses in one way, and then lets nothing pass.
 record Decides (cause : Cause) : Type 0 where
@@ -79,8 +79,8 @@ one_refusal st t request other =
     let d : AllDecide (causes st t request) = (when_decides _ _, each_decides st t request other) in
     record { one = one_of (causes st t request) d; not_done = not_both (causes st t request) d }
 
-pub refusals_tell : RefusalsTell
-refusals_tell = record {
+pub refusals_decide_replies : RefusalsDecideReplies
+refusals_decide_replies = record {
   refused = λ old new t request reply refusal other h step. elim step [
     | inl s ↦ subst (λ x. Settles old t (reply_to request x) reply new) ((one_refusal old t request other).one s.0 refusal s.1 h) s.2
     | inr d ↦ absurd ((one_refusal old t request other).not_done refusal h d.0)
@@ -119,10 +119,10 @@ told_refused old new t request reply x other h step = at (is_list request) refl 
 
   at : (b : Bool) → is_list request ≡ b → Settles old t (reply_to request x) reply new
   at true e = list_tells request e h step
-  at false e = refusals_tell.refused old new t request reply x e h step
+  at false e = refusals_decide_replies.refused old new t request reply x e h step
 
-pub reasons_tell : ReasonsTell
-reasons_tell old new t request reply reason other is step = told_refused old new t request reply (refusal_of request reason) other is.0 step
+pub reasons_decide_replies : ReasonsDecideReplies
+reasons_decide_replies old new t request reply reason other is step = told_refused old new t request reply (refusal_of request reason) other is.0 step
 
 pub attempts_are_steps : AttemptsAreSteps
 attempts_are_steps = record {

@@ -15,7 +15,7 @@ use Rattle.mvs_model.specs.Finite.{has, kept}
 use Rattle.mvs_model.specs.Place.{PlaceValue, place_at}
 use Rattle.mvs_model.specs.Want.{WantValue, want_of, fixed_want, side_of}
 use Rattle.mvs_model.specs.Storage.{Chosen, Covers, has_address}
-use Rattle.mvs_model.specs.Owners.{Task, is_active, keeper, subpool_meant, goes, ends_with, has_subtask}
+use Rattle.mvs_model.specs.Owners.{Task, is_active, keeper, subpool_meant, is_among_ended, ends_with, has_subtask}
 use Rattle.mvs_model.proofs.ByCase.{attach_refusal}
 use Rattle.mvs_model.specs.Pools.{Pool, Part, IsCell, IsCellOf, cell_at, in_taken, part_length}
 use Rattle.mvs_model.specs.State.{State, Holding, pooled, holder, is_plain, in_cell, granted, subpool_in}
@@ -29,7 +29,7 @@ use Rattle.mvs_model.specs.Reading.{LineOf}
 use Rattle.mvs_model.specs.Resolving.{resolved}
 use Rattle.mvs_model.specs.Answers.{Answer, Event}
 use Rattle.mvs_model.specs.Walk.{Serves}
-use Rattle.mvs_model.specs.Runs.{Asks, Says, Does, Any, machine}
+use Rattle.mvs_model.specs.Runs.{Asks, AnswersTo, Does, Any, machine}
 use Rattle.mvs_laws.specs.Sparing.{Spares, OwnerStays, StatementSpares, LineSpares, RunsSparing, BytesStay}
 use Rattle.mvs_laws.proofs.Going.{line_keeps, running_keeps, start_sized}
 use Rattle.mvs_laws.proofs.Walking.{served_in}
@@ -95,15 +95,15 @@ module _ (old : State) (apart : Apart old) (a b : ℕ) (is : get old.bytes a ≡
   -- a task ends that does not own what holds it
   end_spares : (t : Name) (new : State) → End old t new → OwnerStays old a new → get new.bytes a ≡ Some b
   end_spares t new e stays = drops_spare (ends_with old.owners t e.fallen) new e.drops (λ s h. at s h (get old.owners.owner s) refl) where
-    inactive : (u : Name) → goes t e.fallen u ≡ true → is_active new.owners u ≡ false
+    inactive : (u : Name) → is_among_ended t e.fallen u ≡ true → is_active new.owners u ≡ false
     inactive u f = ap is_some (e.owners.tasks u) ∙ gone (get old.owners.tasks u) where
-      gone : (o : Option Task) → is_some (kept (λ _. not (goes t e.fallen u)) o) ≡ false
+      gone : (o : Option Task) → is_some (kept (λ _. not (is_among_ended t e.fallen u)) o) ≡ false
       gone None = refl
       gone (Some x) = ap (λ c. is_some (cond (not c) (Some x) None)) f
 
-    at : (s : ℕ) → holder old (a / 8) ≡ Some s → (o : Option Name) → get old.owners.owner s ≡ o → has (goes t e.fallen) o ≡ false
+    at : (s : ℕ) → holder old (a / 8) ≡ Some s → (o : Option Name) → get old.owners.owner s ≡ o → has (is_among_ended t e.fallen) o ≡ false
     at s h None f = refl
-    at s h (Some u) f = false_from_ne_true (goes t e.fallen u) (λ g. let k : true ≡ false = sym (stays s u h f) ∙ inactive u g in absurd (cc))
+    at s h (Some u) f = false_from_ne_true (is_among_ended t e.fallen u) (λ g. let k : true ≡ false = sym (stays s u h f) ∙ inactive u g in absurd (cc))
 
   -- a cell is taken that was free
   out_of_part : (pool : Pool) (part : Part) (c : ℕ) → part.place.len ≡ part_length pool.cell_size part.count → IsCellOf pool.cell_size part c → has_address (cell_at pool c) a ≡ true → Covers part.place (a / 8)
@@ -260,7 +260,7 @@ module _ (a b : ℕ) where
         unchanged : new ≡ old → get new.state.bytes a ≡ Some b
         unchanged e = ap (λ job. get job.state.bytes a) e ∙ is
 
-        at : (s : Statement) → StatementSpares a old t s new → is_active old.state.owners t ≡ true → Says Any old t s answer new → get new.state.bytes a ≡ Some b
+        at : (s : Statement) → StatementSpares a old t s new → is_active old.state.owners t ≡ true → AnswersTo Any old t s answer new → get new.state.bytes a ≡ Some b
         at (says.Region below above fill residence) out active said = absurd said
         at (says.Request w) out active said = asks_spare old t w (resolved old.names w) answer new apart is active (out active) said
         at (says.Where name) out active said = unchanged said.1

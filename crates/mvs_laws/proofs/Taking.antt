@@ -20,7 +20,7 @@ use Rattle.mvs_model.proofs.ByCase.{ListShort}
 use Rattle.mvs_model.specs.Steps.{Step}
 use Rattle.mvs_model.proofs.ByCase.{Fails}
 use Rattle.mvs_model.specs.Requests.{side_for, is_invalid}
-use Rattle.mvs_model.specs.Determined.{granted_at, Obeys, TakesTold, ListTakesTold, ListStops, TakingObeys}
+use Rattle.mvs_model.specs.Determined.{granted_at, Obeys, FollowsHint, ListFollowsHints, ListStops, TakingObeys}
 use Rattle.mvs_model.proofs.OneSteps.{by_two, one_grant, none_granted, head_of, tail_of}
 use Rattle.mvs_model.proofs.StepCases.{no_grant, step_cases}
 
@@ -41,7 +41,7 @@ granting old t form number ask told reply new some step e =
       at (inr y) = (y.0, new, y.2, sym (ap granted_at y.1) ∙ e)
 
 area : (old : State) (t : Name) (form : Form) (number : ℕ) (ask : AskValue) (a : ℕ) (p : PlaceValue) (new : State)
-    → TakesTold old (keeper old.owners t number) number (want_of ask (side_for old t form ask.loc)) a p → Obeys (a ∷ []) old t (Obtain form number ask) (Obtained p) new
+    → FollowsHint old (keeper old.owners t number) number (want_of ask (side_for old t form ask.loc)) a p → Obeys (a ∷ []) old t (Obtain form number ask) (Obtained p) new
 area old t form number ask a p new takes some other later x e =
     let g = granting old t form number ask (a ∷ []) other later some x e in
     ap (λ n. n ∷ []) (takes g.0 g.1 g.2 (ap head_of g.3))
@@ -63,7 +63,7 @@ list_granting old t form number lengths start told reply new some step e =
       at (inr y) = (y.0, new, y.2, sym (ap granted_at y.1) ∙ e)
 
 -- each takes the address of a grant that there is
-list_takes : (t : Name) (number : ℕ) (wants : List WantValue) (told : List ℕ) (ps qs : List PlaceValue) (old a b : State) → ListTakesTold old t number wants told ps a → ListGrant old t number wants qs b → map (λ q. q.addr) qs ≡ told → map (λ p. p.addr) ps ≡ told
+list_takes : (t : Name) (number : ℕ) (wants : List WantValue) (told : List ℕ) (ps qs : List PlaceValue) (old a b : State) → ListFollowsHints old t number wants told ps a → ListGrant old t number wants qs b → map (λ q. q.addr) qs ≡ told → map (λ p. p.addr) ps ≡ told
 list_takes t number [] told [] [] old a b x y e = e
 list_takes t number [] told [] (q ∷ qs) old a b x y e = absurd y
 list_takes t number [] told (p ∷ ps) qs old a b x y e = absurd x
@@ -73,11 +73,11 @@ list_takes t number (want ∷ wants) (n ∷ told) (p ∷ ps) [] old a b x y e = 
 list_takes t number (want ∷ wants) (n ∷ told) (p ∷ ps) (q ∷ qs) old a b x y e =
     let here : p.addr ≡ n = x.2 q y.0 y.1 (ap head_of e) in
     let same = one_grant old t number want p q x.0 y.0 x.1 y.1 (here ∙ sym (ap head_of e)) in
-    let rest = list_takes t number wants told ps qs y.0 a b (subst (λ m. ListTakesTold m t number wants told ps a) same.1 x.3) y.2 (ap tail_of e) in
+    let rest = list_takes t number wants told ps qs y.0 a b (subst (λ m. ListFollowsHints m t number wants told ps a) same.1 x.3) y.2 (ap tail_of e) in
     λ i. here i ∷ rest i
 
 areas : (old : State) (t : Name) (form : Form) (number : ℕ) (lengths : List ℕ) (start : ℕ) (told : List ℕ) (ps : List PlaceValue) (new : State)
-    → ListTakesTold old (keeper old.owners t number) number (map (λ n. fixed_want n start Below) lengths) told ps new → Obeys told old t (ObtainList form number lengths start) (Listed ps) new
+    → ListFollowsHints old (keeper old.owners t number) number (map (λ n. fixed_want n start Below) lengths) told ps new → Obeys told old t (ObtainList form number lengths start) (Listed ps) new
 areas old t form number lengths start told ps new takes some other later x e =
     let g = list_granting old t form number lengths start told other later some x e in
     list_takes (keeper old.owners t number) number (map (λ n. fixed_want n start Below) lengths) told ps g.0 old new g.1 takes g.2 g.3

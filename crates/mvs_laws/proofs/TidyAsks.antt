@@ -26,7 +26,7 @@ use Rattle.mvs_model.specs.Answers.{Answer, NoName, Data}
 use Rattle.mvs_model.specs.Job.{JobValue}
 use Rattle.mvs_model.specs.Replies.{grant_answer}
 use Rattle.mvs_model.specs.Resolving.{address_of, resolved}
-use Rattle.mvs_model.specs.Runs.{Tells, Makes, Asks}
+use Rattle.mvs_model.specs.Runs.{OnlyAnswers, Makes, Asks}
 use Rattle.mvs_laws.specs.Labels as labels
 use Rattle.mvs_laws.proofs.LabelCases as cases
 use Rattle.mvs_laws.specs.Labels.{Labels, Spot, spot, rounded, is_there, spot_of, with_bytes, bytes_in}
@@ -60,7 +60,7 @@ module _ (job new : JobValue) (m : Labels) (k : Link job m) (t : Name) (a : Writ
   acts : (r : Request) (reply : Reply) → is_active job.state.owners t ≡ true → Step job.state t r reply new.state → Acts job.state t r reply new.state
   acts r reply active h = by_test (not (is_active job.state.owners t)) (step_cases job.state t r reply new.state h) (λ e x. no_way (is_active job.state.owners t) active (not-true (is_active job.state.owners t) e)) (λ e x. x)
 
-  no_name : Tells job NoName answer new → Linked new (labels.Tells NoName m answer)
+  no_name : OnlyAnswers job NoName answer new → Linked new (labels.AnswersWith NoName m answer)
   no_name h = (m, (h.0, refl), subst (λ j. Link j m) (sym h.1) k)
 
   -- the answer of a request that is granted in full
@@ -72,15 +72,15 @@ module _ (job new : JobValue) (m : Labels) (k : Link job m) (t : Name) (a : Writ
     one : (location : Location) (n : ℕ) (x : ℕ) (P : Spot → Labels → Type 0) → (not (is_set m location && true) || (is_good m location x && true)) ≡ true
         → Asks InFull job t a (option_map r (address_of job.names location)) answer new
         → ((q : Spot) → q.place.len ≡ n → is_there m (spot q.label q.place.addr x) ≡ true → (h : Makes InFull job t a (r (k.base q.label + q.place.addr)) answer new) → address_of job.names location ≡ Some (k.base q.label + q.place.addr) → Linked new (P q))
-        → Linked new (λ later. MatchOption (spot_of m location n) (labels.Tells NoName m answer later) (λ q. P q later))
+        → Linked new (λ later. MatchOption (spot_of m location n) (labels.AnswersWith NoName m answer later) (λ q. P q later))
     one location n x P tidy h f = at (look job m k location n) where
-      at : Found job m k location n → Linked new (λ later. MatchOption (spot_of m location n) (labels.Tells NoName m answer later) (λ q. P q later))
-      at (unset u v w) = let l = no_name (subst (λ v. Asks InFull job t a (option_map r v) answer new) v h) in (l.0, subst (λ v. MatchOption v (labels.Tells NoName m answer l.0) (λ q. P q l.0)) (sym u) l.1, l.2)
+      at : Found job m k location n → Linked new (λ later. MatchOption (spot_of m location n) (labels.AnswersWith NoName m answer later) (λ q. P q later))
+      at (unset u v w) = let l = no_name (subst (λ v. Asks InFull job t a (option_map r v) answer new) v h) in (l.0, subst (λ v. MatchOption v (labels.AnswersWith NoName m answer l.0) (λ q. P q l.0)) (sym u) l.1, l.2)
       at (nameless u v w) = no_way (is_good m location x) (good_one (is_set m location) (is_good m location x) tidy v) (w x)
       at (found q u v len w g) =
           let made_it = subst (λ v. Asks InFull job t a (option_map r v) answer new) v h in
           let l = f q len (sym (g x) ∙ good_one (is_set m location) (is_good m location x) tidy w) made_it v in
-          (l.0, subst (λ v. MatchOption v (labels.Tells NoName m answer l.0) (λ q. P q l.0)) (sym u) l.1, l.2)
+          (l.0, subst (λ v. MatchOption v (labels.AnswersWith NoName m answer l.0) (λ q. P q l.0)) (sym u) l.1, l.2)
 
   -- an access that is allowed is done
   accesses : (r : Request) (h : Makes InFull job t a r answer new) (allowed : Bool) (done : Type 0) → allowed ≡ true → Accesses job.state t allowed done h.reply new.state → Replied job new m k t a r answer Done × done
@@ -111,28 +111,28 @@ module _ (job new : JobValue) (m : Labels) (k : Link job m) (t : Name) (active :
       releases job new m k t a (request.Release form n (place_at (k.base q.label + q.place.addr) len)) answer form n (q ∷ []) x.reply (and_from (is_there m (rounded q)) true (ap (λ y. is_there m (spot q.label q.place.addr (round8 y))) size ∙ there) refl) (made job new m k t a answer (request.Release form n (place_at (k.base q.label + q.place.addr) len)) x)
       (subst (λ y. Acts job.state t (request.Release form n (place_at (k.base q.label + q.place.addr) y)) x.reply new.state) (sym size) (acts job new m k t a answer (request.Release form n (place_at (k.base q.label + q.place.addr) len)) x.reply active x.step))) in
       (l.0, listed l.0 (spot_of m location len) l.1, l.2) where
-        listed : (later : Labels) (v : Option Spot) → MatchOption v (labels.Tells NoName m answer later) (λ q. cases.Releases m t form n (q ∷ []) answer later)
-            → MatchOption (option_and_then (λ q. option_map (λ qs. q ∷ qs) (Some [])) v) (labels.Tells NoName m answer later) (λ qs. cases.Releases m t form n qs answer later)
+        listed : (later : Labels) (v : Option Spot) → MatchOption v (labels.AnswersWith NoName m answer later) (λ q. cases.Releases m t form n (q ∷ []) answer later)
+            → MatchOption (option_and_then (λ q. option_map (λ qs. q ∷ qs) (Some [])) v) (labels.AnswersWith NoName m answer later) (λ qs. cases.Releases m t form n qs answer later)
         listed later None x = x
         listed later (Some q) x = x
 
   case_show : (location : Location) (n : ℕ) → Same (written.Show location n)
   case_show location n tidy h =
       let a = written.Show location n in
-      one job new m k t a answer (λ x. request.Show x n) location n n (λ q later. cases.Accesses m t (is_there m q) (labels.Tells (Data (bytes_in m q.label q.place.addr n)) m answer later) answer later) tidy h (λ q size there x e.
+      one job new m k t a answer (λ x. request.Show x n) location n n (λ q later. cases.Accesses m t (is_there m q) (labels.AnswersWith (Data (bytes_in m q.label q.place.addr n)) m answer later) answer later) tidy h (λ q size there x e.
       let d = accesses job new m k t a answer (request.Show (k.base q.label + q.place.addr) n) x (all_granted job.state (place_at (k.base q.label + q.place.addr) n)) (new.state ≡ job.state) (there_granted job m k (spot q.label q.place.addr n) there) (acts job new m k t a answer (request.Show (k.base q.label + q.place.addr) n) x.reply active x.step) in
       let s = done_same job new m k t a answer (request.Show (k.base q.label + q.place.addr) n) d.0 in
-      (m, allowed m q size there (labels.Tells (Data (bytes_in m q.label q.place.addr n)) m answer m) (d.0.told ∙ ap Data (shown_same job m k (spot q.label q.place.addr n) there), refl), link_same job new m k t a (request.Show (k.base q.label + q.place.addr) n) answer d.1 s.0 s.1 s.2))
+      (m, allowed m q size there (labels.AnswersWith (Data (bytes_in m q.label q.place.addr n)) m answer m) (d.0.told ∙ ap Data (shown_same job m k (spot q.label q.place.addr n) there), refl), link_same job new m k t a (request.Show (k.base q.label + q.place.addr) n) answer d.1 s.0 s.1 s.2))
 
   case_put : (location : Location) (bytes : List ℕ) → Same (written.Put location bytes)
   case_put location bytes tidy h =
       let a = written.Put location bytes in
-      one job new m k t a answer (λ x. request.Put x bytes) location (length bytes) (length bytes) (λ q later. cases.Accesses m t (is_there m q) (labels.Tells tells.Done (with_bytes m q (slice_get bytes)) answer later) answer later) tidy h (λ q size there x e.
+      one job new m k t a answer (λ x. request.Put x bytes) location (length bytes) (length bytes) (λ q later. cases.Accesses m t (is_there m q) (labels.AnswersWith tells.Done (with_bytes m q (slice_get bytes)) answer later) answer later) tidy h (λ q size there x e.
       let d = accesses job new m k t a answer (request.Put (k.base q.label + q.place.addr) bytes) x (all_granted job.state (place_at (k.base q.label + q.place.addr) (length bytes))) (Writes job.state (place_at (k.base q.label + q.place.addr) (length bytes)) (bytes_from (k.base q.label + q.place.addr) bytes) new.state)
       (there_granted job m k (spot q.label q.place.addr (length bytes)) there) (acts job new m k t a answer (request.Put (k.base q.label + q.place.addr) bytes) x.reply active x.step) in
       let s = done_same job new m k t a answer (request.Put (k.base q.label + q.place.addr) bytes) d.0 in (
         with_bytes m q (slice_get bytes),
-        allowed (with_bytes m q (slice_get bytes)) q size there (labels.Tells tells.Done (with_bytes m q (slice_get bytes)) answer (with_bytes m q (slice_get bytes))) (d.0.told, refl),
+        allowed (with_bytes m q (slice_get bytes)) q size there (labels.AnswersWith tells.Done (with_bytes m q (slice_get bytes)) answer (with_bytes m q (slice_get bytes))) (d.0.told, refl),
         link_write job new m k q (subst (λ y. is_there m (spot q.label q.place.addr y) ≡ true) (sym size) there) (slice_get bytes) (bytes_from (k.base q.label + q.place.addr) bytes)
             (λ j less. ap (slice_get bytes) (let z : k.base q.label + q.place.addr + j - (k.base q.label + q.place.addr) ≡ j = omega arith in z))
             (λ j less. byte_some bytes j (subst (λ y. j < y) size less))
@@ -153,13 +153,13 @@ module _ (job new : JobValue) (m : Labels) (k : Link job m) (t : Name) (active :
     at : (v : Option ℕ) → get m.names area ≡ v → Linked new (cases.Asks m t a answer)
     at None e =
         let l = no_name job new m k t a answer (subst (λ v. Asks InFull job t a (option_map (λ p. request.Release form n p) v) answer new) (place_is ∙ ap (option_map (λ l. place_at (k.base l + 0) (m.len l))) e) h) in
-        (l.0, subst (λ v. MatchOption (option_map (λ l. spot l 0 (m.len l)) v) (labels.Tells NoName m answer l.0) (λ q. cases.Releases m t form n (q ∷ []) answer l.0)) (sym e) l.1, l.2)
+        (l.0, subst (λ v. MatchOption (option_map (λ l. spot l 0 (m.len l)) v) (labels.AnswersWith NoName m answer l.0) (λ q. cases.Releases m t form n (q ∷ []) answer l.0)) (sym e) l.1, l.2)
     at (Some l) e =
         let x = subst (λ v. Asks InFull job t a (option_map (λ p. request.Release form n p) v) answer new) (place_is ∙ ap (option_map (λ l. place_at (k.base l + 0) (m.len l))) e) h in
         let there = subst (λ v. (not (is_some v && true) || (has (λ l. is_there m (spot l 0 (unwrap_or (option_map (λ l. round8 (m.len l)) v) 0))) v && true)) ≡ true) e tidy in
         let done = releases job new m k t a (request.Release form n (place_at (k.base l + 0) (m.len l))) answer form n (spot l 0 (m.len l) ∷ []) x.reply (and_from (is_there m (rounded (spot l 0 (m.len l)))) true (first_so (is_there m (rounded (spot l 0 (m.len l)))) true there) refl) (made job new m k t a answer (request.Release form n (place_at (k.base l + 0) (m.len l))) x)
         (acts job new m k t a answer (request.Release form n (place_at (k.base l + 0) (m.len l))) x.reply active x.step) in
-        (done.0, subst (λ v. MatchOption (option_map (λ l. spot l 0 (m.len l)) v) (labels.Tells NoName m answer done.0) (λ q. cases.Releases m t form n (q ∷ []) answer done.0)) (sym e) done.1, done.2)
+        (done.0, subst (λ v. MatchOption (option_map (λ l. spot l 0 (m.len l)) v) (labels.AnswersWith NoName m answer done.0) (λ q. cases.Releases m t form n (q ∷ []) answer done.0)) (sym e) done.1, done.2)
 
   case_list : (form : Form) (n : ℕ) (ls : List Location) (ns : List ℕ) → Same (written.ReleaseList form n ls ns)
   case_list form n ls ns tidy h = at (look_all job m k ls ns) where
@@ -167,7 +167,7 @@ module _ (job new : JobValue) (m : Labels) (k : Link job m) (t : Name) (active :
     a = written.ReleaseList form n ls ns
 
     on : (later : Labels) → Option (List Spot) → Type 0
-    on later v = MatchOption v (labels.Tells NoName m answer later) (λ qs. cases.Releases m t form n qs answer later)
+    on later v = MatchOption v (labels.AnswersWith NoName m answer later) (λ qs. cases.Releases m t form n qs answer later)
 
     at : FoundAll job m k ls ns → Linked new (cases.Asks m t a answer)
     at (some_unset u v w) =
@@ -186,15 +186,15 @@ module _ (job new : JobValue) (m : Labels) (k : Link job m) (t : Name) (active :
     a = written.Move to from n
 
     Moves : Spot → Spot → Labels → Type 0
-    Moves q r later = cases.Accesses m t (is_there m q && is_there m r) (labels.Tells tells.Done (with_bytes m q (λ i. m.byte r.label (r.place.addr + i))) answer later) answer later
+    Moves q r later = cases.Accesses m t (is_there m q && is_there m r) (labels.AnswersWith tells.Done (with_bytes m q (λ i. m.byte r.label (r.place.addr + i))) answer later) answer later
 
     on : (later : Labels) → Option Spot → Option Spot → Type 0
-    on later v w = MatchOption v (labels.Tells NoName m answer later) (λ q. MatchOption w (labels.Tells NoName m answer later) (λ r. Moves q r later))
+    on later v w = MatchOption v (labels.AnswersWith NoName m answer later) (λ q. MatchOption w (labels.AnswersWith NoName m answer later) (λ r. Moves q r later))
 
     asks : Option ℕ → Option ℕ → Type 0
     asks v w = Asks InFull job t a (option_and_then (λ x. option_map (λ y. request.Move x y n) w) v) answer new
 
-    no_from : (v : Option ℕ) → asks v None → Tells job NoName answer new
+    no_from : (v : Option ℕ) → asks v None → OnlyAnswers job NoName answer new
     no_from None x = x
     no_from (Some y) x = x
 
@@ -208,7 +208,7 @@ module _ (job new : JobValue) (m : Labels) (k : Link job m) (t : Name) (active :
     goods : is_set m to ≡ true → is_set m from ≡ true → (is_good m to n ≡ true) × (is_good m from n ≡ true)
     goods s u = both_good (is_set m to) (is_set m from) (is_good m to n) (is_good m from n) tidy s u
 
-    unset_to : spot_of m to n ≡ None → Tells job NoName answer new → Linked new (cases.Asks m t a answer)
+    unset_to : spot_of m to n ≡ None → OnlyAnswers job NoName answer new → Linked new (cases.Asks m t a answer)
     unset_to u x = let l = no_name job new m k t a answer x in (l.0, subst (λ v. on l.0 v (spot_of m from n)) (sym u) l.1, l.2)
 
     at : Found job m k to n → Found job m k from n → Linked new (cases.Asks m t a answer)
@@ -233,7 +233,7 @@ module _ (job new : JobValue) (m : Labels) (k : Link job m) (t : Name) (active :
         let s = done_same job new m k t a answer req d.0 in
         let later = with_bytes m q (λ i. m.byte r.label (r.place.addr + i)) in (
           later,
-          subst (λ v. on later v (spot_of m from n)) (sym u) (subst (λ w. on later (Some q) w) (sym x) (match_false (labels.Abends m t (System 0x0C4) answer later) (labels.Tells tells.Done later answer later) (not (is_there m q && is_there m r)) (ap not (and_from (is_there m q) (is_there m r) (subst (λ y. is_there m (spot q.label q.place.addr y) ≡ true) (sym len) to_there) (subst (λ y. is_there m (spot r.label r.place.addr y) ≡ true) (sym size) from_there))) (d.0.told, refl))),
+          subst (λ v. on later v (spot_of m from n)) (sym u) (subst (λ w. on later (Some q) w) (sym x) (match_false (labels.Abends m t (System 0x0C4) answer later) (labels.AnswersWith tells.Done later answer later) (not (is_there m q && is_there m r)) (ap not (and_from (is_there m q) (is_there m r) (subst (λ y. is_there m (spot q.label q.place.addr y) ≡ true) (sym len) to_there) (subst (λ y. is_there m (spot r.label r.place.addr y) ≡ true) (sym size) from_there))) (d.0.told, refl))),
           link_write job new m k q (subst (λ y. is_there m (spot q.label q.place.addr y) ≡ true) (sym len) to_there) (λ i. m.byte r.label (r.place.addr + i)) (moved_from job.state (k.base q.label + q.place.addr) (k.base r.label + r.place.addr))
               (λ j less. byte_from r (subst (λ y. j < y) len less) from_there) (λ j less. there_from r (subst (λ y. j < y) len less) from_there)
               (subst (λ y. Writes job.state (place_at (k.base q.label + q.place.addr) y) (moved_from job.state (k.base q.label + q.place.addr) (k.base r.label + r.place.addr)) new.state) (sym len) d.1) s.0 s.1 s.2,

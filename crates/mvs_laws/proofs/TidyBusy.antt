@@ -15,11 +15,11 @@ use Rattle.mvs_model.specs.declared.line.Written.TheVariants as written
 use Rattle.mvs_model.specs.Name.{name_cmp, same_name}
 use Rattle.mvs_model.specs.Finite.{has, any_below, kept}
 use Rattle.mvs_model.specs.Gifts.{has_bit, gives, shares}
-use Rattle.mvs_model.specs.Owners.{Owners, Task, entry_cmp, entry, is_active, IsMother, has_subtask, owns, EntersBelow, none, passed, entered, handed, gives_shared, Attach, Descends, subtask, further, IsFallen, goes, ends_with, Ends}
+use Rattle.mvs_model.specs.Owners.{Owners, Task, entry_cmp, entry, is_active, IsMother, has_subtask, owns, EntersBelow, none, passed, entered, handed, gives_shared, Attach, Descends, subtask, further, AreDescendants, is_among_ended, ends_with, Ends}
 use Rattle.mvs_model.proofs.ByCase.{attach_refusal}
 use Rattle.mvs_model.specs.Answers as tells
 use Rattle.mvs_model.specs.Texts.{last_digits}
-use Rattle.mvs_laws.specs.Labels.{Labels, without, Tells, Does, Abends}
+use Rattle.mvs_laws.specs.Labels.{Labels, without, AnswersWith, Does, Abends}
 use Rattle.mvs_laws.specs.TidyExamples.{job, sub, area_x, zero_shared, fixed, BusyReturn}
 use Rattle.mvs_model.proofs.Orders.{name_cmp_total, entry_cmp_total, same_entry_is, same_name_is, same_name_sym}
 use Rattle.mvs_model.proofs.Elements.{any_from, first_or_later}
@@ -133,7 +133,7 @@ descends_is : (x : Name) → Descends with_sub job x → x ≡ sub
 descends_is x (subtask h) = (mothers job x h).1
 descends_is x (further {m} d h) = (mothers m x h).1
 
-falls : IsFallen with_sub job (sub ∷ [])
+falls : AreDescendants with_sub job (sub ∷ [])
 unfolding IsStrictlySortedBy with_sub
 falls = record {
   sorted = (tt, tt);
@@ -172,11 +172,11 @@ return_does = ask_does busy_1 busy_2 job written.Return _ job_still
 
 sub_gone : is_active ended.0 sub ≡ false
 unfolding with_sub
-sub_gone = ap is_some (ended.1.tasks sub ∙ ap (kept (λ _. not (goes job (sub ∷ []) sub))) (get-insert name_cmp_total alone.tasks sub (record { mother = Some job; residence = Below }) sub))
+sub_gone = ap is_some (ended.1.tasks sub ∙ ap (kept (λ _. not (is_among_ended job (sub ∷ []) sub))) (get-insert name_cmp_total alone.tasks sub (record { mother = Some job; residence = Below }) sub))
 
 not_run_does : Does busy_2 sub (says.Request (written.Obtain form.Ru 0 (fixed 8) false area_x)) tells.NotRun busy_2
 unfolding busy_mid busy_2
-not_run_does = match_true (Tells tells.NotRun busy_2 tells.NotRun busy_2) _ (not (is_active ended.0 sub)) (ap not sub_gone) (refl, refl)
+not_run_does = match_true (AnswersWith tells.NotRun busy_2 tells.NotRun busy_2) _ (not (is_active ended.0 sub)) (ap not sub_gone) (refl, refl)
 
 has_abended : busy_2.abended ≡ true
 unfolding busy_mid busy_2

@@ -5,7 +5,7 @@ use Rattle.std.proofs.lemmas.Grind.{common_steps}
 use Rattle.mvs_laws.proofs.Types.{Name, Form, Code, Written, Request, Reply, Rc4, Obtained, Listed, Abended}
 use Rattle.mvs_model.specs.Place.{PlaceValue, round8}
 use Rattle.mvs_model.specs.Want.{WantValue}
-use Rattle.mvs_model.specs.Owners.{keeper, IsFallen, Ends, ends_with}
+use Rattle.mvs_model.specs.Owners.{keeper, AreDescendants, Ends, ends_with}
 use Rattle.mvs_model.specs.Codes.{family, is_conditional, short, bad_subpool}
 use Rattle.mvs_model.specs.Changes.{GrantTo, ListGrant, Drops, End}
 use Rattle.mvs_model.specs.Consequences.{Abends, Refuses}
@@ -62,7 +62,7 @@ module _ (job new : JobValue) (m : Labels) (k : Link job m) (t : Name) (a : Writ
   ends code unused names a abended former e = (
     record {
       owners = new.state.owners;
-      is_fallen = subst (λ o. IsFallen o t e.fallen) k.owners e.is_fallen;
+      is_fallen = subst (λ o. AreDescendants o t e.fallen) k.owners e.is_fallen;
       ends = subst (λ o. Ends o t e.fallen new.state.owners) k.owners e.owners;
       is = refl;
     },
@@ -85,7 +85,7 @@ module _ (job new : JobValue) (m : Labels) (k : Link job m) (t : Name) (a : Writ
   pub same_names : (reply : Reply) → Plain reply → Replied reply → (new.names ≡ job.names) × (new.abended ≡ job.abended) × (new.former ≡ job.former)
   same_names reply p h = (h.names ∙ ap (all_set job.names (names_set a)) p.0 ∙ none_set job (names_set a), h.abended ∙ ap (λ b. job.abended || b) p.1 ∙ or-false job.abended, h.former)
 
-  pub refuses : (wanted reply : Reply) (told : Answer) → Plain wanted → answer_of job.state a r wanted ≡ told → Replied reply → Refuses job.state wanted reply new.state → Linked new (labels.Tells told m answer)
+  pub refuses : (wanted reply : Reply) (told : Answer) → Plain wanted → answer_of job.state a r wanted ≡ told → Replied reply → Refuses job.state wanted reply new.state → Linked new (labels.AnswersWith told m answer)
   refuses wanted reply told p said made h =
       let now = turned reply wanted h.0 made in
       let s = same_names wanted p now in
@@ -104,7 +104,7 @@ module _ (job new : JobValue) (m : Labels) (k : Link job m) (t : Name) (a : Writ
       → (mid : Labels) (later : Link (at_state job new.state) mid) → GrantsEach m (keeper m.owners t number_of) number_of ns mid → Placed later.base mid.len mid.count ns ps m.count → Linked new (cases.Obtains m t form number_of ns areas told answer)
   obtained n form ns areas ps told valid names abended former said mid later grants placed = (
     record mid { names = all_named mid.names areas ns m.count },
-    match_false _ ((x : Labels) × GrantsEach m (keeper m.owners t n) n ns x × labels.Tells told (record x { names = all_named x.names areas ns m.count }) answer (record mid { names = all_named mid.names areas ns m.count })) (is_invalid n) valid (mid, grants, (said, refl)),
+    match_false _ ((x : Labels) × GrantsEach m (keeper m.owners t n) n ns x × labels.AnswersWith told (record x { names = all_named x.names areas ns m.count }) answer (record mid { names = all_named mid.names areas ns m.count })) (is_invalid n) valid (mid, grants, (said, refl)),
     link_named (at_state job new.state) new mid later (all_named mid.names areas ns m.count) refl abended former
         (subst (λ x. Agrees later.base mid.len mid.count x (all_named mid.names areas ns m.count)) (sym names)
         (agrees_all later.base mid.len mid.count areas ns ps m.count job.names mid.names (record { place = later.names; low = later.labels.named }) placed)),

@@ -15,13 +15,13 @@ use Rattle.mvs_model.specs.declared.code.Form.TheVariants as form
 use Rattle.mvs_model.specs.Name.{name_cmp, same_name}
 use Rattle.mvs_model.specs.Finite.{has, any_below, count_below, kept, total_below}
 use Rattle.mvs_model.specs.Gifts.{has_bit, gives, shares}
-use Rattle.mvs_model.specs.Owners.{Owners, Task, entry_cmp, entry, is_active, IsMother, has_subtask, owns, IsSpare, SubpoolOf, Binds, Enters, EntersBelow, none, passed, entered, handed, is_given, Attach, Descends, subtask, further, IsFallen, goes, ends_with, Ends}
+use Rattle.mvs_model.specs.Owners.{Owners, Task, entry_cmp, entry, is_active, IsMother, has_subtask, owns, IsSpare, SubpoolOf, Binds, Enters, EntersBelow, none, passed, entered, handed, is_given, Attach, Descends, subtask, further, AreDescendants, is_among_ended, ends_with, Ends}
 use Rattle.mvs_model.proofs.ByCase.{attach_refusal}
 use Rattle.mvs_model.specs.Answers as tells
 use Rattle.mvs_model.specs.Answers.{Answer}
 use Rattle.mvs_model.specs.Texts.{last_digits}
 use Rattle.mvs_model.specs.Reports.{each_below, line_of_entry, subpool_lines}
-use Rattle.mvs_laws.specs.Labels.{Labels, with_area, without, bytes_there, Tells, Does, Leaves}
+use Rattle.mvs_laws.specs.Labels.{Labels, with_area, without, bytes_there, AnswersWith, Does, Leaves}
 use Rattle.mvs_laws.specs.TidyExamples.{area_x, area_y, fixed, GivenEnds, job, task_a, task_b, five_shared, five_given}
 use Rattle.mvs_model.proofs.Orders.{name_cmp_total, name_cmp-IsAntisymmetric, entry_cmp_total, same_entry_is, same_name_self, same_name_sym}
 use Rattle.mvs_model.proofs.Tables.{eq_by_cmp_is}
@@ -219,7 +219,7 @@ no_descendant : (x : Name) → Descends owners_3 task_b x → ⊥
 no_descendant x (subtask h) = mother_3 x h
 no_descendant x (further {m} d h) = no_descendant m d
 
-falls_alone : IsFallen owners_3 task_b []
+falls_alone : AreDescendants owners_3 task_b []
 unfolding IsStrictlySortedBy
 falls_alone = record { sorted = tt; descendants = λ x. ((λ c. absurd (let l : c.0 < 0 = c.1 in omega (arith, l))), (λ d. absurd (no_descendant x d))) }
 
@@ -234,13 +234,13 @@ entry_4_a : (n : ℕ) → entry owners_4 task_a n ≡ cond (n == 0) (Some 1) Non
 unfolding owners_4
 entry_4_a n = grind (arith, nat_tests, owners_3, entry_3_a, owner_3, end_b)
 
-owner_4 : (s : ℕ) → get owners_4.owner s ≡ kept (λ x. not (goes task_b [] x)) (get owners_3.owner s)
+owner_4 : (s : ℕ) → get owners_4.owner s ≡ kept (λ x. not (is_among_ended task_b [] x)) (get owners_3.owner s)
 unfolding owners_4
 owner_4 s = end_b.1.owner s
 
 -- A obtains from number 5 anew
 spare_4 : IsSpare owners_4 0
-spare_4 = record { spare = owner_4 0 ∙ ap (kept (λ x. not (goes task_b [] x))) (owner_3 0); least = λ r l. absurd (omega (arith, l)) }
+spare_4 = record { spare = owner_4 0 ∙ ap (kept (λ x. not (is_among_ended task_b [] x))) (owner_3 0); least = λ r l. absurd (omega (arith, l)) }
 
 subpool_4 : SubpoolOf owners_4 task_a 5 0
 subpool_4 = subst (λ v. MatchOption v (IsSpare owners_4 0) (λ r. 0 ≡ r)) (sym (entry_4_a 5)) spare_4
@@ -282,7 +282,7 @@ unfolding total_below count_below
 plain_3 s = refl
 
 gone_4 : (i : ℕ) → given_4.byte 0 i ≡ None
-gone_4 i = ap (λ v. cond (has (goes task_b []) v) None (given_3.byte 0 i)) (owner_3 0)
+gone_4 i = ap (λ v. cond (has (is_among_ended task_b []) v) None (given_3.byte 0 i)) (owner_3 0)
 
 plain_4 : (s : ℕ) → bytes_there given_4 s ≡ 0
 unfolding total_below
@@ -341,7 +341,7 @@ active_3_b = ap is_some (task_3 task_b)
 
 active_4_a : is_active owners_4 task_a ≡ true
 unfolding owners_4
-active_4_a = ap is_some (end_b.1.tasks task_a ∙ ap (kept (λ _. not (goes task_b [] task_a))) (task_3 task_a))
+active_4_a = ap is_some (end_b.1.tasks task_a ∙ ap (kept (λ _. not (is_among_ended task_b [] task_a))) (task_3 task_a))
 
 few_1 : len owners_1.tasks ≡ 1
 unfolding owners_1
@@ -403,7 +403,7 @@ report_3_does = active_does given_3 given_3 task_a says.ReportSubpools report_3 
 return_does : Does given_3 task_b (says.Request written.Return) tells.Ended given_4
 unfolding owners_4
 return_does = ask_does given_3 given_4 task_b written.Return _ active_3_b
-    (match_false _ ((fallen : List Name) × (mid : Labels) × Leaves given_3 task_b fallen mid × Tells tells.Ended mid tells.Ended given_4) (has_subtask owners_3 task_b) lone_b
+    (match_false _ ((fallen : List Name) × (mid : Labels) × Leaves given_3 task_b fallen mid × AnswersWith tells.Ended mid tells.Ended given_4) (has_subtask owners_3 task_b) lone_b
     ([], given_4, record { owners = owners_4; is_fallen = falls_alone; ends = end_b.1; is = refl }, (refl, refl)))
 
 report_4_does : Does given_4 task_a says.ReportSubpools report_4 given_4

@@ -21,7 +21,7 @@ use Rattle.mvs_model.specs.Owners.{Owners, entry_cmp, entry, is_active, IsSpare,
 use Rattle.mvs_model.specs.Texts.{last_digits, data_lines, printing}
 use Rattle.mvs_model.specs.Lines.{lines_of, card_of}
 use Rattle.mvs_model.specs.Reading.{LineOf}
-use Rattle.mvs_laws.specs.Labels.{Labels, spot, first_labels, with_area, with_bytes, bytes_in, Tells, Says, Does, is_there, label_machine}
+use Rattle.mvs_laws.specs.Labels.{Labels, spot, first_labels, with_area, with_bytes, bytes_in, AnswersWith, AnswersTo, Does, is_there, label_machine}
 use Rattle.mvs_laws.specs.Tidy.{IsTidy, TidyLine, TidyLines, tidy_statement}
 use Rattle.mvs_laws.specs.TidyExamples.{ReadsAs, ShowsTidy, job, area_x, fixed, one_page, MovesOverlap}
 use Rattle.mvs_model.proofs.Orders.{name_cmp_total, entry_cmp_total, same_entry_is}
@@ -86,8 +86,8 @@ shows ss answers new abended e w script r = at (lines_of script) r where
       )
 
 -- a statement of the step, of a task that is active
-pub active_does : (m later : Labels) (t : Name) (s : Statement) (answer : Answer) → is_active m.owners t ≡ true → Says m t s answer later → Does m t s answer later
-active_does m later t s answer active h = match_false (Tells tells.NotRun m answer later) (Says m t s answer later) (not (is_active m.owners t)) (ap not active) h
+pub active_does : (m later : Labels) (t : Name) (s : Statement) (answer : Answer) → is_active m.owners t ≡ true → AnswersTo m t s answer later → Does m t s answer later
+active_does m later t s answer active h = match_false (AnswersWith tells.NotRun m answer later) (AnswersTo m t s answer later) (not (is_active m.owners t)) (ap not active) h
 
 -- a request that is made, by the cases of what it does
 pub ask_does : (m later : Labels) (t : Name) (a : Written) (answer : Answer) → is_active m.owners t ≡ true → cases.Asks m t a answer later → Does m t (says.Request a) answer later

@@ -53,7 +53,7 @@ module _ (job new : JobValue) (m : Labels) (k : Link job m) (t : Name) (a : Writ
       (λ even y. let l = held (whole_places (map (span_of job m k) qs) (not-false (list_all on_doubleword (map (span_of job m k) qs)) even)) y in
       (l.0, match_false _ (Aligned l.0) (is_invalid n) valid (match_false (labels.Abends m t (bad_address (family form)) answer l.0) (Held l.0) (not (list_all (λ q. on_doubleword q.place) qs)) (ap not (sym (aligned_all qs)) ∙ even) l.1), l.2))) where
         Freed : Labels → Type 0
-        Freed later = labels.Tells tells.Rc0 (without m (λ l i. list_any (λ q. has_offset q l i) (map rounded qs))) answer later
+        Freed later = labels.AnswersWith tells.Rc0 (without m (λ l i. list_any (λ q. has_offset q l i) (map rounded qs))) answer later
 
         Held : Labels → Type 0
         Held later = MatchBool (not (may_free m (subpool_meant m.owners t n) (map rounded qs))) (cases.Fails (is_conditional form) m t (not_held (family form)) answer later) (Freed later)
@@ -107,7 +107,7 @@ module _ (job new : JobValue) (m : Labels) (k : Link job m) (t : Name) (a : Writ
         empty_now = without m (λ l i. has (λ s. m.subpool l == s) (subpool_meant m.owners t n))
 
         Gone : Labels → Type 0
-        Gone later = labels.Tells tells.Rc0 (without m (λ l i. has (λ s. m.subpool l == s) (subpool_meant m.owners t n))) answer later
+        Gone later = labels.AnswersWith tells.Rc0 (without m (λ l i. has (λ s. m.subpool l == s) (subpool_meant m.owners t n))) answer later
 
         Zero : Labels → Type 0
         Zero later = MatchBool (n == 0) (labels.Abends m t (User 4006) answer later) (Gone later)
@@ -130,4 +130,4 @@ module _ (job new : JobValue) (m : Labels) (k : Link job m) (t : Name) (a : Writ
       let now = turned job new m k t a r answer reply Ended x.0 made in
       let s = same_names job new m k t a r answer Ended (refl, refl) now in
       let e = ends job new m k t a r answer true x.1 s.0 m.abended (s.1 ∙ k.abended) s.2 x.1 in
-      (_, match_false _ ((fallen : List Name) × (mid : Labels) × Leaves m t fallen mid × labels.Tells tells.Ended mid answer _) (has_subtask m.owners t) (ap (λ o. has_subtask o t) (sym k.owners) ∙ alone) (x.1.fallen, _, e.0, (now.told, refl)), e.1))
+      (_, match_false _ ((fallen : List Name) × (mid : Labels) × Leaves m t fallen mid × labels.AnswersWith tells.Ended mid answer _) (has_subtask m.owners t) (ap (λ o. has_subtask o t) (sym k.owners) ∙ alone) (x.1.fallen, _, e.0, (now.told, refl)), e.1))

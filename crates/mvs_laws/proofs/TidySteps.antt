@@ -19,7 +19,7 @@ use Rattle.mvs_model.specs.Lines.{card_of, lines_of}
 use Rattle.mvs_model.specs.Reading.{LineOf}
 use Rattle.mvs_model.specs.Replies.{where_answer}
 use Rattle.mvs_model.specs.Walk.{is_first, has_abended, ending, Serves, ServesLine, Faults, Closes, Walks, JobEnds}
-use Rattle.mvs_model.specs.Runs.{Says, Does, job_machine, machine}
+use Rattle.mvs_model.specs.Runs.{AnswersTo, Does, job_machine, machine}
 use Rattle.mvs_laws.specs.Labels as labels
 use Rattle.mvs_laws.specs.Labels.{Labels, first_labels, bytes_there, label_machine}
 use Rattle.mvs_laws.specs.Tidy.{Link, InFull, IsTidy, TidyLine, TidyLines, tidy_statement, TidyStep, TidyRun, TidyText}
@@ -43,24 +43,24 @@ module _ (job : JobValue) (m : Labels) (k : Link job m) (t : Name) where
     linked : (P : Labels → Type 0) → P m → new ≡ job → (later : Labels) × P later × Link new later
     linked P p e = (m, p, subst (λ j. Link j m) (sym e) k)
 
-    says_same : (s : Statement) → is_active job.state.owners t ≡ true → tidy_statement m s ≡ true → Says InFull job t s answer new → (later : Labels) × labels.Says m t s answer later × Link new later
+    says_same : (s : Statement) → is_active job.state.owners t ≡ true → tidy_statement m s ≡ true → AnswersTo InFull job t s answer new → (later : Labels) × labels.AnswersTo m t s answer later × Link new later
     says_same (says.Region below above fill residence) active tidy h = absurd h
     says_same (says.Request a) active tidy h = let s = asks_same job new m k t active answer a tidy h in (s.0, cases_ask m s.0 t answer a s.1, s.2)
     says_same (says.Where name) active tidy h =
         let none = unset_of (get m.names name) tidy in
-        linked (λ later. MatchOption (get m.names name) (labels.Tells NoName m answer later) (λ l. ⊥))
-        (subst (λ v. MatchOption v (labels.Tells NoName m answer m) (λ l. ⊥)) (sym none) (h.0 ∙ ap where_answer (k.names name ∙ ap (option_map (λ l. place_at (k.base l) (m.len l))) none), refl)) h.1
-    says_same says.ReportSubpools active tidy h = linked (λ later. labels.Tells (Subpools (subpool_lines m.owners (bytes_there m) (λ s. 0) t)) m answer later) (h.0 ∙ ap Subpools (report_same within), refl) h.1
+        linked (λ later. MatchOption (get m.names name) (labels.AnswersWith NoName m answer later) (λ l. ⊥))
+        (subst (λ v. MatchOption v (labels.AnswersWith NoName m answer m) (λ l. ⊥)) (sym none) (h.0 ∙ ap where_answer (k.names name ∙ ap (option_map (λ l. place_at (k.base l) (m.len l))) none), refl)) h.1
+    says_same says.ReportSubpools active tidy h = linked (λ later. labels.AnswersWith (Subpools (subpool_lines m.owners (bytes_there m) (λ s. 0) t)) m answer later) (h.0 ∙ ap Subpools (report_same within), refl) h.1
     says_same says.ReportMap active tidy h = false_true tidy
 
     does_same : (s : Statement) → IsTidy m t s → Does InFull job t s answer new → (later : Labels) × labels.Does m t s answer later × Link new later
     does_same s tidy h =
         by_test (not (is_active job.state.owners t)) h
-        (λ off x. (m, match_true (labels.Tells NotRun m answer m) _ (not (is_active m.owners t)) (ap (λ o. not (is_active o t)) (sym k.owners) ∙ off) (x.0, refl), subst (λ j. Link j m) (sym x.1) k))
+        (λ off x. (m, match_true (labels.AnswersWith NotRun m answer m) _ (not (is_active m.owners t)) (ap (λ o. not (is_active o t)) (sym k.owners) ∙ off) (x.0, refl), subst (λ j. Link j m) (sym x.1) k))
         (λ on x.
         let active = not-false (is_active job.state.owners t) on in
         let l = says_same s active (tidy (ap (λ o. is_active o t) (sym k.owners) ∙ active)) x in
-        (l.0, match_false (labels.Tells NotRun m answer l.0) _ (not (is_active m.owners t)) (ap (λ o. not (is_active o t)) (sym k.owners) ∙ on) l.1, l.2))
+        (l.0, match_false (labels.AnswersWith NotRun m answer l.0) _ (not (is_active m.owners t)) (ap (λ o. not (is_active o t)) (sym k.owners) ∙ on) l.1, l.2))
 
 pub tidy_step : TidyStep
 tidy_step job m t s answer new is k tidy h = does_same job m k t (running_keeps Placed placed_closed start_placed job is).0 answer new s tidy h

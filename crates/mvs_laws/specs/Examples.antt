@@ -9,7 +9,7 @@ use Rattle.mvs_model.specs.Want.{WantValue, IsExponent}
 use Rattle.mvs_model.specs.Gifts.{GiftsValue, gives, shares}
 use Rattle.mvs_model.specs.Numbers.{above_begins, below_begins, first_doubleword_below, first_page_below, most_pages_above, most_pages_below, page_bytes, page_doublewords, task_numbers}
 use Rattle.mvs_model.specs.Storage.{Regions, Open, Meets, Places, Chosen, Storage, holder, PageRule, Grant, Release, IsStorage}
-use Rattle.mvs_model.specs.Owners.{Owners, entry, goes, ends_with, Attach, Ends}
+use Rattle.mvs_model.specs.Owners.{Owners, entry, is_among_ended, ends_with, Attach, Ends}
 use Rattle.mvs_model.specs.Pools.{part_length, IsCellOf}
 
 -- two pages below and none above
@@ -100,7 +100,7 @@ GivesAndShares =
 abbrev pub SharersKeep : Type 0
 SharersKeep =
     (old : Owners) (t : Name) (fallen : List Name) (new : Owners) (other : Name) (n s : ℕ)
-    → Ends old t fallen new → goes t fallen other ≡ false → entry old other n ≡ Some s
+    → Ends old t fallen new → is_among_ended t fallen other ≡ false → entry old other n ≡ Some s
     → (ends_with old t fallen s ≡ false → entry new other n ≡ Some s) × (ends_with old t fallen s ≡ true → entry new other n ≡ None)
 
 -- A part of two cells of 12 bytes has 48 bytes, and its cells begin at 24 and 36.

@@ -28,7 +28,7 @@ use Rattle.mvs_model.specs.Card.{CardValue}
 use Rattle.mvs_model.specs.Name.{name_cmp}
 use Rattle.mvs_model.specs.Finite.{has, all_below, any_below, count_below, total_below}
 use Rattle.mvs_model.specs.Storage.{has_address}
-use Rattle.mvs_model.specs.Owners.{Owners, is_active, keeper, subpool_meant, SubpoolOf, Enters, Attach, IsFallen, Ends, ends_with}
+use Rattle.mvs_model.specs.Owners.{Owners, is_active, keeper, subpool_meant, SubpoolOf, Enters, Attach, AreDescendants, Ends, ends_with}
 use Rattle.mvs_model.specs.Start.{first_owners}
 use Rattle.mvs_model.specs.Requests.{on_doubleword, whole}
 use Rattle.mvs_model.specs.Answers.{NoCell, Answer, NotRun, NoName, Rc0, Rc4, Attached, Ended, Done, Data, Abended, Subpools, Event}
@@ -102,8 +102,8 @@ abbrev pub area_of : Labels → Name → Option Spot
 area_of m name = option_map (λ l. spot l 0 (m.len l)) (get m.names name)
 
 -- This is answered, and the labels are then these.
-abbrev pub Tells : Answer → Labels → Answer → Labels → Type 0
-Tells told after answer new = (answer ≡ told) × (new ≡ after)
+abbrev pub AnswersWith : Answer → Labels → Answer → Labels → Type 0
+AnswersWith told after answer new = (answer ≡ told) × (new ≡ after)
 
 -- the labels without the bytes at the offsets that pass a test
 abbrev pub without : Labels → (ℕ → ℕ → Bool) → Labels
@@ -112,20 +112,20 @@ without m test = record m { byte = λ l i. if test l i then None else m.byte l i
 -- The task ends with its descendants, and everything in the subpools that they own is removed.
 pub record Leaves (old : Labels) (t : Name) (fallen : List Name) (new : Labels) : Type 0 where
   pub owners : Owners
-  pub is_fallen : IsFallen old.owners t fallen
+  pub is_fallen : AreDescendants old.owners t fallen
   pub ends : Ends old.owners t fallen owners
   pub is : new ≡ record (without old (λ l i. ends_with old.owners t fallen (old.subpool l))) { owners = owners }
 
 -- An abend, by a code.
 abbrev pub Abends : Labels → Name → Code → Answer → Labels → Type 0
 Abends old t code answer new =
-    (fallen : List Name) × (mid : Labels) × Leaves old t fallen mid × Tells (Abended code fallen) (record mid { abended = true }) answer new
+    (fallen : List Name) × (mid : Labels) × Leaves old t fallen mid × AnswersWith (Abended code fallen) (record mid { abended = true }) answer new
 
 -- A refused statement changes nothing, or ends its task.
 abbrev pub Settles : Labels → Name → Consequence → Answer → Labels → Type 0
-Settles old t consequence.NotRun answer new = Tells NotRun old answer new
-Settles old t consequence.Rc4 answer new = Tells Rc4 old answer new
-Settles old t consequence.NoCell answer new = Tells NoCell old answer new
+Settles old t consequence.NotRun answer new = AnswersWith NotRun old answer new
+Settles old t consequence.Rc4 answer new = AnswersWith Rc4 old answer new
+Settles old t consequence.NoCell answer new = AnswersWith NoCell old answer new
 Settles old t (consequence.Abend code) answer new = Abends old t code answer new
 
 -- A statement is refused for one of its causes, and that has its consequence by the codes of its form; or it passes them all, and is
@@ -167,7 +167,7 @@ all_named names (name ∷ more) (n ∷ lengths) l = all_named (insert names name
 abbrev pub Obtains : Labels → Name → Form → ℕ → List ℕ → List Name → Answer → Answer → Labels → Type 0
 Obtains old t form n lengths areas told answer new =
     Tries old t form true (number_causes n)
-    ((mid : Labels) × GrantsEach old (keeper old.owners t n) n lengths mid × Tells told (record mid { names = all_named mid.names areas lengths old.count }) answer new)
+    ((mid : Labels) × GrantsEach old (keeper old.owners t n) n lengths mid × AnswersWith told (record mid { names = all_named mid.names areas lengths old.count }) answer new)
     answer new
 
 -- All of the places are gone.
@@ -176,25 +176,25 @@ Releases old t form n qs answer new =
     Tries old t form false
     (release_causes n (list_all (λ q. on_doubleword q.place) qs) (is_some (subpool_meant old.owners t n))
     (IsTrue (has (λ s. list_all (is_held old s) (map rounded qs)) (subpool_meant old.owners t n))) (IsTrue (not (some_meet (map rounded qs)))))
-    (Tells Rc0 (without old (λ l i. list_any (λ q. has_offset q l i) (map rounded qs))) answer new)
+    (AnswersWith Rc0 (without old (λ l i. list_any (λ q. has_offset q l i) (map rounded qs))) answer new)
     answer new
 
 -- All of a subpool is gone.
 abbrev pub Empties : Labels → Name → Form → ℕ → Answer → Labels → Type 0
 Empties old t form n answer new =
-    Tries old t form false (whole_causes n) (Tells Rc0 (without old (λ l i. has (λ s. old.subpool l == s) (subpool_meant old.owners t n))) answer new) answer new
+    Tries old t form false (whole_causes n) (AnswersWith Rc0 (without old (λ l i. has (λ s. old.subpool l == s) (subpool_meant old.owners t n))) answer new) answer new
 
 -- The subtask is there.
 abbrev pub Attaches : Labels → Name → Name → GiftsValue → Residence → Answer → Labels → Type 0
 Attaches old t name gifts residence answer new =
     Tries old t Storage false (attach_causes old.owners t name gifts)
-    ((o : Owners) × Attach old.owners t name gifts residence o × Tells Attached (record old { owners = o }) answer new)
+    ((o : Owners) × Attach old.owners t name gifts residence o × AnswersWith Attached (record old { owners = o }) answer new)
     answer new
 
 -- The task ends.
 abbrev pub Returns : Labels → Name → Answer → Labels → Type 0
 Returns old t answer new =
-    Tries old t Storage false (return_causes old.owners t) ((fallen : List Name) × (mid : Labels) × Leaves old t fallen mid × Tells Ended mid answer new) answer new
+    Tries old t Storage false (return_causes old.owners t) ((fallen : List Name) × (mid : Labels) × Leaves old t fallen mid × AnswersWith Ended mid answer new) answer new
 
 -- the bytes of an area from an offset on
 unfoldable pub bytes_in : Labels → ℕ → ℕ → ℕ → List ℕ
@@ -215,11 +215,11 @@ Asks old t (written.Obtain form n ask variable area) answer new =
     Obtains old t form n (ask.most ∷ []) (area ∷ []) (grant_answer (written.Obtain form n ask variable area) (place_at 0 (round8 ask.most))) answer new
 Asks old t (written.ObtainList form n lengths start areas) answer new = Obtains old t form n lengths areas Rc0 answer new
 Asks old t (written.Release form n location len) answer new =
-    MatchOption (spots_of old (location ∷ []) (len ∷ [])) (Tells NoName old answer new) (λ qs. Releases old t form n qs answer new)
+    MatchOption (spots_of old (location ∷ []) (len ∷ [])) (AnswersWith NoName old answer new) (λ qs. Releases old t form n qs answer new)
 Asks old t (written.ReleaseArea form n area) answer new =
-    MatchOption (area_of old area) (Tells NoName old answer new) (λ q. Releases old t form n (q ∷ []) answer new)
+    MatchOption (area_of old area) (AnswersWith NoName old answer new) (λ q. Releases old t form n (q ∷ []) answer new)
 Asks old t (written.ReleaseList form n locations lengths) answer new =
-    MatchOption (spots_of old locations lengths) (Tells NoName old answer new) (λ qs. Releases old t form n qs answer new)
+    MatchOption (spots_of old locations lengths) (AnswersWith NoName old answer new) (λ qs. Releases old t form n qs answer new)
 Asks old t (written.ReleaseWhole form n) answer new = Empties old t form n answer new
 Asks old t (written.Build pool n size primary secondary loc) answer new = ⊥
 Asks old t (written.Get pool conditional cell) answer new = ⊥
@@ -229,31 +229,31 @@ Asks old t (written.Attach name gifts residence) answer new = Attaches old t nam
 Asks old t written.Return answer new = Returns old t answer new
 Asks old t (written.Abend n) answer new = Tries old t Storage false (abend_causes n) ⊥ answer new
 Asks old t (written.Show location n) answer new =
-    MatchOption (spot_of old location n) (Tells NoName old answer new)
-    (λ q. Accesses old t (is_there old q) (Tells (Data (bytes_in old q.label q.place.addr n)) old answer new) answer new)
+    MatchOption (spot_of old location n) (AnswersWith NoName old answer new)
+    (λ q. Accesses old t (is_there old q) (AnswersWith (Data (bytes_in old q.label q.place.addr n)) old answer new) answer new)
 Asks old t (written.Put location bytes) answer new =
-    MatchOption (spot_of old location (length bytes)) (Tells NoName old answer new)
-    (λ q. Accesses old t (is_there old q) (Tells Done (with_bytes old q (slice_get bytes)) answer new) answer new)
+    MatchOption (spot_of old location (length bytes)) (AnswersWith NoName old answer new)
+    (λ q. Accesses old t (is_there old q) (AnswersWith Done (with_bytes old q (slice_get bytes)) answer new) answer new)
 Asks old t (written.Move to from n) answer new =
-    MatchOption (spot_of old to n) (Tells NoName old answer new)
-    (λ q. MatchOption (spot_of old from n) (Tells NoName old answer new)
-    (λ r. Accesses old t (is_there old q && is_there old r) (Tells Done (with_bytes old q (λ i. old.byte r.label (r.place.addr + i))) answer new) answer new))
+    MatchOption (spot_of old to n) (AnswersWith NoName old answer new)
+    (λ q. MatchOption (spot_of old from n) (AnswersWith NoName old answer new)
+    (λ r. Accesses old t (is_there old q && is_there old r) (AnswersWith Done (with_bytes old q (λ i. old.byte r.label (r.place.addr + i))) answer new) answer new))
 
 -- how many bytes of a subpool's areas are there
 abbrev pub bytes_there : Labels → ℕ → ℕ
 bytes_there m s = total_below m.count (λ l. if m.subpool l == s then count_below (m.len l) (λ i. is_some (m.byte l i)) else 0)
 
 -- What a statement of an active task does, where it is tidy. REPORT SP: no subpool has bytes in pools.
-abbrev pub Says : Labels → Name → Statement → Answer → Labels → Type 0
-Says old t (says.Region below above fill residence) answer new = ⊥
-Says old t (says.Request a) answer new = Asks old t a answer new
-Says old t (says.Where name) answer new = MatchOption (get old.names name) (Tells NoName old answer new) (λ l. ⊥)
-Says old t says.ReportSubpools answer new = Tells (Subpools (subpool_lines old.owners (bytes_there old) (λ s. 0) t)) old answer new
-Says old t says.ReportMap answer new = ⊥
+abbrev pub AnswersTo : Labels → Name → Statement → Answer → Labels → Type 0
+AnswersTo old t (says.Region below above fill residence) answer new = ⊥
+AnswersTo old t (says.Request a) answer new = Asks old t a answer new
+AnswersTo old t (says.Where name) answer new = MatchOption (get old.names name) (AnswersWith NoName old answer new) (λ l. ⊥)
+AnswersTo old t says.ReportSubpools answer new = AnswersWith (Subpools (subpool_lines old.owners (bytes_there old) (λ s. 0) t)) old answer new
+AnswersTo old t says.ReportMap answer new = ⊥
 
 -- What a statement does, which is not REGION.
 abbrev pub Does : Labels → Name → Statement → Answer → Labels → Type 0
-Does old t s answer new = MatchBool (not (is_active old.owners t)) (Tells NotRun old answer new) (Says old t s answer new)
+Does old t s answer new = MatchBool (not (is_active old.owners t)) (AnswersWith NotRun old answer new) (AnswersTo old t s answer new)
 
 -- the labels at the start of a step: none
 abbrev pub first_labels : CardValue → Bool → Labels

@@ -14,13 +14,13 @@ use Rattle.mvs_model.specs.Requests.{IsRequest}
 use Rattle.mvs_model.specs.WellFormed.{Apart, WellFormed}
 use Rattle.mvs_model.specs.Job.{JobValue}
 use Rattle.mvs_model.specs.Lines.{lines_of}
-use Rattle.mvs_model.specs.Reading.{checks, first_of, says_nothing}
+use Rattle.mvs_model.specs.Reading.{checks, first_of, is_blank_or_comment}
 use Rattle.mvs_model.specs.Answers.{Event, Faulted}
 use Rattle.mvs_model.specs.Runs.{IsRun, IsPrinting, IsRunning}
 
 -- In every state of a run each page is of one subpool.
-abbrev pub PagesKept : Type 0
-PagesKept = (job : JobValue) → IsRunning job → PageRule (holder job.state)
+abbrev pub PagesHaveOneSubpool : Type 0
+PagesHaveOneSubpool = (job : JobValue) → IsRunning job → PageRule (holder job.state)
 
 -- In every state of a run each request has a step.
 abbrev pub NeverStuck : Type 0
@@ -31,8 +31,8 @@ abbrev pub PartsApart : Type 0
 PartsApart = (job : JobValue) → IsRunning job → Apart job.state
 
 -- In every state of a run all of this holds.
-abbrev pub KeptWellFormed : Type 0
-KeptWellFormed = (job : JobValue) → IsRunning job → WellFormed job.state
+abbrev pub StaysWellFormed : Type 0
+StaysWellFormed = (job : JobValue) → IsRunning job → WellFormed job.state
 
 -- Each script has a run, and so a printing.
 abbrev pub EachIsPrinted : Type 0
@@ -47,7 +47,7 @@ fault_at number (Some fault) later = Some (number, fault)
 -- statement is missing, that is a fault after the last line.
 abbrev pub first_fault : ℕ → Bool → List (List ℕ) → Option (ℕ × Fault)
 first_fault number first [] = if first then Some (number, OutOfPlace) else None
-first_fault number first (l ∷ lines) = fault_at number (first_of (checks first l)) (first_fault (number + 1) (first && says_nothing l) lines)
+first_fault number first (l ∷ lines) = fault_at number (first_of (checks first l)) (first_fault (number + 1) (first && is_blank_or_comment l) lines)
 
 -- The events end in the fault, where there is one, and in no fault where there is none.
 abbrev pub EndsIn : Option (ℕ × Fault) → List Event → Outcome → Type 0

@@ -23,15 +23,15 @@ EachOneRefusal = (st : State) (t : Name) (request : Request) → is_list request
 
 -- A request that may be refused for something has the consequence of that, and one that passes all causes is done; a request for a
 -- list aside.
-pub record RefusalsTell : Type 0 where
+pub record RefusalsDecideReplies : Type 0 where
   pub refused : (old new : State) (t : Name) (request : Request) (reply : Reply) (refusal : Refusal)
       → is_list request ≡ false → IsRefused old t request refusal → Step old t request reply new → Settles old t (reply_to request refusal) reply new
   pub passed : (old new : State) (t : Name) (request : Request) (reply : Reply)
       → is_list request ≡ false → IsPassed old t request → Step old t request reply new → Does old t request reply new
 
 -- Each reason determines the reply: a request that has it is refused so, unless the reason is that a member of a list has no place.
-abbrev pub ReasonsTell : Type 0
-ReasonsTell =
+abbrev pub ReasonsDecideReplies : Type 0
+ReasonsDecideReplies =
     (old new : State) (t : Name) (request : Request) (reply : Reply) (reason : Reason)
     → ((k : ℕ) → refusal_of request reason ≢ Member k) → IsReason old t request (Some reason) → Step old t request reply new
     → Settles old t (reply_to request (refusal_of request reason)) reply new

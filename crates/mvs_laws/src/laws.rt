@@ -1,18 +1,18 @@
 //! Laws of the machine, over every run: each function has an empty body, and its contract is the law.
 
-ghost use Rattle.mvs_laws.specs.Laws.{PagesKept, NeverStuck, PartsApart, KeptWellFormed, EachIsPrinted, SameFault};
-ghost use Rattle.mvs_laws.specs.Refusals.{AttemptsAreSteps, EachOneRefusal, ReasonsTell, RefusalsTell};
+ghost use Rattle.mvs_laws.specs.Laws.{PagesHaveOneSubpool, NeverStuck, PartsApart, StaysWellFormed, EachIsPrinted, SameFault};
+ghost use Rattle.mvs_laws.specs.Refusals.{AttemptsAreSteps, EachOneRefusal, ReasonsDecideReplies, RefusalsDecideReplies};
 ghost use Rattle.mvs_laws.specs.Sparing.{BytesStay, GrantsSpare};
 ghost use Rattle.mvs_laws.specs.Tidy.{OneLabelRun, PlacesAreNotPrinted, PlacesDoNotMatter, TidyRun, TidyStep, TidyText};
 ghost use Rattle.mvs_laws.specs.TidyExamples.{BusyReturn, GivenEnds, MovesInFull, MovesOverlap};
-ghost use Rattle.mvs_model.specs.Determined.{OneStep, NothingPicked, ListEitherWay, HasPlaces, PlacesDetermine, ToldDecide, TakingObeys};
+ghost use Rattle.mvs_model.specs.Determined.{OneStep, NothingPicked, ListEitherWay, HasPlaces, PlacesDetermine, HintsDecide, TakingObeys};
 ghost use Rattle.mvs_model.specs.ReadingLaws.{InRanges, OneReading, OnlyWords};
 ghost use Rattle.mvs_model.specs.Spelling.{AllowedIsRead, CutApart, EachIsWritten, InAnyOrder};
-ghost use Rattle.mvs_model.specs.Spellings.{EachIsSaid};
+ghost use Rattle.mvs_model.specs.Spellings.{EachIsSpelled};
 
 /// In every state of a run each page is of one subpool.
 pub fn page_rule()
-    ensures { PagesKept }
+    ensures { PagesHaveOneSubpool }
 {}
 
 /// In every state of a run each request has a step.
@@ -27,7 +27,7 @@ pub fn apart()
 
 /// In every state of a run each page belongs to one subpool, the parts of pools do not overlap, and everything held has an owner.
 pub fn well_formed()
-    ensures { KeptWellFormed }
+    ensures { StaysWellFormed }
 {}
 
 /// A byte that may be read stays as it is while no PUT or MOVE writes it, nothing releases it, and the task that owns
@@ -42,8 +42,8 @@ pub fn grants_spare()
 {}
 
 /// A reason determines the reply: its refusal has its consequence. For a member of a list this holds where that is refused.
-pub fn reasons_tell()
-    ensures { ReasonsTell }
+pub fn reasons_decide_replies()
+    ensures { ReasonsDecideReplies }
 {}
 
 /// A request that is for no list is refused in one way, and is then not done.
@@ -53,8 +53,8 @@ pub fn one_refusal()
 
 /// The refusal of a request that is not for a list determines its reply: it has the consequence of the refusal. If the request
 /// passes all causes, it is executed.
-pub fn refusals_tell()
-    ensures { RefusalsTell }
+pub fn refusals_decide_replies()
+    ensures { RefusalsDecideReplies }
 {}
 
 /// An attempt that is done is a step, and one that is refused is a step once it is settled.
@@ -122,8 +122,8 @@ pub fn places_determine()
 {}
 
 /// A run that obeys the addresses of another one, which refuses no list that could be granted, has the same events.
-pub fn told_decide()
-    ensures { ToldDecide }
+pub fn hints_decide()
+    ensures { HintsDecide }
 {}
 
 /// A request that uses its hints obeys.
@@ -182,8 +182,8 @@ pub fn each_is_written()
 {}
 
 /// Each statement is written as the table of the script language says, and is read as that statement.
-pub fn each_is_said()
-    ensures { EachIsSaid }
+pub fn each_is_spelled()
+    ensures { EachIsSpelled }
 {}
 
 /// Two adjacent keywords of a line can be exchanged.

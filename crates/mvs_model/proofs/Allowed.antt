@@ -8,9 +8,9 @@ use Rattle.mvs_model.proofs.Types.{Fault, TooLong, InvalidByte, UnknownOperation
 use Rattle.mvs_model.specs.declared.line.Line.TheVariants as line
 use Rattle.mvs_model.specs.Name.{padded}
 use Rattle.mvs_model.specs.Grammar.{Kind, Keyword, Positional, Row, table, getmain_fixed, getmain_fixed_placed, getmain_variable, getmain_variable_placed, getmain_list, storage_obtain, freemain_or_whole, freemain_place, freemain_area, freemain_list, storage_release, cpool_build, cpool_get, cpool_free, cpool_delete, report}
-use Rattle.mvs_model.specs.Reading.{◌when◌, ◌>>=◌, ByKey, by_key, behind_form, checks, first_of, form_in, has, has_key, if_kind, is_conflict, is_empty, is_equals, is_for, is_half, is_name, is_of, is_one_of, is_twice, is_within, key_of, kind_of, lacks_keyword, lacks_positional, line_said, operand_checks, operands_in, positionals, repeats, row_checks, row_of, rows_of, statement_checks, statement_of, takes_form, text_of, value_of, with_left, words}
+use Rattle.mvs_model.specs.Reading.{◌when◌, ◌>>=◌, ByKey, by_key, operands_after_form, checks, first_of, form_in, has, has_key, if_kind, is_conflict, is_empty, is_equals, is_for, is_half, is_name, is_of, is_one_of, is_twice, is_within, key_of, kind_of, lacks_keyword, lacks_positional, line_meaning, operand_checks, operands_in, positionals, repeats, row_checks, row_of, rows_of, statement_checks, statement_of, takes_form, text_of, value_of, with_left, words}
 use Rattle.mvs_model.specs.ReadingLaws.{keyed}
-use Rattle.mvs_model.specs.Spelling.{AllowedIsRead, InAnyOrder, Fits, FitPlaces, FitsKey, IsAllowed, IsCut, IsOperand, IsWord, all_operands, closes, keyword_text, line_text, said_by}
+use Rattle.mvs_model.specs.Spelling.{AllowedIsRead, InAnyOrder, Fits, FitPlaces, FitsKey, IsAllowed, IsCut, IsOperand, IsWord, all_operands, closes, keyword_text, line_text, by_spelling}
 use Rattle.mvs_model.proofs.Reading.{said_with}
 use Rattle.mvs_model.proofs.ReadingTaken.{bytes_same, twice_under, under, under_nothing}
 use Rattle.mvs_model.proofs.Spelling.{all_weaker, cut_apart, printed}
@@ -31,7 +31,7 @@ line_checks first task operation operands bytes is short field = λ i.
 
 -- what it says
 line_says : (task operation : List ℕ) (operands : List (List ℕ)) (bytes : List ℕ) → IsCut task operation operands bytes → list_any (λ row. row.has_field) (rows_of operation) ≡ true
-    → line_said bytes ≡ said_with task (form_in operation operands) operands (row_of operation operands)
+    → line_meaning bytes ≡ said_with task (form_in operation operands) operands (row_of operation operands)
 line_says task operation operands bytes is field = λ i.
     if is.says i then Some line.Nothing
     else said_with (is.task_is i) (form_in (unwrap_or (is.operation_is i) []) (taken i)) (taken i) (row_of (unwrap_or (is.operation_is i) []) (taken i))
@@ -185,7 +185,7 @@ all_positionals : (texts : List (List ℕ)) (pairs : List (List ℕ × List ℕ)
 all_positionals [] pairs keyless = no_positionals pairs
 all_positionals (text ∷ texts) pairs keyless = grind (arith, nat_tests, all_positionals texts pairs keyless.1)
 
-said_is : (places : List (List ℕ)) (pairs : List (List ℕ × List ℕ)) → NoKeys places → Lettered pairs → by_key (places ++ map keyword_text pairs) ≡ said_by places pairs
+said_is : (places : List (List ℕ)) (pairs : List (List ℕ × List ℕ)) → NoKeys places → Lettered pairs → by_key (places ++ map keyword_text pairs) ≡ by_spelling places pairs
 said_is places pairs keyless are = grind (arith, nat_tests, found_behind, none_for, under_pairs, all_positionals, under)
 
 -- ---- operands that fit pass
@@ -407,7 +407,7 @@ form_and : (b : Bool) (form : List ℕ) (l : List (List ℕ)) → (b ≡ false �
 form_and b form l h1 h2 = grind (arith, common_steps)
 
 -- no check applies to the operands behind the form
-row_passes : (row : Row) (operands list : List (List ℕ)) (os : ByKey) → behind_form row operands ≡ list → by_key list ≡ os → EachPasses row [] list
+row_passes : (row : Row) (operands list : List (List ℕ)) (os : ByKey) → operands_after_form row operands ≡ list → by_key list ≡ os → EachPasses row [] list
     → lacks_positional row os ≡ false → lacks_keyword row os ≡ false → list_any (is_half os) row.rules ≡ false → list_any (is_conflict os) row.rules ≡ false
     → first_of (row_checks operands (Some row)) ≡ None
 row_passes row operands list os front same each a b c d =
@@ -450,15 +450,15 @@ module _ (first : Bool) (task : List ℕ) (row : Row) (form : List ℕ) (places 
   row_is : row_of row.operation operands ≡ Some row
   row_is = found_first row (is_empty row.forms) form list refl ok.form_is (held IsFound table ok.in_table.0 row each_found ok.in_table.1)
 
-  front : behind_form row operands ≡ list
+  front : operands_after_form row operands ≡ list
   front = behind (is_empty row.forms) form list
 
-  same : by_key list ≡ said_by places pairs
+  same : by_key list ≡ by_spelling places pairs
   same = said_is places pairs (keyless row.positional places ok.places_fit) letters
 
   row_none : first_of (row_checks operands (Some row)) ≡ None
   row_none =
-      row_passes row operands list (said_by places pairs) front same (each_passes row places pairs letters ok.places_fit ok.pairs_fit ok.keys_once)
+      row_passes row operands list (by_spelling places pairs) front same (each_passes row places pairs letters ok.places_fit ok.pairs_fit ok.keys_once)
       ok.places_enough ok.keys_enough ok.none_half ok.no_conflict
 
   statement_none : (first && not (bytes_eq row.operation (codes "REGION"))) ≡ false → first_of (statement_checks first task row.operation operands) ≡ None
@@ -474,12 +474,12 @@ module _ (first : Bool) (task : List ℕ) (row : Row) (form : List ℕ) (places 
       ∙ (λ i. first_of (UnknownOperation when not (is_some (row_is i)) ∷ row_checks operands (row_is i)))
       ∙ row_none
 
-  said : said_with task (form_in row.operation operands) operands (row_of row.operation operands) ≡ (statement_of row.meaning form (said_by places pairs) >>= λ s. Some (line.Statement (padded task) s))
+  said : said_with task (form_in row.operation operands) operands (row_of row.operation operands) ≡ (statement_of row.meaning form (by_spelling places pairs) >>= λ s. Some (line.Statement (padded task) s))
   said =
       (λ i. said_with task (form_in row.operation operands) operands (row_is i))
       ∙ (λ i. statement_of row.meaning (form_in row.operation operands) (by_key (front i)) >>= λ s. Some (line.Statement (padded task) s))
       ∙ (λ i. statement_of row.meaning (form_in row.operation operands) (same i) >>= λ s. Some (line.Statement (padded task) s))
-      ∙ (λ i. said_first row (is_empty row.forms) form list (said_by places pairs) refl (held IsFormless table ok.in_table.0 row each_formless ok.in_table.1) i >>= λ s. Some (line.Statement (padded task) s))
+      ∙ (λ i. said_first row (is_empty row.forms) form list (by_spelling places pairs) refl (held IsFormless table ok.in_table.0 row each_formless ok.in_table.1) i >>= λ s. Some (line.Statement (padded task) s))
 
 pub allowed_is_read : AllowedIsRead
 allowed_is_read first task row form places pairs statement named ok begins short says = record {
@@ -541,7 +541,7 @@ found_exchanged key [] a b rest differ = by (bytes_eq a.0 key) (bytes_eq b.0 key
 found_exchanged key (p ∷ front) a b rest differ = ap (λ o. if bytes_eq p.0 key then Some p else o) (found_exchanged key front a b rest differ)
 
 said_exchanged : (places : List (List ℕ)) (front : List Pair) (a b : Pair) (rest : List Pair) → bytes_eq a.0 b.0 ≡ false
-    → said_by places (front ++ (a ∷ b ∷ rest)) ≡ said_by places (front ++ (b ∷ a ∷ rest))
+    → by_spelling places (front ++ (a ∷ b ∷ rest)) ≡ by_spelling places (front ++ (b ∷ a ∷ rest))
 said_exchanged places front a b rest differ = grind (arith, nat_tests, found_exchanged, under)
 
 fit_exchanged : (row : Row) (front : List Pair) (a b : Pair) (rest : List Pair) → AllByRecursion (FitsKey row) (front ++ (a ∷ b ∷ rest)) → AllByRecursion (FitsKey row) (front ++ (b ∷ a ∷ rest))
@@ -567,7 +567,7 @@ allowed_exchanged row form places front a b rest ok =
 
 -- what an allowed line says
 allowed_says : (first : Bool) (task : List ℕ) (row : Row) (form : List ℕ) (places : List (List ℕ)) (pairs : List Pair) → is_name task ≡ true → IsAllowed row form places pairs
-    → line_said (line_text task row.operation (all_operands row form places pairs)) ≡ (statement_of row.meaning form (said_by places pairs) >>= λ s. Some (line.Statement (padded task) s))
+    → line_meaning (line_text task row.operation (all_operands row form places pairs)) ≡ (statement_of row.meaning form (by_spelling places pairs) >>= λ s. Some (line.Statement (padded task) s))
 allowed_says first task row form places pairs named ok =
     line_says task row.operation (operands first task row form places pairs named ok) _ (cut first task row form places pairs named ok) (field first task row form places pairs named ok)
     ∙ said first task row form places pairs named ok

@@ -13,7 +13,7 @@ use Rattle.std.proofs.lemmas.Grind.{common_steps}
 use Rattle.mvs_model.proofs.Types.{Name}
 use Rattle.mvs_model.specs.Name.{name_cmp, same_name}
 use Rattle.mvs_model.specs.Finite.{has}
-use Rattle.mvs_model.specs.Owners.{Owners, Task, IsMother, Descends, subtask, further, IsFallen}
+use Rattle.mvs_model.specs.Owners.{Owners, Task, IsMother, Descends, subtask, further, AreDescendants}
 use Rattle.mvs_model.proofs.Orders.{name_cmp_total, same_name_is, same_name_self}
 use Rattle.mvs_model.proofs.Tests.{false_true, true_false}
 
@@ -171,7 +171,7 @@ module _ (o : Owners) (t : Name) where
   descendant_key x (further {m} d h) = is_key m x h
 
   -- the descendants are those of the tasks that were found
-  pub fallen_some : (names : List Name) × IsFallen o t names
+  pub fallen_some : (names : List Name) × AreDescendants o t names
   fallen_some =
       let names = filter found.0 (keys o.tasks) in (
         names,

@@ -8,7 +8,7 @@ use Rattle.mvs_model.specs.Name.{padded}
 use Rattle.mvs_model.specs.Grammar.{Row, table}
 use Rattle.mvs_model.specs.Reading.{LineOf, ByKey, form_of, is_conflict, is_empty, is_half, is_name, is_one_of, is_twice, lacks_keyword, lacks_positional, statement_of}
 use Rattle.mvs_model.specs.ReadingLaws.{keyed}
-use Rattle.mvs_model.specs.Spelling.{all_operands, line_text, Fits, FitPlaces, FitsKey, said_by}
+use Rattle.mvs_model.specs.Spelling.{all_operands, line_text, Fits, FitPlaces, FitsKey, by_spelling}
 use Rattle.mvs_model.specs.Spellings.{Operand, AllFit, in_front, filled}
 use Rattle.mvs_model.proofs.Allowed.{allowed_is_read}
 use Rattle.mvs_model.proofs.ReadingTaken.{bytes_same}
@@ -50,7 +50,7 @@ found_is key (o ∷ os) once =
     at (Some text) true e none later = ap (λ t. option_map (λ p. p.1) (if t then Some (o.key, text) else find (λ p. bytes_eq p.0 key) (filled os))) e
     at (Some text) false e none later = ap (λ t. option_map (λ p. p.1) (if t then Some (o.key, text) else find (λ p. bytes_eq p.0 key) (filled os))) e ∙ later
 
-said_is : (places : List (List ℕ)) (os : List Operand) → is_twice bytes_eq (keys_of os) ≡ false → said_by places (filled os) ≡ said places os
+said_is : (places : List (List ℕ)) (os : List Operand) → is_twice bytes_eq (keys_of os) ≡ false → by_spelling places (filled os) ≡ said places os
 said_is places os once = λ i. record { under = λ key. found_is key os once i; at = λ k. slice_get places k; count = length places }
 
 -- a key that no operand has, none that is written has

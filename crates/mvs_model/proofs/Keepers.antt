@@ -8,7 +8,7 @@ use Rattle.mvs_model.specs.Name.{same_name}
 use Rattle.mvs_model.specs.Finite.{has}
 use Rattle.mvs_model.specs.Subpool.{is_subpool_number, is_step_number}
 use Rattle.mvs_model.specs.Owners.{Owners, Task, job_step_task}
-use Rattle.mvs_model.specs.Kept.{IsFirst}
+use Rattle.mvs_model.specs.Consistent.{IsFirst}
 use Rattle.mvs_model.proofs.Orders.{same_name_is}
 use Rattle.mvs_model.proofs.Tests.{false_true, true_false}
 

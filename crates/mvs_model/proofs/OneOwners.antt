@@ -10,7 +10,7 @@ use Rattle.std.proofs.lemmas.Grind.{common_steps}
 use Rattle.mvs_model.proofs.Types.{Name, Residence}
 use Rattle.mvs_model.specs.Name.{name_cmp}
 use Rattle.mvs_model.specs.Gifts.{GiftsValue, shares}
-use Rattle.mvs_model.specs.Owners.{Owners, SubpoolOf, Enters, EntersBelow, none, passed, entered, handed, is_given, Attach, IsFallen, Ends}
+use Rattle.mvs_model.specs.Owners.{Owners, SubpoolOf, Enters, EntersBelow, none, passed, entered, handed, is_given, Attach, AreDescendants, Ends}
 use Rattle.mvs_model.proofs.Orders.{name_cmp_total, name_cmp-IsAntisymmetric, entry_cmp_total, entry_cmp-IsAntisymmetric}
 use Rattle.mvs_model.proofs.Elements.{later, first_or_later}
 use Rattle.mvs_model.proofs.Tests.{false_true, true_false}
@@ -82,7 +82,7 @@ one_list (x ∷ xs) (y ∷ ys) a b f g =
     (λ z c. elim (first_or_later z x xs (g z (later z y ys c))) [ inl e ↦ absurd (let h : name_cmp y z ≡ Less = below_y z c in let s : y ≡ z = sym same ∙ e in not_both z z (subst (λ w. name_cmp w z ≡ Less) s h) (subst (λ w. name_cmp w z ≡ Less) s h)) | inr d ↦ d ]) in
     λ i. same i ∷ rest i
 
-pub one_fallen : (o : Owners) (t : Name) (xs ys : List Name) → IsFallen o t xs → IsFallen o t ys → xs ≡ ys
+pub one_fallen : (o : Owners) (t : Name) (xs ys : List Name) → AreDescendants o t xs → AreDescendants o t ys → xs ≡ ys
 one_fallen o t xs ys a b = one_list xs ys a.sorted b.sorted (λ x c. (b.descendants x).1 ((a.descendants x).0 c)) (λ x c. (a.descendants x).1 ((b.descendants x).0 c))
 
 pub one_ends : (old : Owners) (t : Name) (fallen : List Name) (a b : Owners) → Ends old t fallen a → Ends old t fallen b → a ≡ b

@@ -13,7 +13,7 @@ use Rattle.mvs_model.specs.Name.{same_name}
 use Rattle.mvs_model.specs.Gifts.{GiftsValue, gives, shares}
 use Rattle.mvs_model.specs.Finite.{has, any_below}
 use Rattle.mvs_model.specs.Keyed.{keyed}
-use Rattle.mvs_model.specs.Owners.{Owners, Task, entry_cmp, entry, IsSpare, SubpoolOf, Binds, Enters, EntersBelow, none, passed, entered, handed, Attach, goes, ends_with, Ends}
+use Rattle.mvs_model.specs.Owners.{Owners, Task, entry_cmp, entry, IsSpare, SubpoolOf, Binds, Enters, EntersBelow, none, passed, entered, handed, Attach, is_among_ended, ends_with, Ends}
 use Rattle.mvs_model.proofs.Decide.{Decided, decided_eq}
 use Rattle.mvs_model.proofs.Orders.{name_cmp-IsAntisymmetric, entry_cmp_total, entry_cmp-IsAntisymmetric, same_entry_is, same_name_is, same_name_self, same_name_sym}
 use Rattle.mvs_model.proofs.Tables.{eq_by_cmp_is}
@@ -90,9 +90,9 @@ module _ (o : Owners) where
   -- the task and those that fall with it can go
   pub ends_some : (t : Name) (fallen : List Name) → (new : Owners) × Ends o t fallen new
   ends_some t fallen =
-      let tasks = made_keeps name_cmp-IsAntisymmetric o.tasks (λ x _. not (goes t fallen x)) in
-      let table = made_keeps entry_cmp-IsAntisymmetric o.table (λ e s. not (goes t fallen e.0 || ends_with o t fallen s)) in
-      let owner = made_keeps nat_cmp-IsAntisymmetric o.owner (λ _ x. not (goes t fallen x)) in (
+      let tasks = made_keeps name_cmp-IsAntisymmetric o.tasks (λ x _. not (is_among_ended t fallen x)) in
+      let table = made_keeps entry_cmp-IsAntisymmetric o.table (λ e s. not (is_among_ended t fallen e.0 || ends_with o t fallen s)) in
+      let owner = made_keeps nat_cmp-IsAntisymmetric o.owner (λ _ x. not (is_among_ended t fallen x)) in (
         record { tasks = tasks.0; table = table.0; owner = owner.0 },
         record { tasks = tasks.1; table = table.1; owner = owner.1 },
       )

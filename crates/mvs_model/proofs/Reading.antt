@@ -7,7 +7,7 @@ use Rattle.mvs_model.proofs.Types.{Line, Fault, Form}
 use Rattle.mvs_model.specs.declared.line.Line.TheVariants as line
 use Rattle.mvs_model.specs.Name.{padded}
 use Rattle.mvs_model.specs.Grammar.{Row, Together, Kind, Number, Name, Obtains, first_needs, table, region, getmain_fixed, getmain_fixed_placed, getmain_variable, getmain_variable_placed, getmain_list, storage_obtain, freemain_or_whole, freemain_place, freemain_area, freemain_list, storage_release, cpool_build, cpool_get, cpool_free, cpool_delete, attach, return_row, abend, put, show, move, where_row, report}
-use Rattle.mvs_model.specs.Reading.{LineOf, FaultOf, line_said, first_of, checks, ◌>>=◌, ByKey, by_key, positionals, lacks_positional, lacks_keyword, is_half, statement_of, release_of, row_of, behind_form, form_in, operation_in, operands_of, says_nothing, row_checks, statement_checks, task_in, rows_of, form_of}
+use Rattle.mvs_model.specs.Reading.{LineOf, FaultOf, line_meaning, first_of, checks, ◌>>=◌, ByKey, by_key, positionals, lacks_positional, lacks_keyword, is_half, statement_of, release_of, row_of, operands_after_form, form_in, operation_in, operands_of, is_blank_or_comment, row_checks, statement_checks, task_in, rows_of, form_of}
 use Rattle.mvs_model.specs.ReadingLaws.{Reading, Said, Wrong, OneReading}
 use Rattle.mvs_model.proofs.Tests.{false_true, none_some, true_false}
 pub use Rattle.std.proofs.lemmas.Bool.{or_parts as or_false, not-false as not_false}
@@ -183,13 +183,13 @@ none_behind (check ∷ front) behind e = none_behind front behind (none_first ch
 
 -- the row of a statement without a fault has what it needs
 pub row_says : (form : List ℕ) (operands : List (List ℕ)) (row : Row) → IsEnough row → first_of (row_checks operands (Some row)) ≡ None
-    → is_some (statement_of row.meaning form (by_key (behind_form row operands))) ≡ true
+    → is_some (statement_of row.meaning form (by_key (operands_after_form row operands))) ≡ true
 row_says form operands row h1 h2 = grind (arith, nat_tests, none_first, none_behind)
 
 -- so the line says something
 abbrev pub said_with : List ℕ → List ℕ → List (List ℕ) → Option Row → Option Line
 said_with task form operands row =
-    row >>= λ row. statement_of row.meaning form (by_key (behind_form row operands)) >>= λ statement. Some (line.Statement (padded task) statement)
+    row >>= λ row. statement_of row.meaning form (by_key (operands_after_form row operands)) >>= λ statement. Some (line.Statement (padded task) statement)
 
 with_row : (task form : List ℕ) (operands : List (List ℕ)) (o : Option Row) → ((row : Row) → o ≡ Some row → IsEnough row) → is_some o ≡ true
     → first_of (row_checks operands o) ≡ None → is_some (said_with task form operands o) ≡ true
@@ -219,20 +219,20 @@ with_statement first task operation operands e =
     with_row task (form_in operation operands) operands (row_of operation operands) (known_row operation operands) (not-false (is_some (row_of operation operands)) known) (none_later 5 all e)
 
 -- a line without a fault says something
-says_some : (first : Bool) (bytes : List ℕ) → first_of (checks first bytes) ≡ None → is_some (line_said bytes) ≡ true
+says_some : (first : Bool) (bytes : List ℕ) → first_of (checks first bytes) ≡ None → is_some (line_meaning bytes) ≡ true
 says_some first bytes e =
-    (elim (says_nothing bytes) as (λ b. first_of (if b then [] else statement_checks first (task_in bytes) (operation_in bytes) (operands_of bytes)) ≡ None → is_some (if b then Some line.Nothing else said_with (task_in bytes) (form_in (operation_in bytes) (operands_of bytes)) (operands_of bytes) (row_of (operation_in bytes) (operands_of bytes))) ≡ true) [
+    (elim (is_blank_or_comment bytes) as (λ b. first_of (if b then [] else statement_checks first (task_in bytes) (operation_in bytes) (operands_of bytes)) ≡ None → is_some (if b then Some line.Nothing else said_with (task_in bytes) (form_in (operation_in bytes) (operands_of bytes)) (operands_of bytes) (row_of (operation_in bytes) (operands_of bytes))) ≡ true) [
       | true ↦ λ e. refl
       | false ↦ λ e. with_statement first (task_in bytes) (operation_in bytes) (operands_of bytes) e
     ]) (none_later 2 (checks first bytes) e)
 
 -- what is said, and which fault applies
-said_by : (first : Bool) (bytes : List ℕ) → first_of (checks first bytes) ≡ None → (o : Option Line) → line_said bytes ≡ o → is_some o ≡ true → Reading first bytes
+said_by : (first : Bool) (bytes : List ℕ) → first_of (checks first bytes) ≡ None → (o : Option Line) → line_meaning bytes ≡ o → is_some o ≡ true → Reading first bytes
 said_by first bytes n None e s = false_true s
 said_by first bytes n (Some l) e s = Said l (record { no_fault = n; says = e })
 
 read_by : (first : Bool) (bytes : List ℕ) (o : Option Fault) → first_of (checks first bytes) ≡ o → Reading first bytes
-read_by first bytes None e = said_by first bytes e (line_said bytes) refl (says_some first bytes e)
+read_by first bytes None e = said_by first bytes e (line_meaning bytes) refl (says_some first bytes e)
 read_by first bytes (Some fault) e = Wrong fault e
 
 pub one_reading : OneReading

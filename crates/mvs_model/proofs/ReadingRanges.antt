@@ -9,14 +9,14 @@ use Rattle.mvs_model.specs.Want.{IsExponent, IsAsk}
 use Rattle.mvs_model.specs.Gifts.{IsGifts}
 use Rattle.mvs_model.specs.Lines.{IsStatement}
 use Rattle.mvs_model.specs.Grammar.{Row, region, getmain_fixed, getmain_fixed_placed, getmain_variable, getmain_variable_placed, getmain_list, storage_obtain, freemain_or_whole, freemain_place, freemain_area, freemain_list, storage_release, cpool_build, cpool_get, cpool_free, cpool_delete, attach, return_row, abend, put, show, move, where_row, report}
-use Rattle.mvs_model.specs.Reading.{first_of, operand_checks, with_left, if_kind, is_of, value_of, ◌>>=◌, statement_of, number, is_number, is_in_range, is_list, is_pair, is_pair_in_range, items, smallest, largest, asking, is_conflict, positionals, by_key, ByKey, release_of, form_of, set_of, numbers_in, presents, has}
+use Rattle.mvs_model.specs.Reading.{first_of, operand_checks, with_left, if_kind, is_of, value_of, ◌>>=◌, statement_of, number, is_number, is_in_range, is_list, is_pair, is_pair_in_range, items, smallest, largest, ask_for, is_conflict, positionals, by_key, ByKey, release_of, form_of, set_of, numbers_in, presents, has}
 use Rattle.std.proofs.Common.{pow-suc}
 use Rattle.std.proofs.lemmas.Nat.{and_comm, and_or_apart, pow_apart, or_mod}
 use Rattle.mvs_model.specs.Grammar.{table}
 use Rattle.mvs_model.specs.declared.line.Line.TheVariants as line
 use Rattle.mvs_model.specs.Name.{padded}
 use Rattle.mvs_model.specs.Lines.{IsLine}
-use Rattle.mvs_model.specs.Reading.{LineOf, checks, says_nothing, statement_checks, row_checks, row_of, rows_of, behind_form, form_in, task_in, operation_in, operands_of}
+use Rattle.mvs_model.specs.Reading.{LineOf, checks, is_blank_or_comment, statement_checks, row_checks, row_of, rows_of, operands_after_form, form_in, task_in, operation_in, operands_of}
 use Rattle.mvs_model.proofs.Reading.{found_has, passing_have, said_with, none_first, none_behind, none_later, first_fails}
 use Rattle.mvs_model.proofs.ReadingTaken.{none_in_front, bytes_same}
 use Rattle.mvs_model.specs.ReadingLaws.{keyed}
@@ -66,7 +66,7 @@ of_exponent text r = bounds 3 31 text r
 abbrev pub AreTaken : Row → List (List ℕ) → Type 0
 AreTaken row os = first_of (flat_map (operand_checks row) (with_left os)) ≡ None
 
-asking_fits : (n : List ℕ) (os : List (List ℕ)) → Fit n → ((text : List ℕ) → value_of (codes "STARTBDY") os ≡ Some text → IsExponent (number text)) → ((text : List ℕ) → value_of (codes "CONTBDY") os ≡ Some text → IsExponent (number text)) → IsAsk (asking n (by_key os))
+asking_fits : (n : List ℕ) (os : List (List ℕ)) → Fit n → ((text : List ℕ) → value_of (codes "STARTBDY") os ≡ Some text → IsExponent (number text)) → ((text : List ℕ) → value_of (codes "CONTBDY") os ≡ Some text → IsExponent (number text)) → IsAsk (ask_for n (by_key os))
 asking_fits n os fit start within = grind (arith, nat_tests)
 
 -- ---- the rows
@@ -268,7 +268,7 @@ row_found operation operands row e = (
 
 row_ranged : (first : Bool) (t form operation : List ℕ) (operands : List (List ℕ)) (row : Row) (s : Statement) → IsRow row operation
     → (first && not (bytes_eq operation (codes "REGION"))) ≡ false
-    → first_of (row_checks operands (Some row)) ≡ None → statement_of row.meaning form (by_key (behind_form row operands)) ≡ Some s → IsStatement first t s
+    → first_of (row_checks operands (Some row)) ≡ None → statement_of row.meaning form (by_key (operands_after_form row operands)) ≡ Some s → IsStatement first t s
 row_ranged first t form operation operands row s h1 h2 h3 h4 = grind (arith, nat_tests, first_fails, none_behind, none_first, none_in_front)
 
 statement_ranged : (first : Bool) (task operation : List ℕ) (operands : List (List ℕ)) (l : Line) → first_of (statement_checks first task operation operands) ≡ None
@@ -281,13 +281,13 @@ statement_ranged first task operation operands l e says =
           → (o : Option Row) → row_of operation operands ≡ o → said_with task (form_in operation operands) operands o ≡ Some l → IsLine first (Ok l)
       at place rest None found says = none_some says
       at place rest (Some row) found says =
-          bind_has (λ l. IsLine first (Ok l)) (statement_of row.meaning (form_in operation operands) (by_key (behind_form row operands))) _ l says (λ s es e.
+          bind_has (λ l. IsLine first (Ok l)) (statement_of row.meaning (form_in operation operands) (by_key (operands_after_form row operands))) _ l says (λ s es e.
           some_has (λ l. IsLine first (Ok l)) _ l e (row_ranged first (padded task) (form_in operation operands) operation operands row s (row_found operation operands row found) place (ap (λ o. first_of (row_checks operands o)) (sym found) ∙ rest) es))
 
 -- a line that is read is in its ranges, and the first statement is REGION
 pub line_ranged : (first : Bool) (bytes : List ℕ) (l : Line) → LineOf first bytes l → IsLine first (Ok l)
 line_ranged first bytes l is =
-    (elim (says_nothing bytes) as (λ b. first_of (if b then [] else statement_checks first (task_in bytes) (operation_in bytes) (operands_of bytes)) ≡ None → (if b then Some line.Nothing else said_with (task_in bytes) (form_in (operation_in bytes) (operands_of bytes)) (operands_of bytes) (row_of (operation_in bytes) (operands_of bytes))) ≡ Some l → IsLine first (Ok l)) [
+    (elim (is_blank_or_comment bytes) as (λ b. first_of (if b then [] else statement_checks first (task_in bytes) (operation_in bytes) (operands_of bytes)) ≡ None → (if b then Some line.Nothing else said_with (task_in bytes) (form_in (operation_in bytes) (operands_of bytes)) (operands_of bytes) (row_of (operation_in bytes) (operands_of bytes))) ≡ Some l → IsLine first (Ok l)) [
       | true ↦ λ e says. some_has (λ l. IsLine first (Ok l)) _ l says tt
       | false ↦ λ e says. statement_ranged first (task_in bytes) (operation_in bytes) (operands_of bytes) l e says
     ]) (none_later 2 (checks first bytes) is.no_fault) is.says

@@ -3,7 +3,7 @@ use Rattle.std.proofs.Common.{◌≡◌, Bool, List, ℕ, [], ◌∷◌, not, sy
 use Rattle.std.specs.List.{list_any}
 use Rattle.mvs_model.proofs.Types.{TooLong, InvalidByte}
 use Rattle.mvs_model.specs.declared.line.Line.TheVariants as line
-use Rattle.mvs_model.specs.Reading.{checks, first_of, line_said, statement_checks, operands_in, rows_of, row_of, form_in, ◌when◌}
+use Rattle.mvs_model.specs.Reading.{checks, first_of, line_meaning, statement_checks, operands_in, rows_of, row_of, form_in, ◌when◌}
 use Rattle.mvs_model.specs.ReadingLaws.{SameWords, OnlyWords}
 use Rattle.mvs_model.proofs.Reading.{said_with}
 
@@ -17,7 +17,7 @@ checks_same first a b h = λ i.
     ∷ InvalidByte when not (h.bytes_same i)
     ∷ (if h.nothing_same i then [] else statement_checks first (h.task_same i) (unwrap_or (h.operation_same i) []) (operands_by (unwrap_or (h.operation_same i) []) (h.field_same i)))
 
-said_same : (a b : List ℕ) → SameWords a b → line_said a ≡ line_said b
+said_same : (a b : List ℕ) → SameWords a b → line_meaning a ≡ line_meaning b
 said_same a b h = λ i.
     let operation = unwrap_or (h.operation_same i) [] in
     let operands = operands_by operation (h.field_same i) in

@@ -4,7 +4,7 @@ use Rattle.std.proofs.lemmas.Bool.Decides.{nat_tests}
 use Rattle.std.proofs.lemmas.Grind.{common_steps}
 use Rattle.mvs_model.specs.Want.{WantValue}
 use Rattle.mvs_model.specs.Place.{PlaceValue, place_at}
-use Rattle.mvs_model.specs.Storage.{Regions, LiesIn, Covers, MayTake, Open, Meets, Places, Chosen, NoPlace}
+use Rattle.mvs_model.specs.Storage.{Regions, IsBetween, Covers, MayTake, Open, Meets, Places, Chosen, NoPlace}
 use Rattle.mvs_model.proofs.Decide.{Decided, decided_and, decided_or, decided_implies, decided_like, decided_lt, decided_le, decided_eq, decided_some, decided_all, greatest_below}
 
 decided_none : (o : Option ℕ) → Decided (o ≡ None)
@@ -36,7 +36,7 @@ module _ (holder : ℕ → Option ℕ) (s : ℕ) where
   decided_open r p =
       decided_like (λ h. record { inside = h.0; each = h.1 }) (λ o. (o.inside, o.each))
       (decided_and (decided_or (lies 0x6000 (0x6000 + 4096 * r.below)) (lies 0x1000000 (0x1000000 + 4096 * r.above))) (decided_each p)) where
-        lies : (from to : ℕ) → Decided (LiesIn from to p)
+        lies : (from to : ℕ) → Decided (IsBetween from to p)
         lies from to = decided_and (decided_le from p.addr) (decided_le (p.addr + p.len) to)
 
 decided_meets : (want : WantValue) (p : PlaceValue) → Decided (Meets want p)

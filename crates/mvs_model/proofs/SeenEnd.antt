@@ -6,7 +6,7 @@ use Rattle.mvs_model.proofs.Types.{Name, Code, Abended}
 use Rattle.mvs_model.specs.Name.{name_cmp}
 use Rattle.mvs_model.specs.Finite.{Keeps, kept, has}
 use Rattle.mvs_model.specs.Storage.{Storage, holder as held_by, IsStorage, is_one_of, ReleaseEach}
-use Rattle.mvs_model.specs.Owners.{Owners, IsFallen, ends_with, Ends}
+use Rattle.mvs_model.specs.Owners.{Owners, AreDescendants, ends_with, Ends}
 use Rattle.mvs_model.specs.Pools.{Pool}
 use Rattle.mvs_model.specs.View.{state_of}
 use Rattle.mvs_model.specs.Changes.{End, Drops}
@@ -32,7 +32,7 @@ keeps_none f name = kept_all (f name)
 
 -- the end of a task, whose subpools and those of its descendants were released with their pools
 module _ (st new : Storage) (o after : Owners) (pools fewer : FinMap name_cmp Pool) (t : Name) (fallen : List Name) (freed : List ℕ) (is : IsStorage st) (now : IsStorage new) (stand : Stand st pools) (stands : Stand new fewer)
-    (is_fallen : IsFallen o t fallen) (ends : Ends o t fallen after) (frees : (s : ℕ) → Contains freed s ↔ (ends_with o t fallen s ≡ true)) (each : ReleaseEach st freed new)
+    (is_fallen : AreDescendants o t fallen) (ends : Ends o t fallen after) (frees : (s : ℕ) → Contains freed s ↔ (ends_with o t fallen s ≡ true)) (each : ReleaseEach st freed new)
     (less : Keeps (get pools) (λ _ p. not (is_one_of freed p.subpool)) (get fewer)) where
   freed_is : is_one_of freed ≡ ends_with o t fallen
   freed_is = λ i s. same_test _ _ (λ e. (frees s).0 (contained_one_of freed s e)) (λ e. one_of_contained freed s ((frees s).1 e)) i

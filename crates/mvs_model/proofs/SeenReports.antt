@@ -5,7 +5,7 @@ use Rattle.std.proofs.lemmas.Bool.Decides.{nat_tests}
 use Rattle.mvs_model.proofs.Types.{Name}
 use Rattle.mvs_model.specs.Finite.{has}
 use Rattle.mvs_model.specs.Owners.{Owners, entry}
-use Rattle.mvs_model.specs.Kept.{OwnersKept}
+use Rattle.mvs_model.specs.Consistent.{OwnersConsistent}
 use Rattle.mvs_model.proofs.Keepers.{number_low}
 use Rattle.mvs_model.specs.Reports.{first_from, number_of}
 use Rattle.mvs_model.proofs.Tests.{none_some}
@@ -41,7 +41,7 @@ module _ {X : Type 0} where
         ]
 
 -- the number under which a subpool stands is the one that its owner has for it
-pub number_kept : (o : Owners) (t : Name) (n s : ℕ) → OwnersKept o → entry o t n ≡ Some s → number_of o t s ≡ Some n
+pub number_kept : (o : Owners) (t : Name) (n s : ℕ) → OwnersConsistent o → entry o t n ≡ Some s → number_of o t s ≡ Some n
 number_kept o t n s kept is =
     first_only 0 133 n (λ m. cond (has (λ r. r == s) (entry o t m)) (Some m) None) n (omega arith) (number_low n (kept.numbers t n s is))
     (ap (λ v. cond (has (λ r. r == s) v) (Some n) None) is ∙ ap (λ b. cond b (Some n) None) (let e : (s == s) ≡ true = grind (arith, nat_tests) in e))

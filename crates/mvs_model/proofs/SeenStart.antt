@@ -10,7 +10,7 @@ use Rattle.mvs_model.specs.Owners.{Owners}
 use Rattle.mvs_model.specs.State.{granted}
 use Rattle.mvs_model.specs.Card.{CardValue}
 use Rattle.mvs_model.specs.Start.{regions_of, first_owners, start}
-use Rattle.mvs_model.specs.View.{in_pools, behind, holding, without_bytes, seen}
+use Rattle.mvs_model.specs.View.{in_pools, past_regions, holding, without_bytes, seen}
 use Rattle.mvs_model.proofs.Tables.{get-table_all, same_maps}
 use Rattle.mvs_model.proofs.Made.{get-retained}
 
@@ -28,7 +28,7 @@ none_bare r d = ap (option_map (λ s. record { subpool = s; pooled = in_pools em
 
 held_bare : (r : Regions) (o : Owners) → (seen (bare r) o).held ≡ empty
 unfolding bare
-held_bare r o = same_maps _ _ (λ d. get-table_all (behind r) (holding (bare r) empty) (λ k l. none_bare r k) d ∙ none_bare r d ∙ sym (get-empty nat_cmp d))
+held_bare r o = same_maps _ _ (λ d. get-table_all (past_regions r) (holding (bare r) empty) (λ k l. none_bare r k) d ∙ none_bare r d ∙ sym (get-empty nat_cmp d))
 
 bytes_bare : (r : Regions) (o : Owners) → (seen (bare r) o).bytes ≡ empty
 unfolding bare

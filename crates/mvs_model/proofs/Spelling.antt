@@ -5,7 +5,7 @@ use Rattle.std.proofs.lemmas.Bool.{and_from, and_parts, not-true}
 use Rattle.std.proofs.lemmas.Bool.Decides.{nat_tests}
 use Rattle.std.proofs.lemmas.List.Folds.{list_all-append}
 use Rattle.std.proofs.lemmas.List.Splits.{slice_split-cons_no}
-use Rattle.mvs_model.specs.Reading.{is_empty, is_name, is_name_byte, says_nothing, words, operands_in, parts_within}
+use Rattle.mvs_model.specs.Reading.{is_empty, is_name, is_name_byte, is_blank_or_comment, words, operands_in, parts_within}
 use Rattle.mvs_model.specs.Spelling.{joined, line_text, closes, IsWord, IsOperand, IsCut, CutApart}
 
 -- ---- tests
@@ -105,7 +105,7 @@ name_bytes name h1 = grind (arith, nat_tests)
 pub name_word : (name : List ℕ) → is_name name ≡ true → IsWord name
 name_word name h1 = grind (arith, nat_tests, all_weaker, name_is_printed, name_bytes)
 
-pub says_something : (name rest : List ℕ) → is_name name ≡ true → says_nothing (name ++ rest) ≡ false
+pub says_something : (name rest : List ℕ) → is_name name ≡ true → is_blank_or_comment (name ++ rest) ≡ false
 says_something name rest h1 = grind (arith, nat_tests)
 
 pub plain_word : (a : List ℕ) → IsWord a → list_all plain a ≡ true

@@ -13,7 +13,7 @@ use Rattle.mvs_model.specs.Name.{padded}
 use Rattle.mvs_model.specs.Grammar.{Number, DistinctNumbers, Word, Row, region, getmain_fixed, getmain_fixed_placed, getmain_variable, getmain_variable_placed, getmain_list, storage_obtain, freemain_or_whole, freemain_place, freemain_area, freemain_list, storage_release, cpool_build, cpool_get, cpool_free, cpool_delete, attach, abend, put, show, move, where_row, report}
 use Rattle.mvs_model.specs.Reading.{◌when◌, first_of, form_in, operands_in, operands_of, row_of, rows_of, statement_checks, words, ByKey, form_of, has_key, hex_number, is_conditional, is_digit, is_empty, is_list, is_number, is_one_of, is_text, items, largest, location, number, numbers_in, set_of, smallest}
 use Rattle.mvs_model.specs.Spelling.{line_text, Fits, IsOperand}
-use Rattle.mvs_model.specs.Spellings.{EachIsSaid, Says, SaysFixed, SaysPlaced, SaysVariable, SaysVariablePlaced, SaysList, SaysRelease, SaysWhole, SaysArea, SaysReleaseList, SaysGet, SaysAttach, AllFit, NotBoth, asked, fill_said, length_kind, lengths_kind, number_said, numbers_said, placed_operands, residence_said, sized_operands, start_said}
+use Rattle.mvs_model.specs.Spellings.{EachIsSpelled, SpellsStatement, SpellsFixed, SpellsPlaced, SpellsVariable, SpellsVariablePlaced, SpellsList, SpellsRelease, SpellsWhole, SpellsArea, SpellsReleaseList, SpellsGet, SpellsAttach, AllFit, NotBoth, spelled_ask, fill_spelling, length_kind, lengths_kind, number_spelling, numbers_spelling, placed_operands, residence_spelling, sized_operands, start_spelling}
 use Rattle.mvs_model.proofs.Filled.{said, filled_is_read, filled_form_is_read}
 use Rattle.mvs_model.proofs.Reading.{said_with}
 use Rattle.mvs_model.proofs.Spelling.{cut_apart}
@@ -45,62 +45,62 @@ a_pair n fits = (and_parts (is_list n) _ (and_parts (is_list n && (length (items
 abbrev IsWordOf : Row → List ℕ → Form → Type 0
 IsWordOf row word f = ((is_empty row.forms || is_one_of row.forms word) ≡ true) × ((os : ByKey) → form_of word os ≡ f)
 
-fixed : (word : List ℕ) (f : Form) → IsWordOf getmain_fixed word f → SaysFixed word f
+fixed : (word : List ℕ) (f : Form) → IsWordOf getmain_fixed word f → SpellsFixed word f
 fixed word f is n area sub boundary fit =
     let os = sized_operands length_kind n area sub boundary in
     let fits : Fits length_kind n = fit.each.0 in
     filled_is_read false 1 getmain_fixed word [] os _ refl is.0 refl refl tt refl refl
-    (λ i. Some (says.Request (written.Obtain (is.1 (said [] os) i) (number_said 0 sub) (asked (smallest_is n fits i) (largest_is n fits i) boundary None None None) (no_list _ _ n fits i) (padded area)))) fit
+    (λ i. Some (says.Request (written.Obtain (is.1 (said [] os) i) (number_spelling 0 sub) (spelled_ask (smallest_is n fits i) (largest_is n fits i) boundary None None None) (no_list _ _ n fits i) (padded area)))) fit
 
-variable : (word : List ℕ) (f : Form) → IsWordOf getmain_variable word f → SaysVariable word f
+variable : (word : List ℕ) (f : Form) → IsWordOf getmain_variable word f → SpellsVariable word f
 variable word f is n area sub boundary fit =
     let os = sized_operands lengths_kind n area sub boundary in
     filled_is_read false 3 getmain_variable word [] os _ refl is.0 refl refl tt refl refl
-    (λ i. Some (says.Request (written.Obtain (is.1 (said [] os) i) (number_said 0 sub) (asked (smallest n) (largest n) boundary None None None) (a_pair n fit.each.0 i) (padded area)))) fit
+    (λ i. Some (says.Request (written.Obtain (is.1 (said [] os) i) (number_spelling 0 sub) (spelled_ask (smallest n) (largest n) boundary None None None) (a_pair n fit.each.0 i) (padded area)))) fit
 
 -- BNDRY with neither STARTBDY nor CONTBDY
 no_conflict : (boundary start within : Option (List ℕ)) → NotBoth boundary start → NotBoth boundary within → ((is_some boundary && is_some start) || ((is_some boundary && is_some within) || false)) ≡ false
 no_conflict boundary start within one other = λ i. one i || (other i || false)
 
-placed : (word : List ℕ) (f : Form) → IsWordOf getmain_fixed_placed word f → SaysPlaced word f
+placed : (word : List ℕ) (f : Form) → IsWordOf getmain_fixed_placed word f → SpellsPlaced word f
 placed word f is n area sub boundary place start within one other fit =
     let os = placed_operands length_kind n area sub boundary place start within in
     let fits : Fits length_kind n = fit.each.0 in
     filled_is_read false 2 getmain_fixed_placed word [] os _ refl is.0 refl refl tt (no_conflict boundary start within one other) refl
-    (λ i. Some (says.Request (written.Obtain (is.1 (said [] os) i) (number_said 0 sub) (asked (smallest_is n fits i) (largest_is n fits i) boundary place start within) (no_list _ _ n fits i) (padded area)))) fit
+    (λ i. Some (says.Request (written.Obtain (is.1 (said [] os) i) (number_spelling 0 sub) (spelled_ask (smallest_is n fits i) (largest_is n fits i) boundary place start within) (no_list _ _ n fits i) (padded area)))) fit
 
-variable_placed : (word : List ℕ) (f : Form) → IsWordOf getmain_variable_placed word f → SaysVariablePlaced word f
+variable_placed : (word : List ℕ) (f : Form) → IsWordOf getmain_variable_placed word f → SpellsVariablePlaced word f
 variable_placed word f is n area sub boundary place start within one other fit =
     let os = placed_operands lengths_kind n area sub boundary place start within in
     filled_is_read false 4 getmain_variable_placed word [] os _ refl is.0 refl refl tt (no_conflict boundary start within one other) refl
-    (λ i. Some (says.Request (written.Obtain (is.1 (said [] os) i) (number_said 0 sub) (asked (smallest n) (largest n) boundary place start within) (a_pair n fit.each.0 i) (padded area)))) fit
+    (λ i. Some (says.Request (written.Obtain (is.1 (said [] os) i) (number_spelling 0 sub) (spelled_ask (smallest n) (largest n) boundary place start within) (a_pair n fit.each.0 i) (padded area)))) fit
 
 -- as many items under each of two keys
 as_many : (one other : List ℕ) → (length (items one) == length (items other)) ≡ true → (not (length (items one) == length (items other)) || false) ≡ false
 as_many one other same = ap (λ t. not t || false) same
 
-list : (word : List ℕ) (f : Form) → IsWordOf getmain_list word f → SaysList word f
+list : (word : List ℕ) (f : Form) → IsWordOf getmain_list word f → SpellsList word f
 list word f is n areas sub boundary same =
-    filled_form_is_read 5 getmain_list word _ f (λ t. says.Request (written.ObtainList t (number_said 0 sub) (map number (items n)) (start_said boundary None) (map padded (items areas))))
+    filled_form_is_read 5 getmain_list word _ f (λ t. says.Request (written.ObtainList t (number_spelling 0 sub) (map number (items n)) (start_spelling boundary None) (map padded (items areas))))
     refl is.0 is.1 refl refl (as_many n areas same) refl
 
 -- ---- FREEMAIN
 
-release : (word : List ℕ) (f : Form) → IsWordOf freemain_or_whole word f → SaysRelease word f
-release word f is n address sub = filled_form_is_read 7 freemain_or_whole word _ f (λ t. says.Request (written.Release t (number_said 0 sub) (location address) (number n))) refl is.0 is.1 refl refl refl refl
+release : (word : List ℕ) (f : Form) → IsWordOf freemain_or_whole word f → SpellsRelease word f
+release word f is n address sub = filled_form_is_read 7 freemain_or_whole word _ f (λ t. says.Request (written.Release t (number_spelling 0 sub) (location address) (number n))) refl is.0 is.1 refl refl refl refl
 
-whole : (word : List ℕ) (f : Form) → IsWordOf freemain_or_whole word f → SaysWhole word f
-whole word f is sub = filled_form_is_read 7 freemain_or_whole word _ f (λ t. says.Request (written.ReleaseWhole t (number_said 0 sub))) refl is.0 is.1 refl refl refl refl
+whole : (word : List ℕ) (f : Form) → IsWordOf freemain_or_whole word f → SpellsWhole word f
+whole word f is sub = filled_form_is_read 7 freemain_or_whole word _ f (λ t. says.Request (written.ReleaseWhole t (number_spelling 0 sub))) refl is.0 is.1 refl refl refl refl
 
-release_place : (word : List ℕ) (f : Form) → IsWordOf freemain_place word f → SaysRelease word f
-release_place word f is n address sub = filled_form_is_read 8 freemain_place word _ f (λ t. says.Request (written.Release t (number_said 0 sub) (location address) (number n))) refl is.0 is.1 refl refl refl refl
+release_place : (word : List ℕ) (f : Form) → IsWordOf freemain_place word f → SpellsRelease word f
+release_place word f is n address sub = filled_form_is_read 8 freemain_place word _ f (λ t. says.Request (written.Release t (number_spelling 0 sub) (location address) (number n))) refl is.0 is.1 refl refl refl refl
 
-release_area : (word : List ℕ) (f : Form) → IsWordOf freemain_area word f → SaysArea word f
-release_area word f is area sub = filled_form_is_read 9 freemain_area word _ f (λ t. says.Request (written.ReleaseArea t (number_said 0 sub) (padded area))) refl is.0 is.1 refl refl refl refl
+release_area : (word : List ℕ) (f : Form) → IsWordOf freemain_area word f → SpellsArea word f
+release_area word f is area sub = filled_form_is_read 9 freemain_area word _ f (λ t. says.Request (written.ReleaseArea t (number_spelling 0 sub) (padded area))) refl is.0 is.1 refl refl refl refl
 
-release_list : (word : List ℕ) (f : Form) → IsWordOf freemain_list word f → SaysReleaseList word f
+release_list : (word : List ℕ) (f : Form) → IsWordOf freemain_list word f → SpellsReleaseList word f
 release_list word f is n addresses sub same =
-    filled_form_is_read 10 freemain_list word _ f (λ t. says.Request (written.ReleaseList t (number_said 0 sub) (map location (items addresses)) (map number (items n))))
+    filled_form_is_read 10 freemain_list word _ f (λ t. says.Request (written.ReleaseList t (number_spelling 0 sub) (map location (items addresses)) (map number (items n))))
     refl is.0 is.1 refl refl (as_many n addresses same) refl
 
 -- ---- CPOOL GET
@@ -109,24 +109,24 @@ release_list word f is n addresses sub same =
 a_word : (word : List ℕ) (words : List (List ℕ)) → is_one_of words word ≡ true → IsOperand word → Fits (Word words) word
 a_word word words one is = record { of_kind = one; within = refl; once = refl; operand = is }
 
-got : (word : List ℕ) → is_one_of (codes "COND" ∷ codes "C" ∷ codes "UNCOND" ∷ codes "U" ∷ []) word ≡ true → IsOperand word → has_key word ≡ false → SaysGet (word ∷ []) (is_conditional (Some word))
+got : (word : List ℕ) → is_one_of (codes "COND" ∷ codes "C" ∷ codes "UNCOND" ∷ codes "U" ∷ []) word ≡ true → IsOperand word → has_key word ≡ false → SpellsGet (word ∷ []) (is_conditional (Some word))
 got word one is no_key pool cell = filled_is_read false 13 cpool_get (codes "GET") (word ∷ []) _ _ refl refl refl refl (a_word word _ one is, no_key, tt) refl refl refl
 
 -- ---- ATTACH
 
 -- a number, or the numbers of a list
-numbers_are : (one all : Option (List ℕ)) → NotBoth one all → IfSome one (Fits (Number 1 127)) → IfSome all (Fits (DistinctNumbers 1 127)) → numbers_in one ++ numbers_in all ≡ numbers_said one all
+numbers_are : (one all : Option (List ℕ)) → NotBoth one all → IfSome one (Fits (Number 1 127)) → IfSome all (Fits (DistinctNumbers 1 127)) → numbers_in one ++ numbers_in all ≡ numbers_spelling one all
 numbers_are one all h1 h2 h3 = grind (arith, nat_tests, no_list)
 
-attached : SaysAttach
+attached : SpellsAttach
 attached name gives gives_all shares shares_all zero home one other apart fit =
     let given = numbers_are gives gives_all one fit.each.1.0 fit.each.1.1.0 in
     let shared = numbers_are shares shares_all other fit.each.1.1.1.0 fit.each.1.1.1.1.0 in
     filled_is_read false 16 attach [] [] _ _ refl refl refl refl tt
     ((λ i. one i || (other i || (list_any (λ n. list_any (◌==◌ n) (shared i)) (given i) || false))) ∙ ap (λ t. t || false) apart) refl
-    (λ i. Some (says.Request (written.Attach (padded name) (record { given = set_of (given i); shared = set_of (shared i); zero = not (is_text (codes "NO") zero) }) (residence_said home)))) fit
+    (λ i. Some (says.Request (written.Attach (padded name) (record { given = set_of (given i); shared = set_of (shared i); zero = not (is_text (codes "NO") zero) }) (residence_spelling home)))) fit
 
-return_read : Says (codes "RETURN") [] (says.Request written.Return)
+return_read : SpellsStatement (codes "RETURN") [] (says.Request written.Return)
 return_read task named short =
     let bytes = line_text task (codes "RETURN") [] in
     let cut = cut_apart task (codes "RETURN") [] named (record { some = refl; printed = refl }) tt in
@@ -140,15 +140,15 @@ return_read task named short =
     }
 
 -- the fill byte, or 00
-fill_is : (fill : Option (List ℕ)) → hex_number (unwrap_or fill []) ≡ fill_said fill
+fill_is : (fill : Option (List ℕ)) → hex_number (unwrap_or fill []) ≡ fill_spelling fill
 fill_is fill = grind (arith, common_steps)
 
 -- ---- each statement
 
-pub each_is_said : EachIsSaid
-each_is_said = record {
+pub each_is_spelled : EachIsSpelled
+each_is_spelled = record {
   region = λ first below above fill home. filled_is_read first 0 region [] [] _ _ refl refl refl refl tt refl (and_right first false refl)
-      (λ i. Some (says.Region (number below) (number_said 0 above) (fill_is fill i) (residence_said home)));
+      (λ i. Some (says.Region (number below) (number_spelling 0 above) (fill_is fill i) (residence_spelling home)));
   getmain_r = fixed (codes "R") form.R (refl, λ os. refl);
   getmain_ec = fixed (codes "EC") form.Ec (refl, λ os. refl);
   getmain_eu = fixed (codes "EU") form.Eu (refl, λ os. refl);

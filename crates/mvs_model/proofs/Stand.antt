@@ -13,7 +13,7 @@ use Rattle.mvs_model.specs.Storage.{Storage, holder as held_by, IsStorage, IsWho
 use Rattle.mvs_model.specs.Owners.{Owners}
 use Rattle.mvs_model.specs.Pools.{Pool, Part, part_length, IsCell, in_parts, cell_at}
 use Rattle.mvs_model.specs.State.{pooled, subpool_in, is_plain, in_cell, granted}
-use Rattle.mvs_model.specs.View.{in_pools, holding, behind, without_bytes, state_of}
+use Rattle.mvs_model.specs.View.{in_pools, holding, past_regions, without_bytes, state_of}
 use Rattle.mvs_model.specs.Changes.{Misses, Disjoint}
 use Rattle.mvs_model.specs.WellFormed.{Apart}
 use Rattle.mvs_model.proofs.Orders.{same_name_is}
@@ -49,11 +49,11 @@ pub record Stand (st : Storage) (pools : FinMap name_cmp Pool) : Type 0 where
   pub cells : (name : Name) (pool : Pool) (c : ℕ) → get pools name ≡ Some pool → set.contains pool.taken c ≡ true → IsCell pool c
 
 module _ (st : Storage) (o : Owners) (pools : FinMap name_cmp Pool) (is : IsStorage st) where
-  beyond : (d : ℕ) → behind st.regions ≤ d → held_by st d ≡ None
+  beyond : (d : ℕ) → past_regions st.regions ≤ d → held_by st d ≡ None
   beyond d l = grind (arith, nat_tests)
 
   pub held_state : (d : ℕ) → get (state_of st o pools).held d ≡ holding st pools d
-  held_state d = get-table_all (behind st.regions) (holding st pools) (λ k l. ap (option_map (λ s. record { subpool = s; pooled = in_pools pools k })) (beyond k l)) d
+  held_state d = get-table_all (past_regions st.regions) (holding st pools) (λ k l. ap (option_map (λ s. record { subpool = s; pooled = in_pools pools k })) (beyond k l)) d
 
   pub bytes_state : (a : ℕ) → get (state_of st o pools).bytes a ≡ cond (granted (state_of st o pools) a) (get st.bytes a) None
   bytes_state a = get-retained nat_cmp-IsAntisymmetric st.bytes (granted (without_bytes st o pools)) a

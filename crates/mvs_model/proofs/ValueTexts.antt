@@ -86,8 +86,8 @@ counted_behind : (so_far : ℕ) (text : List ℕ) (b : ℕ) → counted so_far (
 counted_behind so_far [] b = refl
 counted_behind so_far (c ∷ text) b = counted_behind (so_far * 10 + (c - 48)) text b
 
-number_behind : (text : List ℕ) (b : ℕ) → number (text ++ (b ∷ [])) ≡ number text * 10 + (b - 48)
-number_behind text b = sym (counted_all (text ++ (b ∷ []))) ∙ counted_behind 0 text b ∙ ap (λ n. n * 10 + (b - 48)) (counted_all text)
+number_after : (text : List ℕ) (b : ℕ) → number (text ++ (b ∷ [])) ≡ number text * 10 + (b - 48)
+number_after text b = sym (counted_all (text ++ (b ∷ []))) ∙ counted_behind 0 text b ∙ ap (λ n. n * 10 + (b - 48)) (counted_all text)
 
 one_digit : (n : ℕ) → n < 10 → Writes n ((48 + n) ∷ [])
 one_digit n small = record { some = refl; digits = (let e : is_digit (48 + n) ≡ true = grind (arith, nat_tests) in and_from (is_digit (48 + n)) true e refl); value = (let e : (48 + n - 48) * 1 + 0 ≡ n = omega arith in e) }
@@ -99,7 +99,7 @@ digit_more : (n : ℕ) (text : List ℕ) → 10 ≤ n → Writes (n / 10) text �
 digit_more n text large w = record {
   some = append_some text _ w.some;
   digits = all_append is_digit text _ w.digits (let e : is_digit (48 + n % 10) ≡ true = grind (arith, nat_tests) in and_from (is_digit (48 + n % 10)) true e refl);
-  value = number_behind text (48 + n % 10) ∙ ap (λ q. q * 10 + (48 + n % 10 - 48)) w.value ∙ (let e : n / 10 * 10 + (48 + n % 10 - 48) ≡ n = omega arith in e);
+  value = number_after text (48 + n % 10) ∙ ap (λ q. q * 10 + (48 + n % 10 - 48)) w.value ∙ (let e : n / 10 * 10 + (48 + n % 10 - 48) ≡ n = omega arith in e);
 }
 
 pub decimal_writes : (n : ℕ) → n < 2 ^ 64 → Writes n (decimal n)

@@ -9,7 +9,7 @@ use Rattle.mvs_model.specs.Want.{WantValue}
 use Rattle.mvs_model.specs.Finite.{Changes, Keeps}
 use Rattle.mvs_model.specs.Name.{same_name}
 use Rattle.mvs_model.specs.Storage.{Chosen, NoPlace, covers, Covers, has_address}
-use Rattle.mvs_model.specs.Owners.{Owners, SubpoolOf, Enters, IsFallen, Ends, ends_with}
+use Rattle.mvs_model.specs.Owners.{Owners, SubpoolOf, Enters, AreDescendants, Ends, ends_with}
 use Rattle.mvs_model.specs.Pools.{Pool, part_want, cell_at, in_parts, in_taken}
 use Rattle.mvs_model.specs.State.{State, plain, pooled, holder, granted}
 
@@ -88,7 +88,7 @@ pub record Empties (old : State) (s : ℕ) (new : State) : Type 0 where
 -- The task ends with its descendants, and what they own is freed. (Assembler Services Guide, owning and sharing subpools)
 pub record End (old : State) (t : Name) (new : State) : Type 0 where
   pub fallen : List Name
-  pub is_fallen : IsFallen old.owners t fallen
+  pub is_fallen : AreDescendants old.owners t fallen
   pub drops : Drops old (ends_with old.owners t fallen) new
   pub owners : Ends old.owners t fallen new.owners
 

@@ -113,37 +113,37 @@ abbrev pub Obeys : Entered
 Obeys told old t r reply new = told ≢ [] → (other : Reply) (later : State) → Step old t r other later → picked r other later ≡ told → picked r reply new ≡ told
 
 -- A run that obeys the addresses of another one, which refuses no list that could be granted, has the same events.
-abbrev pub ToldDecide : Type 0
-ToldDecide =
+abbrev pub HintsDecide : Type 0
+HintsDecide =
     (entries : ℕ → List ℕ) (script : List ℕ) (one other : List Event) (o p : Outcome)
     → IsRunWhere Needs entries script one o → IsRunWhere Obeys entries script other p → (one ≡ other) × (o ≡ p)
 
 -- A grant uses the hinted address, if a place there can be granted.
-abbrev pub TakesTold : State → Name → ℕ → WantValue → ℕ → PlaceValue → Type 0
-TakesTold old t number want told p = (q : PlaceValue) (later : State) → GrantTo old t number want q later → q.addr ≡ told → p.addr ≡ told
+abbrev pub FollowsHint : State → Name → ℕ → WantValue → ℕ → PlaceValue → Type 0
+FollowsHint old t number want told p = (q : PlaceValue) (later : State) → GrantTo old t number want q later → q.addr ≡ told → p.addr ≡ told
 
 -- Grants one after another, each of which uses its hint.
-abbrev pub ListTakesTold : State → Name → ℕ → List WantValue → List ℕ → List PlaceValue → State → Type 0
-ListTakesTold old t number [] told [] new = new ≡ old
-ListTakesTold old t number [] told (p ∷ ps) new = ⊥
-ListTakesTold old t number (want ∷ wants) told [] new = ⊥
-ListTakesTold old t number (want ∷ wants) [] (p ∷ ps) new = ⊥
-ListTakesTold old t number (want ∷ wants) (a ∷ told) (p ∷ ps) new =
-    (mid : State) × GrantTo old t number want p mid × TakesTold old t number want a p × ListTakesTold mid t number wants told ps new
+abbrev pub ListFollowsHints : State → Name → ℕ → List WantValue → List ℕ → List PlaceValue → State → Type 0
+ListFollowsHints old t number [] told [] new = new ≡ old
+ListFollowsHints old t number [] told (p ∷ ps) new = ⊥
+ListFollowsHints old t number (want ∷ wants) told [] new = ⊥
+ListFollowsHints old t number (want ∷ wants) [] (p ∷ ps) new = ⊥
+ListFollowsHints old t number (want ∷ wants) (a ∷ told) (p ∷ ps) new =
+    (mid : State) × GrantTo old t number want p mid × FollowsHint old t number want a p × ListFollowsHints mid t number wants told ps new
 
 -- Such grants for some of the front leave no place for the next.
 abbrev pub ListStops : State → Name → ℕ → List WantValue → List ℕ → Type 0
 ListStops old t number [] told = ⊥
 ListStops old t number (want ∷ wants) [] = ⊥
 ListStops old t number (want ∷ wants) (a ∷ told) =
-    ShortOf old t number want ⊎ ((p : PlaceValue) × (mid : State) × GrantTo old t number want p mid × TakesTold old t number want a p × ListStops mid t number wants told)
+    ShortOf old t number want ⊎ ((p : PlaceValue) × (mid : State) × GrantTo old t number want p mid × FollowsHint old t number want a p × ListStops mid t number wants told)
 
 -- A request for an area obeys if it uses its hint. A request for a list obeys if each member does, and it is refused only if no
 -- list can be granted at these addresses.
 pub record TakingObeys : Type 0 where
   pub area : (old : State) (t : Name) (form : Form) (number : ℕ) (ask : AskValue) (a : ℕ) (p : PlaceValue) (new : State)
-      → TakesTold old (keeper old.owners t number) number (want_of ask (side_for old t form ask.loc)) a p → Obeys (a ∷ []) old t (request.Obtain form number ask) (Obtained p) new
+      → FollowsHint old (keeper old.owners t number) number (want_of ask (side_for old t form ask.loc)) a p → Obeys (a ∷ []) old t (request.Obtain form number ask) (Obtained p) new
   pub areas : (old : State) (t : Name) (form : Form) (number : ℕ) (lengths : List ℕ) (start : ℕ) (told : List ℕ) (ps : List PlaceValue) (new : State)
-      → ListTakesTold old (keeper old.owners t number) number (map (λ n. fixed_want n start Below) lengths) told ps new → Obeys told old t (request.ObtainList form number lengths start) (Listed ps) new
+      → ListFollowsHints old (keeper old.owners t number) number (map (λ n. fixed_want n start Below) lengths) told ps new → Obeys told old t (request.ObtainList form number lengths start) (Listed ps) new
   pub stops : (old : State) (t : Name) (form : Form) (number : ℕ) (lengths : List ℕ) (start : ℕ) (told : List ℕ) (reply : Reply) (new : State)
       → list_all (λ n. nat_le 1 n) lengths ≡ true → ListStops old (keeper old.owners t number) number (map (λ n. fixed_want n start Below) lengths) told → Obeys told old t (request.ObtainList form number lengths start) reply new

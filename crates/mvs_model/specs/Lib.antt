@@ -31,12 +31,12 @@ pub mod Texts
 pub mod Reports
 pub mod Job
 pub mod Replies
-pub mod Lent
+pub mod FullAnswers
 pub mod Walk
 pub mod Runs
 pub mod Memory
 -- What every state of a run keeps, and the laws.
-pub mod Kept
+pub mod Consistent
 pub mod WellFormed
 pub mod Determined
 pub mod ReadingLaws

@@ -165,22 +165,22 @@ pub data Descends (o : Owners) (t : Name) : Name → Type 0 where
   further : {m x : Name} → Descends o t m → IsMother o m x → Descends o t x
 
 -- The names are those of the task's descendants, in byte order. (the order is this project's choice)
-pub record IsFallen (o : Owners) (t : Name) (names : List Name) : Type 0 where
+pub record AreDescendants (o : Owners) (t : Name) (names : List Name) : Type 0 where
   pub sorted : IsStrictlySortedBy name_cmp names
   pub descendants : (x : Name) → Contains names x ↔ Descends o t x
 
 -- whether the name is the task's or one of those that fall with it
-abbrev pub goes : Name → List Name → Name → Bool
-goes t fallen x = same_name x t || list_any (same_name x) fallen
+abbrev pub is_among_ended : Name → List Name → Name → Bool
+is_among_ended t fallen x = same_name x t || list_any (same_name x) fallen
 
 -- whether the subpool is owned by the task or by one that ends with it
 abbrev pub ends_with : Owners → Name → List Name → ℕ → Bool
-ends_with o t fallen s = has (goes t fallen) (get o.owner s)
+ends_with o t fallen s = has (is_among_ended t fallen) (get o.owner s)
 
 -- The task and those that fall with it are no longer active, and their entries go. The subpools that they own have no
 -- owner, and no task has an entry for one of these. All else is as before. (Assembler Services Guide, owning and sharing
 -- subpools)
 pub record Ends (old : Owners) (t : Name) (fallen : List Name) (new : Owners) : Type 0 where
-  pub tasks : Keeps (get old.tasks) (λ x _. not (goes t fallen x)) (get new.tasks)
-  pub table : Keeps (get old.table) (λ e s. not (goes t fallen e.0 || ends_with old t fallen s)) (get new.table)
-  pub owner : Keeps (get old.owner) (λ _ x. not (goes t fallen x)) (get new.owner)
+  pub tasks : Keeps (get old.tasks) (λ x _. not (is_among_ended t fallen x)) (get new.tasks)
+  pub table : Keeps (get old.table) (λ e s. not (is_among_ended t fallen e.0 || ends_with old t fallen s)) (get new.table)
+  pub owner : Keeps (get old.owner) (λ _ x. not (is_among_ended t fallen x)) (get new.owner)

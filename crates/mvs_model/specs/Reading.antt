@@ -235,8 +235,8 @@ takes_form operation = list_any (λ row. not (is_empty row.forms)) (rows_of oper
 abbrev pub form_in : List ℕ → List (List ℕ) → List ℕ
 form_in operation operands = unwrap_or (slice_get operands 0) []
 
-abbrev pub behind_form : Row → List (List ℕ) → List (List ℕ)
-behind_form row operands = if is_empty row.forms then operands else drop 1 operands
+abbrev pub operands_after_form : Row → List (List ℕ) → List (List ℕ)
+operands_after_form row operands = if is_empty row.forms then operands else drop 1 operands
 
 -- the row of an operation, and of its form where it takes one
 abbrev pub row_of : List ℕ → List (List ℕ) → Option Row
@@ -314,9 +314,9 @@ is_conflict os (Apart a b c d) = list_any (λ n. list_any (◌==◌ n) (numbers_
 abbrev pub row_checks : List (List ℕ) → Option Row → List (Fault × Bool)
 row_checks operands None = []
 row_checks operands (Some row) =
-    flat_map (operand_checks row) (with_left (behind_form row operands))
-    ++ MissingOperand when (lacks_positional row (by_key (behind_form row operands)) || lacks_keyword row (by_key (behind_form row operands)) || list_any (is_half (by_key (behind_form row operands))) row.rules)
-    ∷ Conflicting when list_any (is_conflict (by_key (behind_form row operands))) row.rules
+    flat_map (operand_checks row) (with_left (operands_after_form row operands))
+    ++ MissingOperand when (lacks_positional row (by_key (operands_after_form row operands)) || lacks_keyword row (by_key (operands_after_form row operands)) || list_any (is_half (by_key (operands_after_form row operands))) row.rules)
+    ∷ Conflicting when list_any (is_conflict (by_key (operands_after_form row operands))) row.rules
     ∷ []
 
 -- a statement by its task, its operation and its operands, each empty where it is not there
@@ -330,8 +330,8 @@ statement_checks first task operation operands =
     ∷ row_checks operands (row_of operation operands)
 
 -- a line that is blank or a comment says nothing
-abbrev pub says_nothing : List ℕ → Bool
-says_nothing bytes = list_all (λ b. b == 32) bytes || (slice_index bytes 0 == 42)
+abbrev pub is_blank_or_comment : List ℕ → Bool
+is_blank_or_comment bytes = list_all (λ b. b == 32) bytes || (slice_index bytes 0 == 42)
 
 -- the task: the first word, where the line does not begin with a blank
 abbrev pub task_in : List ℕ → List ℕ
@@ -349,7 +349,7 @@ abbrev pub checks : Bool → List ℕ → List (Fault × Bool)
 checks first bytes =
     TooLong when nat_lt 255 (length bytes)
     ∷ InvalidByte when not (list_all (λ b. nat_le 32 b && nat_le b 126) bytes)
-    ∷ (if says_nothing bytes then [] else statement_checks first (task_in bytes) (operation_in bytes) (operands_of bytes))
+    ∷ (if is_blank_or_comment bytes then [] else statement_checks first (task_in bytes) (operation_in bytes) (operands_of bytes))
 
 -- The line has this fault: it is the first that applies. `first` says whether no statement came before.
 abbrev pub FaultOf : Bool → List ℕ → Fault → Type 0
@@ -392,8 +392,8 @@ abbrev pub residence_of : ByKey → Residence
 residence_of os = if is_word (codes "RES") (codes "ABOVE") os then residence.Above else residence.Below
 
 -- what is asked for with these lengths
-abbrev pub asking : List ℕ → ByKey → AskValue
-asking lengths os = record {
+abbrev pub ask_for : List ℕ → ByKey → AskValue
+ask_for lengths os = record {
   least = smallest lengths;
   most = largest lengths;
   start = start_of os;
@@ -448,7 +448,7 @@ statement_of IsRegion form os =
     Some (says.Region (number below) (number_or 0 (codes "ABOVE") os) (hex_number (unwrap_or (os.under (codes "FILL")) [])) (residence_of os))
 statement_of (Obtains lengths name) form os =
     os.under lengths >>= λ n. os.under name >>= λ area.
-    Some (says.Request (written.Obtain (form_of form os) (subpool os) (asking n os) (is_list n) (padded area)))
+    Some (says.Request (written.Obtain (form_of form os) (subpool os) (ask_for n os) (is_list n) (padded area)))
 statement_of ObtainsList form os =
     os.under (codes "LA") >>= λ lengths. os.under (codes "A") >>= λ areas.
     Some (says.Request (written.ObtainList (form_of form os) (subpool os) (map number (items lengths)) (start_of os) (map padded (items areas))))
@@ -479,17 +479,17 @@ statement_of AsksWhere form os = os.at 0 >>= λ area. Some (says.Where (padded a
 statement_of Reports form os = Some (if bytes_eq form (codes "MAP") then says.ReportMap else says.ReportSubpools)
 
 -- what a line says, where all that it needs is there
-abbrev pub line_said : List ℕ → Option Line
-line_said bytes =
-    if says_nothing bytes then Some line.Nothing
+abbrev pub line_meaning : List ℕ → Option Line
+line_meaning bytes =
+    if is_blank_or_comment bytes then Some line.Nothing
     else (row_of (operation_in bytes) (operands_of bytes) >>= λ row.
-    statement_of row.meaning (form_in (operation_in bytes) (operands_of bytes)) (by_key (behind_form row (operands_of bytes))) >>= λ statement.
+    statement_of row.meaning (form_in (operation_in bytes) (operands_of bytes)) (by_key (operands_after_form row (operands_of bytes))) >>= λ statement.
     Some (line.Statement (padded (task_in bytes)) statement))
 
 -- The line has no fault and says this. `first` says whether no statement came before.
 pub record LineOf (first : Bool) (bytes : List ℕ) (l : Line) : Type 0 where
   pub no_fault : first_of (checks first bytes) ≡ None
-  pub says : line_said bytes ≡ Some l
+  pub says : line_meaning bytes ≡ Some l
 
 -- What a reader answers is what the line says, or its fault.
 abbrev pub IsReading : Bool → List ℕ → Result Line Fault → Type 0

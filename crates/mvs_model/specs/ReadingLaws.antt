@@ -16,7 +16,7 @@ use Rattle.mvs_model.specs.declared.want.Loc.TheVariants as loc
 use Rattle.mvs_model.specs.declared.want.Residence.TheVariants as residence
 use Rattle.mvs_model.specs.Name.{padded}
 use Rattle.mvs_model.specs.Grammar.{Row, Kind}
-use Rattle.mvs_model.specs.Reading.{LineOf, FaultOf, first_of, checks, if_kind, is_of, is_within, repeats, kind_of, text_of, has_key, key_of, has, says_nothing, task_in, words}
+use Rattle.mvs_model.specs.Reading.{LineOf, FaultOf, first_of, checks, if_kind, is_of, is_within, repeats, kind_of, text_of, has_key, key_of, has, is_blank_or_comment, task_in, words}
 
 -- The line is read, or it has a fault.
 pub data Reading (first : Bool) (bytes : List ℕ) : Type 0 where
@@ -398,7 +398,7 @@ pub record SpellingExamples : Type 0 where
 pub record SameWords (a b : List ℕ) : Type 0 where
   pub length_same : nat_lt 255 (length a) ≡ nat_lt 255 (length b)
   pub bytes_same : list_all (λ x. nat_le 32 x && nat_le x 126) a ≡ list_all (λ x. nat_le 32 x && nat_le x 126) b
-  pub nothing_same : says_nothing a ≡ says_nothing b
+  pub nothing_same : is_blank_or_comment a ≡ is_blank_or_comment b
   pub task_same : task_in a ≡ task_in b
   pub operation_same : slice_get (words a) 1 ≡ slice_get (words b) 1
   pub field_same : slice_get (words a) 2 ≡ slice_get (words b) 2

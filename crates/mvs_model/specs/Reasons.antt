@@ -137,9 +137,9 @@ accessed (Move to from n) = place_at to n ∷ place_at from n ∷ []
 accessed _ = []
 
 -- the user code of a task that asks for an abend
-abbrev pub asked_code : Request → ℕ
-asked_code (Abend n) = n
-asked_code _ = 0
+abbrev pub requested_code : Request → ℕ
+requested_code (Abend n) = n
+requested_code _ = 0
 
 -- ---- what a refusal is about
 
@@ -223,7 +223,7 @@ refusal_of request TaskInUse = refusal.TaskInUse
 refusal_of request TooManyTasks = refusal.TooManyTasks
 refusal_of request (NotOwned number owner) = refusal.NotOwned
 refusal_of request (ActiveSubtask task) = refusal.ActiveSubtask
-refusal_of request Asked = refusal.Asked (asked_code request)
+refusal_of request Asked = refusal.Asked (requested_code request)
 refusal_of request (NoAccess a holder) = refusal.NoAccess
 
 -- What a reason says of the state is so.

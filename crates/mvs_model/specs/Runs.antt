@@ -37,25 +37,25 @@ pub record Makes (P : Condition) (old : JobValue) (t : Name) (a : Written) (r : 
   pub told : answer ≡ answer_of old.state a r reply
 
 -- An answer that changes nothing.
-abbrev pub Tells : JobValue → Answer → Answer → JobValue → Type 0
-Tells old told answer new = (answer ≡ told) × (new ≡ old)
+abbrev pub OnlyAnswers : JobValue → Answer → Answer → JobValue → Type 0
+OnlyAnswers old told answer new = (answer ≡ told) × (new ≡ old)
 
 -- What a request may be answered: a name in it is not set, or it is made.
 abbrev pub Asks : Condition → JobValue → Name → Written → Option Request → Answer → JobValue → Type 0
-Asks P old t a None answer new = Tells old NoName answer new
+Asks P old t a None answer new = OnlyAnswers old NoName answer new
 Asks P old t a (Some r) answer new = Makes P old t a r answer new
 
 -- What a statement of an active task may be answered.
-abbrev pub Says : Condition → JobValue → Name → Statement → Answer → JobValue → Type 0
-Says P old t (says.Region below above fill residence) answer new = ⊥
-Says P old t (says.Request a) answer new = Asks P old t a (resolved old.names a) answer new
-Says P old t (says.Where name) answer new = Tells old (where_answer (get old.names name)) answer new
-Says P old t says.ReportSubpools answer new = Tells old (Subpools (subpool_lines_of old.state t)) answer new
-Says P old t says.ReportMap answer new = Tells old (Map (page_map old.state)) answer new
+abbrev pub AnswersTo : Condition → JobValue → Name → Statement → Answer → JobValue → Type 0
+AnswersTo P old t (says.Region below above fill residence) answer new = ⊥
+AnswersTo P old t (says.Request a) answer new = Asks P old t a (resolved old.names a) answer new
+AnswersTo P old t (says.Where name) answer new = OnlyAnswers old (where_answer (get old.names name)) answer new
+AnswersTo P old t says.ReportSubpools answer new = OnlyAnswers old (Subpools (subpool_lines_of old.state t)) answer new
+AnswersTo P old t says.ReportMap answer new = OnlyAnswers old (Map (page_map old.state)) answer new
 
 -- What a statement of a task may be answered, which is not REGION.
 abbrev pub Does : Condition → JobValue → Name → Statement → Answer → JobValue → Type 0
-Does P old t s answer new = MatchBool (not (is_active old.state.owners t)) (Tells old NotRun answer new) (Says P old t s answer new)
+Does P old t s answer new = MatchBool (not (is_active old.state.owners t)) (OnlyAnswers old NotRun answer new) (AnswersTo P old t s answer new)
 
 -- the machine of a job whose requests meet a condition, which may be another one in each line
 abbrev pub machine_where : (ℕ → Condition) → Machine JobValue

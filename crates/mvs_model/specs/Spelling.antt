@@ -8,7 +8,7 @@ use Rattle.mvs_model.specs.declared.line.Location.TheVariants.{Absolute, Named}
 use Rattle.mvs_model.specs.Name.{padded}
 use Rattle.mvs_model.specs.Texts.{hex}
 use Rattle.mvs_model.specs.Grammar.{Kind, Number, HexByte, Name, Address, Bytes, Pair, NumberOrPair, Numbers, DistinctNumbers, DistinctNames, Addresses, Positional, Row, table}
-use Rattle.mvs_model.specs.Reading.{ByKey, LineOf, has_key, hex_bytes, hex_number, is_conflict, is_empty, is_half, is_name, is_of, is_one_of, is_twice, is_within, items, lacks_keyword, lacks_positional, largest, location, number, operands_in, quoted, repeats, says_nothing, smallest, statement_of, task_in, words}
+use Rattle.mvs_model.specs.Reading.{ByKey, LineOf, has_key, hex_bytes, hex_number, is_conflict, is_empty, is_half, is_name, is_of, is_one_of, is_twice, is_within, items, lacks_keyword, lacks_positional, largest, location, number, operands_in, quoted, repeats, is_blank_or_comment, smallest, statement_of, task_in, words}
 use Rattle.mvs_model.specs.ReadingLaws.{keyed}
 
 -- texts with commas between
@@ -39,7 +39,7 @@ pub record IsOperand (text : List ℕ) : Type 0 where
 -- The line is cut into the words and the operands that it was put together from.
 pub record IsCut (task operation : List ℕ) (operands : List (List ℕ)) (line : List ℕ) : Type 0 where
   pub plain : list_all (λ b. nat_le 32 b && nat_le b 126) line ≡ true
-  pub says : says_nothing line ≡ false
+  pub says : is_blank_or_comment line ≡ false
   pub task_is : task_in line ≡ task
   pub operation_is : slice_get (words line) 1 ≡ Some operation
   pub operands_are : operands_in (slice_get (words line) 2) ≡ operands
@@ -61,8 +61,8 @@ abbrev pub all_operands : Row → List ℕ → List (List ℕ) → List (List �
 all_operands row form places pairs = if is_empty row.forms then places ++ map keyword_text pairs else form ∷ (places ++ map keyword_text pairs)
 
 -- what they say: the text under each key, and the one at each place
-abbrev pub said_by : List (List ℕ) → List (List ℕ × List ℕ) → ByKey
-said_by places pairs = record { under = λ key. option_map (λ p. p.1) (find (λ p. bytes_eq p.0 key) pairs); at = λ k. slice_get places k; count = length places }
+abbrev pub by_spelling : List (List ℕ) → List (List ℕ × List ℕ) → ByKey
+by_spelling places pairs = record { under = λ key. option_map (λ p. p.1) (find (λ p. bytes_eq p.0 key) pairs); at = λ k. slice_get places k; count = length places }
 
 -- A text that fits a kind: well formed, in its range, with nothing twice in it.
 pub record Fits (kind : Kind) (text : List ℕ) : Type 0 where
@@ -90,10 +90,10 @@ pub record IsAllowed (row : Row) (form : List ℕ) (places : List (List ℕ)) (p
   pub places_fit : FitPlaces row.positional places
   pub pairs_fit : AllByRecursion (FitsKey row) pairs
   pub keys_once : is_twice bytes_eq (map (λ p. p.0) pairs) ≡ false
-  pub places_enough : lacks_positional row (said_by places pairs) ≡ false
-  pub keys_enough : lacks_keyword row (said_by places pairs) ≡ false
-  pub none_half : list_any (is_half (said_by places pairs)) row.rules ≡ false
-  pub no_conflict : list_any (is_conflict (said_by places pairs)) row.rules ≡ false
+  pub places_enough : lacks_positional row (by_spelling places pairs) ≡ false
+  pub keys_enough : lacks_keyword row (by_spelling places pairs) ≡ false
+  pub none_half : list_any (is_half (by_spelling places pairs)) row.rules ≡ false
+  pub no_conflict : list_any (is_conflict (by_spelling places pairs)) row.rules ≡ false
 
 -- What a row allows can be written, its keywords in any order: a line of at most 255 bytes that is put together from it is read, and
 -- says what the row means. The first statement of a script is REGION.
@@ -103,7 +103,7 @@ AllowedIsRead =
     → is_name task ≡ true → IsAllowed row form places pairs
     → (first && not (bytes_eq row.operation (codes "REGION"))) ≡ false
     → nat_lt 255 (length (line_text task row.operation (all_operands row form places pairs))) ≡ false
-    → statement_of row.meaning form (said_by places pairs) ≡ Some statement
+    → statement_of row.meaning form (by_spelling places pairs) ≡ Some statement
     → LineOf first (line_text task row.operation (all_operands row form places pairs)) (line.Statement (padded task) statement)
 
 -- ---- the texts of values

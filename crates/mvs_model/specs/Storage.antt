@@ -18,12 +18,12 @@ pub record Regions : Type 0 where
   pub fill : ℕ
 
 -- all of the place is between two addresses
-abbrev pub LiesIn : ℕ → ℕ → PlaceValue → Type 0
-LiesIn from to p = (from ≤ p.addr) × (p.addr + p.len ≤ to)
+abbrev pub IsBetween : ℕ → ℕ → PlaceValue → Type 0
+IsBetween from to p = (from ≤ p.addr) × (p.addr + p.len ≤ to)
 
 -- the place is within one region. (the first addresses are this project's choice)
 abbrev pub InRegion : Regions → PlaceValue → Type 0
-InRegion r p = LiesIn below_begins (below_begins + page_bytes * r.below) p ⊎ LiesIn above_begins (above_begins + page_bytes * r.above) p
+InRegion r p = IsBetween below_begins (below_begins + page_bytes * r.below) p ⊎ IsBetween above_begins (above_begins + page_bytes * r.above) p
 
 -- the place begins below 16 megabytes
 abbrev pub IsBelow : PlaceValue → Type 0
@@ -69,7 +69,7 @@ pub record IsRun (run : PlaceValue) : Type 0 where
 
 -- all of the place is in the run
 abbrev pub InRun : PlaceValue → PlaceValue → Type 0
-InRun run p = LiesIn run.addr (run.addr + run.len) p
+InRun run p = IsBetween run.addr (run.addr + run.len) p
 
 -- The place begins on the requested boundary, does not cross the other one, and is on the requested side. (Assembler Services
 -- Reference, GETMAIN: BNDRY, STARTBDY, CONTBDY, LOC)

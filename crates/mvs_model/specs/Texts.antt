@@ -69,20 +69,20 @@ abbrev pub region_text : CardValue → List ℕ
 region_text card = codes "REGION BELOW " ++ decimal card.below ++ codes " ABOVE " ++ decimal card.above
 
 -- what the line of an answer says that has one line
-abbrev pub said : Answer → List ℕ
-said NotRun = codes "NOT RUN"
-said NoName = codes "NO NAME"
-said (At a) = codes "AT " ++ hex 8 a
-said Rc0 = codes "RC 0"
-said (Granted n) = codes "RC 0 LENGTH " ++ hex 8 n
-said Rc4 = codes "RC 4"
-said Cell = codes "CELL"
-said NoCell = codes "NO CELL"
-said Attached = codes "ATTACHED"
-said Ended = codes "ENDED"
-said Done = codes "OK"
-said (Region card) = region_text card
-said _ = []
+abbrev pub one_line_text : Answer → List ℕ
+one_line_text NotRun = codes "NOT RUN"
+one_line_text NoName = codes "NO NAME"
+one_line_text (At a) = codes "AT " ++ hex 8 a
+one_line_text Rc0 = codes "RC 0"
+one_line_text (Granted n) = codes "RC 0 LENGTH " ++ hex 8 n
+one_line_text Rc4 = codes "RC 4"
+one_line_text Cell = codes "CELL"
+one_line_text NoCell = codes "NO CELL"
+one_line_text Attached = codes "ATTACHED"
+one_line_text Ended = codes "ENDED"
+one_line_text Done = codes "OK"
+one_line_text (Region card) = region_text card
+one_line_text _ = []
 
 -- what is printed for an answer to a statement of the task
 abbrev pub answer_text : ℕ → Name → Answer → List ℕ
@@ -91,7 +91,7 @@ answer_text number t (Abended code fallen) = abend_lines number t code fallen
 answer_text number t (Subpools []) = reply_line number t (codes "SP NONE")
 answer_text number t (Subpools (l ∷ lines)) = flat_map (λ l. reply_line number t (subpool_text l)) (l ∷ lines)
 answer_text number t (Map runs) = flat_map (λ r. reply_line number t (map_text r)) runs
-answer_text number t answer = reply_line number t (said answer)
+answer_text number t answer = reply_line number t (one_line_text answer)
 
 -- the end of a step
 abbrev pub step_ended : Bool → List ℕ

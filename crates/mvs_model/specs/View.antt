@@ -26,12 +26,12 @@ abbrev pub holding : Storage → FinMap name_cmp Pool → ℕ → Option Holding
 holding st pools d = option_map (λ s. record { subpool = s; pooled = in_pools pools d }) (holder st d)
 
 -- a doubleword after both regions
-abbrev pub behind : Regions → ℕ
-behind r = first_doubleword_above + page_doublewords * (r.below + r.above)
+abbrev pub past_regions : Regions → ℕ
+past_regions r = first_doubleword_above + page_doublewords * (r.below + r.above)
 
 -- the state without the bytes
 abbrev pub without_bytes : Storage → Owners → FinMap name_cmp Pool → State
-without_bytes st o pools = record { regions = st.regions; held = table (behind st.regions) (holding st pools); bytes = empty; owners = o; pools = pools }
+without_bytes st o pools = record { regions = st.regions; held = table (past_regions st.regions) (holding st pools); bytes = empty; owners = o; pools = pools }
 
 -- The state: its bytes are those of storage that may be read and written.
 abbrev pub state_of : Storage → Owners → FinMap name_cmp Pool → State

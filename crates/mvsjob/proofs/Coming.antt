@@ -4,7 +4,7 @@ use Rattle.std.specs.Option.{option_map}
 use Rattle.std.specs.Io.KnownBytes.{Consumes, IsAtEnd, Keeps}
 use Rattle.mvs_model.specs.declared.line.Fault.{Fault}
 use Rattle.mvs_model.specs.Lines.{lines_of, ended_text, IsUnended}
-use Rattle.mvs_model.specs.Reading.{FaultOf, LineOf, is_empty, says_nothing}
+use Rattle.mvs_model.specs.Reading.{FaultOf, LineOf, is_empty, is_blank_or_comment}
 use Rattle.mvs_model.specs.declared.line.Line.{Line}
 use Rattle.mvs_model.specs.declared.outcome.Outcome.{Outcome}
 use Rattle.mvs_model.specs.Memory.{IsPrintingBefore}
@@ -13,7 +13,7 @@ use Rattle.mvs_job.specs.declared.run.RunFault.{RunFault}
 use Rattle.mvs_job.specs.declared.run.RunFault.TheVariants.{Memory, Read, ReadTooLong}
 use Rattle.mvs_job.specs.Exchanging.{Exchanges, IsRest}
 use Rattle.mvs_job.proofs.Feeding.{lines_ended, lines_last}
-use Rattle.mvsjob.specs.Faultless.{is_faulty, faultless, without_faults, passed, first_behind, passed_of, rest_of, begun, coming, known_coming, Writes, WritesPart}
+use Rattle.mvsjob.specs.Faultless.{is_faulty, faultless, without_faults, passed, is_first_after, passed_of, rest_of, begun, coming, known_coming, Writes, WritesPart}
 
 -- ---- a line that is too long
 
@@ -31,15 +31,15 @@ longer line b long = let e = length-append line (b ∷ []) in omega (arith, e)
 long_passed : (first : Bool) (line : List ℕ) → 255 < length line → passed first line ≡ []
 long_passed first line long = ap (λ f. if f then [] else line ++ 10 ∷ []) (long_is_faulty first line long)
 
-long_behind : (first : Bool) (line : List ℕ) → 255 < length line → first_behind first line ≡ first
-long_behind first line long = ap (λ f. if f then first else first && says_nothing line) (long_is_faulty first line long)
+long_behind : (first : Bool) (line : List ℕ) → 255 < length line → is_first_after first line ≡ first
+long_behind first line long = ap (λ f. if f then first else first && is_blank_or_comment line) (long_is_faulty first line long)
 
 -- however it goes on, nothing of it is passed on
 pub long_same : (first : Bool) (left line other : List ℕ) → 255 < length line → 255 < length other → passed_of first line left ≡ passed_of first other left
 long_same first [] line other p q = rw (long_not_empty line p, long_not_empty other q) (long_passed first line p ∙ sym (long_passed first other q))
 long_same first (b ∷ left) line other p q = at (b == 10) (long_same first left (line ++ b ∷ []) (other ++ b ∷ []) (longer line b p) (longer other b q)) where
   at : (f : Bool) → passed_of first (line ++ b ∷ []) left ≡ passed_of first (other ++ b ∷ []) left
-      → (if f then passed first line ++ passed_of (first_behind first line) [] left else passed_of first (line ++ b ∷ []) left) ≡ (if f then passed first other ++ passed_of (first_behind first other) [] left else passed_of first (other ++ b ∷ []) left)
+      → (if f then passed first line ++ passed_of (is_first_after first line) [] left else passed_of first (line ++ b ∷ []) left) ≡ (if f then passed first other ++ passed_of (is_first_after first other) [] left else passed_of first (other ++ b ∷ []) left)
   at true same = rw (long_passed first line p, long_passed first other q, long_behind first line p, long_behind first other q) refl
   at false same = same
 
@@ -50,11 +50,11 @@ one_more [] b none other = (other, tt)
 one_more (c ∷ line) b none other = (none.0, one_more line b none.1 other)
 
 -- the text of a line and of those behind it
-text_of_line : (first : Bool) (line : List ℕ) (lines : List (List ℕ)) → ended_text (faultless first (line ∷ lines)) ≡ passed first line ++ ended_text (faultless (first_behind first line) lines)
+text_of_line : (first : Bool) (line : List ℕ) (lines : List (List ℕ)) → ended_text (faultless first (line ∷ lines)) ≡ passed first line ++ ended_text (faultless (is_first_after first line) lines)
 text_of_line first line lines = at (is_faulty first line) where
-  at : (f : Bool) → ended_text (if f then faultless first lines else line ∷ faultless (first && says_nothing line) lines) ≡ (if f then [] else line ++ 10 ∷ []) ++ ended_text (faultless (if f then first else first && says_nothing line) lines)
+  at : (f : Bool) → ended_text (if f then faultless first lines else line ∷ faultless (first && is_blank_or_comment line) lines) ≡ (if f then [] else line ++ 10 ∷ []) ++ ended_text (faultless (if f then first else first && is_blank_or_comment line) lines)
   at true = refl
-  at false = sym (append_assoc line (10 ∷ []) (ended_text (faultless (first && says_nothing line) lines)))
+  at false = sym (append_assoc line (10 ∷ []) (ended_text (faultless (first && is_blank_or_comment line) lines)))
 
 last_text : (first : Bool) (line : List ℕ) → IsUnended line → (if is_empty line then [] else passed first line) ≡ ended_text (faultless first (lines_of line))
 last_text first [] none = refl
@@ -62,10 +62,10 @@ last_text first (b ∷ line) none = sym (ap (λ ls. ended_text (faultless first 
 
 passed_is : (first : Bool) (line left : List ℕ) → IsUnended line → passed_of first line left ≡ ended_text (faultless first (lines_of (line ++ left)))
 passed_is first line [] none = last_text first line none ∙ ap (λ t. ended_text (faultless first (lines_of t))) (sym (append-nil line))
-passed_is first line (b ∷ left) none = by (b == 10) refl (passed_is (first_behind first line) [] left tt) (λ more. passed_is first (line ++ b ∷ []) left more) where
-  by : (f : Bool) → (b == 10) ≡ f → passed_of (first_behind first line) [] left ≡ ended_text (faultless (first_behind first line) (lines_of left))
+passed_is first line (b ∷ left) none = by (b == 10) refl (passed_is (is_first_after first line) [] left tt) (λ more. passed_is first (line ++ b ∷ []) left more) where
+  by : (f : Bool) → (b == 10) ≡ f → passed_of (is_first_after first line) [] left ≡ ended_text (faultless (is_first_after first line) (lines_of left))
       → (IsUnended (line ++ b ∷ []) → passed_of first (line ++ b ∷ []) left ≡ ended_text (faultless first (lines_of ((line ++ b ∷ []) ++ left))))
-      → (if f then passed first line ++ passed_of (first_behind first line) [] left else passed_of first (line ++ b ∷ []) left) ≡ ended_text (faultless first (lines_of (line ++ b ∷ left)))
+      → (if f then passed first line ++ passed_of (is_first_after first line) [] left else passed_of first (line ++ b ∷ []) left) ≡ ended_text (faultless first (lines_of (line ++ b ∷ left)))
   by true e behind more =
       let is : b ≡ 10 = eqb-true b 10 e in
       ap (λ t. passed first line ++ t) behind ∙ sym (text_of_line first line (lines_of left))
@@ -93,14 +93,14 @@ faulty_line first line fault is = ap (λ o. is_some o) is
 pub passed_whole : (first : Bool) (line : List ℕ) (l : Line) → LineOf first line l → drop 0 line ++ 10 ∷ [] ≡ passed first line
 passed_whole first line l said = ap (λ f. if f then [] else line ++ 10 ∷ []) (sym (sound_line first line l said))
 
-pub behind_whole : (first nothing : Bool) (line : List ℕ) (l : Line) → LineOf first line l → nothing ≡ says_nothing line → (first && nothing) ≡ first_behind first line
-behind_whole first nothing line l said is = ap (λ n. first && n) is ∙ ap (λ f. if f then first else first && says_nothing line) (sym (sound_line first line l said))
+pub behind_whole : (first nothing : Bool) (line : List ℕ) (l : Line) → LineOf first line l → nothing ≡ is_blank_or_comment line → (first && nothing) ≡ is_first_after first line
+behind_whole first nothing line l said is = ap (λ n. first && n) is ∙ ap (λ f. if f then first else first && is_blank_or_comment line) (sym (sound_line first line l said))
 
 pub passed_none : (first : Bool) (line after : List ℕ) (given : Option ℕ) (fault : Fault) → FaultOf first line fault → given ≡ None → rest_of after given ≡ passed first line
 passed_none first line after given fault is none = ap (rest_of after) none ∙ ap (λ f. if f then [] else line ++ 10 ∷ []) (sym (faulty_line first line fault is))
 
-pub behind_none : (first : Bool) (line : List ℕ) (fault : Fault) → FaultOf first line fault → first ≡ first_behind first line
-behind_none first line fault is = ap (λ f. if f then first else first && says_nothing line) (sym (faulty_line first line fault is))
+pub behind_none : (first : Bool) (line : List ℕ) (fault : Fault) → FaultOf first line fault → first ≡ is_first_after first line
+behind_none first line fault is = ap (λ f. if f then first else first && is_blank_or_comment line) (sym (faulty_line first line fault is))
 
 -- ---- a byte
 
@@ -113,7 +113,7 @@ module _ (first ended : Bool) (line : List ℕ) (given : Option ℕ) (none : giv
   before left on = ap (λ g. coming first ended line g left) none ∙ ap (λ e. coming first e line None left) on
 
   -- a line feed
-  pub taken_line : (b : ℕ) (first' ended' : Bool) (line' : List ℕ) (given' : Option ℕ) (left : List ℕ) → ended ≡ false → b ≡ 10 → rest_of line' given' ≡ passed first line → begun line' given' ≡ [] → first' ≡ first_behind first line → ended' ≡ ended
+  pub taken_line : (b : ℕ) (first' ended' : Bool) (line' : List ℕ) (given' : Option ℕ) (left : List ℕ) → ended ≡ false → b ≡ 10 → rest_of line' given' ≡ passed first line → begun line' given' ≡ [] → first' ≡ is_first_after first line → ended' ≡ ended
       → coming first' ended' line' given' left ≡ coming first ended line given (b ∷ left)
   taken_line b first' ended' line' given' left on is rest read behind same =
       ap (λ t. t ++ (if ended' then [] else passed_of first' (begun line' given') left)) rest
@@ -127,7 +127,7 @@ module _ (first ended : Bool) (line : List ℕ) (given : Option ℕ) (none : giv
   pub taken_more : (b : ℕ) (left : List ℕ) → ended ≡ false → b ≢ 10 → 255 < length line → coming first ended line given left ≡ coming first ended line given (b ∷ left)
   taken_more b left on other long =
       before left on ∙ long_same first left line (line ++ b ∷ []) long (longer line b long)
-      ∙ sym (ap (λ f. if f then passed first line ++ passed_of (first_behind first line) [] left else passed_of first (line ++ b ∷ []) left) (ne_eqb b 10 other))
+      ∙ sym (ap (λ f. if f then passed first line ++ passed_of (is_first_after first line) [] left else passed_of first (line ++ b ∷ []) left) (ne_eqb b 10 other))
       ∙ sym (before (b ∷ left) on)
 
   -- the end, behind a line or not

@@ -13,7 +13,7 @@ use Rattle.mvs_model.specs.Answers.{Event, Faulted}
 use Rattle.mvs_model.specs.Grammar.{Row}
 use Rattle.mvs_laws.specs.Laws.{EndsIn, fault_at, first_fault}
 use Rattle.mvs_model.specs.Lines.{lines_of}
-use Rattle.mvs_model.specs.Reading.{◌>>=◌, FaultOf, LineOf, checks, first_of, form_in, line_said, operands_of, operation_in, row_of, says_nothing, task_in}
+use Rattle.mvs_model.specs.Reading.{◌>>=◌, FaultOf, LineOf, checks, first_of, form_in, line_meaning, operands_of, operation_in, row_of, is_blank_or_comment, task_in}
 use Rattle.mvs_model.proofs.Reading.{said_with}
 use Rattle.mvsjob.specs.Faulty.{EndsAt, IsFirstFault, IsLineOf}
 
@@ -29,14 +29,14 @@ bound_says t o l h1 = grind (arith, nat_tests)
 with_says : (task form : List ℕ) (operands : List (List ℕ)) (o : Option Row) (l : Line) → said_with task form operands o ≡ Some l → is_statement l ≡ true
 with_says task form operands o l h1 = grind (arith, nat_tests, bound_says)
 
-kind_said : (bytes : List ℕ) (l : Line) → line_said bytes ≡ Some l → says_nothing bytes ≡ not (is_statement l)
-kind_said bytes l e = at (says_nothing bytes) e where
+kind_said : (bytes : List ℕ) (l : Line) → line_meaning bytes ≡ Some l → is_blank_or_comment bytes ≡ not (is_statement l)
+kind_said bytes l e = at (is_blank_or_comment bytes) e where
   at : (b : Bool) → (if b then Some line.Nothing else said_with (task_in bytes) (form_in (operation_in bytes) (operands_of bytes)) (operands_of bytes) (row_of (operation_in bytes) (operands_of bytes))) ≡ Some l → b ≡ not (is_statement l)
   at true f = ap (λ k. not (is_statement k)) (let g : line.Nothing ≡ l = cc in g)
   at false f = ap not (sym (with_says (task_in bytes) (form_in (operation_in bytes) (operands_of bytes)) (operands_of bytes) (row_of (operation_in bytes) (operands_of bytes)) l f))
 
-pub nothing_said : (first : Bool) (bytes : List ℕ) (l : Line) → l ≡ line.Nothing → LineOf first bytes l → true ≡ says_nothing bytes
-nothing_said first bytes l e is = sym (kind_said bytes l is.says ∙ ap (λ l. not (is_statement l)) e)
+pub nothing_said : (first : Bool) (bytes : List ℕ) (l : Line) → l ≡ line.Nothing → LineOf first bytes l → true ≡ is_blank_or_comment bytes
+nothing_said first bytes l e is = sym (kind_said bytes l is.has_value ∙ ap (λ l. not (is_statement l)) e)
 
 some_same : (p q : ℕ × Fault) → Some p ≡ Some q → p ≡ q
 some_same p q e = cc
@@ -69,10 +69,10 @@ module _ (text rest : List ℕ) (number : ℕ) (first : Bool) (at passed end : �
   behind : drop (end + 1) rest ≡ drop (at + (end + 1)) text
   behind = ap (drop (end + 1)) is ∙ drop-drop (end + 1) at text
 
-  further : (o : Option Fault) → first_of (checks is_first (take end rest)) ≡ o → first_fault number first (lines_of text) ≡ fault_at (number + passed) o (first_fault (number + passed + 1) (is_first && says_nothing (take end rest)) (lines_of (drop (end + 1) rest)))
-  further o e = p.same ∙ ap (first_fault (number + passed) is_first) here ∙ ap (λ o. fault_at (number + passed) o (first_fault (number + passed + 1) (is_first && says_nothing (take end rest)) (lines_of (drop (end + 1) rest)))) e
+  further : (o : Option Fault) → first_of (checks is_first (take end rest)) ≡ o → first_fault number first (lines_of text) ≡ fault_at (number + passed) o (first_fault (number + passed + 1) (is_first && is_blank_or_comment (take end rest)) (lines_of (drop (end + 1) rest)))
+  further o e = p.same ∙ ap (first_fault (number + passed) is_first) here ∙ ap (λ o. fault_at (number + passed) o (first_fault (number + passed + 1) (is_first && is_blank_or_comment (take end rest)) (lines_of (drop (end + 1) rest)))) e
 
-  pub passed_next : (l : Line) (nothing : Bool) → LineOf is_first (take end rest) l → nothing ≡ says_nothing (take end rest) → Passed text number first (at + (end + 1)) (passed + 1) (is_first && nothing)
+  pub passed_next : (l : Line) (nothing : Bool) → LineOf is_first (take end rest) l → nothing ≡ is_blank_or_comment (take end rest) → Passed text number first (at + (end + 1)) (passed + 1) (is_first && nothing)
   passed_next l nothing said e = record {
     before = p.before ++ take end rest ∷ [];
     lines = p.lines ∙ ap (λ ls. p.before ++ ls) here ∙ sym (append_assoc p.before (take end rest ∷ []) (lines_of (drop (end + 1) rest))) ∙ ap (λ t. (p.before ++ take end rest ∷ []) ++ lines_of t) behind;
@@ -80,7 +80,7 @@ module _ (text rest : List ℕ) (number : ℕ) (first : Bool) (at passed end : �
     few = omega (arith, p.few);
     same =
         let n : number + passed + 1 ≡ number + (passed + 1) = omega arith in
-        further None said.no_fault ∙ ap (λ n. first_fault n (is_first && says_nothing (take end rest)) (lines_of (drop (end + 1) rest))) n ∙ ap (λ b. first_fault (number + (passed + 1)) (is_first && b) (lines_of (drop (end + 1) rest))) (sym e)
+        further None said.no_fault ∙ ap (λ n. first_fault n (is_first && is_blank_or_comment (take end rest)) (lines_of (drop (end + 1) rest))) n ∙ ap (λ b. first_fault (number + (passed + 1)) (is_first && b) (lines_of (drop (end + 1) rest))) (sym e)
         ∙ ap (λ t. first_fault (number + (passed + 1)) (is_first && nothing) (lines_of t)) behind;
   }
 

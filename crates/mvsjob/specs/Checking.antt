@@ -3,7 +3,7 @@ use Rattle.std.specs.Prelude.{◌≡◌, ◌==◌, ◌&&◌, ◌||◌, ℕ, nat_
 use Rattle.std.specs.Io.KnownBytes.{Appends}
 use Rattle.annotated.specs.declared.report.Counts.{Counts}
 use Rattle.annotated.specs.declared.report.Form.{Form}
-use Rattle.annotated.specs.Asked.{asked_of, statements}
+use Rattle.annotated.specs.ExpectedAnswers.{expected_of, statements}
 use Rattle.annotated.specs.Reports.{are_right, counts_of, report_of}
 use Rattle.job_script.specs.Writing.{AppendsFront}
 use Rattle.mvs_model.specs.declared.outcome.Outcome.{Outcome}
@@ -52,9 +52,9 @@ pub record IsChecked (form : Form) (name script report : List ℕ) (served : Ser
   pub found : Option Faulty
   pub run : IsPrinting (statements script) printed outcome
   pub fault : IsFaultOf (statements script) outcome found
-  pub report_is : report ≡ report_of form.format form.is_hidden name (asked_of script printed)
-  pub ending : served.ending ≡ checked_ending (counts_of (asked_of script printed)) (line_of found)
-  pub reported : IsReported form.is_hidden (counts_of (asked_of script printed)) found served.faulty
+  pub report_is : report ≡ report_of form.format form.is_hidden name (expected_of script printed)
+  pub ending : served.ending ≡ checked_ending (counts_of (expected_of script printed)) (line_of found)
+  pub reported : IsReported form.is_hidden (counts_of (expected_of script printed)) found served.faulty
 
 -- What a check does between two moments of a writer: it writes its report. If memory is exhausted it writes nothing, and if a write
 -- fails a front of the report.
@@ -62,5 +62,5 @@ abbrev pub Checks : Option (List ℕ) → Option (List ℕ) → Form → List �
 Checks before after form name script (Ok served) = (report : List ℕ) × Appends before after report × IsChecked form name script report served
 Checks before after form name script (Err (Job fault.Memory)) = Appends before after []
 Checks before after form name script (Err (Job fault.Write)) =
-    (printed : List ℕ) × (outcome : Outcome) × IsPrinting (statements script) printed outcome × AppendsFront before after (report_of form.format form.is_hidden name (asked_of script printed))
+    (printed : List ℕ) × (outcome : Outcome) × IsPrinting (statements script) printed outcome × AppendsFront before after (report_of form.format form.is_hidden name (expected_of script printed))
 Checks before after form name script (Err _) = ⊥

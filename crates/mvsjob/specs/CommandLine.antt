@@ -83,8 +83,8 @@ abbrev pub random_app : App → App
 random_app a = with_rule (with_rule a (value_rule (codes "random") (Unsigned 0 18446744073709551615))) (value_rule (codes "lines") (Unsigned 1 1000000))
 
 -- and with the options for the output of a run
-abbrev pub telling_app : App → App
-telling_app a =
+abbrev pub output_app : App → App
+output_app a =
     with_rule (with_rule (with_rule (with_rule (with_rule a (flag_rule (codes "explain"))) (flag_rule (codes "json"))) (flag_rule (codes "page")))
     (flag_rule (codes "strict"))) (flag_rule (codes "interactive"))
 
@@ -95,7 +95,7 @@ rule_app a = with_rule a (value_rule (codes "rule") (Unsigned 1 74))
 -- the program's command: a word and nineteen options, which may all be left out, and a version
 abbrev pub command : Parsers → App
 command ps =
-    rule_app (with_rule (with_rule (telling_app (with_rule (random_app (judging_app (answers_app (with_rule (checking_app
+    rule_app (with_rule (with_rule (output_app (with_rule (random_app (judging_app (answers_app (with_rule (checking_app
     (with_rule (with_rule (versioned (new_app (codes "mvsjob"))) (new_rule (codes "FILE"))) (value_rule (codes "place") ps.place))) (value_rule (codes "format") ps.format)))))
     (value_rule (codes "profile") ps.profile))) (value_rule (codes "color") ps.color)) (value_rule (codes "code") ps.code))
 

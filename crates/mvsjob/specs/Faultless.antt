@@ -4,7 +4,7 @@ use Rattle.std.specs.Io.KnownBytes.{Appends, Consumes, IsAtEnd}
 use Rattle.mvs_model.specs.declared.outcome.Outcome.{Outcome}
 use Rattle.mvs_model.specs.Lines.{lines_of, ended_text}
 use Rattle.mvs_model.specs.Numbers.{most_script_bytes}
-use Rattle.mvs_model.specs.Reading.{checks, first_of, is_empty, says_nothing}
+use Rattle.mvs_model.specs.Reading.{checks, first_of, is_empty, is_blank_or_comment}
 use Rattle.mvs_job.specs.declared.run.RunFault.{RunFault}
 use Rattle.mvs_job.specs.declared.run.RunFault.TheVariants.{Memory, Read, ReadTooLong, Write}
 use Rattle.mvs_job.specs.Consuming.{Piece}
@@ -18,7 +18,7 @@ is_faulty first line = is_some (first_of (checks first line))
 -- the lines that have no fault, where those that have one count for nothing. `first` says whether no statement came before
 abbrev pub faultless : Bool → List (List ℕ) → List (List ℕ)
 faultless first [] = []
-faultless first (l ∷ lines) = if is_faulty first l then faultless first lines else l ∷ faultless (first && says_nothing l) lines
+faultless first (l ∷ lines) = if is_faulty first l then faultless first lines else l ∷ faultless (first && is_blank_or_comment l) lines
 
 -- the script without its faulty lines
 abbrev pub without_faults : List ℕ → List ℕ
@@ -54,13 +54,13 @@ abbrev pub passed : Bool → List ℕ → List ℕ
 passed first line = if is_faulty first line then [] else line ++ 10 ∷ []
 
 -- whether no statement came before the next line
-abbrev pub first_behind : Bool → List ℕ → Bool
-first_behind first line = if is_faulty first line then first else first && says_nothing line
+abbrev pub is_first_after : Bool → List ℕ → Bool
+is_first_after first line = if is_faulty first line then first else first && is_blank_or_comment line
 
 -- what is passed on of a line of which some bytes were read, and of the bytes that are left
 abbrev pub passed_of : Bool → List ℕ → List ℕ → List ℕ
 passed_of first line [] = if is_empty line then [] else passed first line
-passed_of first line (b ∷ left) = if b == 10 then passed first line ++ passed_of (first_behind first line) [] left else passed_of first (line ++ b ∷ []) left
+passed_of first line (b ∷ left) = if b == 10 then passed first line ++ passed_of (is_first_after first line) [] left else passed_of first (line ++ b ∷ []) left
 
 -- the rest of a complete line, of which a number of bytes was passed on
 abbrev pub rest_of : List ℕ → Option ℕ → List ℕ

@@ -17,14 +17,14 @@ use Rattle.mvs_job.specs.declared.run.RunFault.TheVariants as fault
 use Rattle.mvs_job.specs.Consuming.{LeavesText, Piece}
 use Rattle.mvs_job.specs.Streams.{PrintedUpTo}
 use Rattle.reference.specs.Texts.{IsAbout}
-use Rattle.mvs_job.specs.Strict.{HearsFront, PrintsStrictly, RunsObserved, Skipped}
+use Rattle.mvs_job.specs.Strict.{ObservesFront, PrintsStrictly, RunsObserved, Skipped}
 use Rattle.page.specs.Pages.{WritesPage, WritesShown}
 use Rattle.mvsjob.specs.declared.ending.Ending.TheVariants.{Ran, Printed, Judged}
 use Rattle.mvsjob.specs.declared.ending.GiveUp.{GiveUp}
 use Rattle.mvsjob.specs.declared.ending.GiveUp.TheVariants.{Job}
 use Rattle.mvsjob.specs.declared.faulty.Faulty.{Faulty}
 use Rattle.mvsjob.specs.declared.served.Served.{Served}
-use Rattle.mvsjob.specs.Asking.{asked}
+use Rattle.mvsjob.specs.Queries.{with_queries}
 use Rattle.mvsjob.specs.Endings.{gave_up, strict_ending}
 use Rattle.mvsjob.specs.Faulty.{EndsAt, IsFirstFault, IsLineOf}
 
@@ -50,13 +50,13 @@ Pages before after frame script result = (ended : Result Outcome Stop) × Writes
 abbrev pub RunsStrictly : Option (List ℕ) → Option (List ℕ) → Option (List Skipped) → Option (List Skipped) → List ℕ → Result Served GiveUp → Type 0
 RunsStrictly before after heard heard' script (Ok served) =
     (outcome : Outcome) × (all : Bool) × PrintsStrictly before after heard heard' script outcome all × (served.ending ≡ strict_ending outcome all) × IsFaultOf script outcome served.faulty
-RunsStrictly before after heard heard' script (Err why) = (stop : Stop) × (why ≡ gave_up stop) × PrintedUpTo stop before after script × HearsFront heard heard' script
+RunsStrictly before after heard heard' script (Err why) = (stop : Stop) × (why ≡ gave_up stop) × PrintedUpTo stop before after script × ObservesFront heard heard' script
 
 -- It is run, a consumer writes of it, and it is observed so.
 abbrev pub ConsumesStrictly : Piece → Option (List ℕ) → Option (List ℕ) → Option (List Skipped) → Option (List Skipped) → List ℕ → Result Served GiveUp → Type 0
 ConsumesStrictly piece before after heard heard' script (Ok served) =
     (outcome : Outcome) × (all : Bool) × RunsObserved piece before after heard heard' script outcome all × (served.ending ≡ strict_ending outcome all) × IsFaultOf script outcome served.faulty
-ConsumesStrictly piece before after heard heard' script (Err why) = (stop : Stop) × (why ≡ gave_up stop) × LeavesText piece before after script (Err stop) × HearsFront heard heard' script
+ConsumesStrictly piece before after heard heard' script (Err why) = (stop : Stop) × (why ≡ gave_up stop) × LeavesText piece before after script (Err stop) × ObservesFront heard heard' script
 
 -- ---- texts
 
@@ -92,7 +92,7 @@ Blanks before after script result = WritesText before after (blank script) resul
 
 -- The script is written with its questions.
 abbrev pub Asks : Option (List ℕ) → Option (List ℕ) → List ℕ → Result Served GiveUp → Type 0
-Asks before after script result = WritesText before after (asked true (lines_of script)) result
+Asks before after script result = WritesText before after (with_queries true (lines_of script)) result
 
 -- ---- findings
 

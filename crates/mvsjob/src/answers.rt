@@ -6,7 +6,7 @@ ghost use Rattle.mvs_model.specs.Runs.{IsPrinting};
 ghost use Rattle.mvsjob.specs.Checking.{Checks, IsReported, checked_ending, hides_fault, line_of};
 ghost use Rattle.mvsjob.specs.Served.{Asks, Blanks, HasNoForeign};
 
-use crate::asking::write_asking;
+use crate::queries::write_with_queries;
 use crate::choices::Settings;
 use crate::ending::{Ending, GiveUp};
 use crate::faulty::Faulty;
@@ -137,7 +137,7 @@ pub fn write_questions<'a, W: Write>(
         → Asks (W.contents writer.old.inner) (W.contents writer.new.inner) script.now result }
 {
     let front = front_of(script);
-    match write_asking(writer, front.bytes) {
+    match write_with_queries(writer, front.bytes) {
         Ok(()) => Ok(Served::of_front(front.faulty)),
         Err(_) => Err(GiveUp::Job(RunFault::Write)),
     }

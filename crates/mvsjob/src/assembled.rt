@@ -7,7 +7,7 @@ ghost use Rattle.mvsjob.specs.Served.{EndsAtFault, IsPrinted};
 use crate::ending::{Ending, GiveUp};
 use crate::faulty::first_faulty;
 use crate::front::front_of;
-use crate::kept::is_silent;
+use crate::recorder::is_silent;
 use crate::served::Served;
 use crate::through::Through;
 use assembler_program::{ProgramFault, write_program};

@@ -13,7 +13,7 @@ const MOST_NEAR: usize = 64;
 
 /// What a line lacks: an active task, or a name that is set.
 #[derive(Clone, Copy)]
-pub enum Lacked {
+pub enum Needed {
     Task(Name),
     Name(Name),
 }
@@ -115,18 +115,18 @@ impl Made {
     }
 }
 
-impl Lacked {
+impl Needed {
     fn name(&self) -> Name {
         match self {
-            Lacked::Task(name) | Lacked::Name(name) => *name,
+            Needed::Task(name) | Needed::Name(name) => *name,
         }
     }
 
     // Returns whether a job has such a name.
     fn is_there(&self, job: &Job, name: &Name) -> bool {
         match self {
-            Lacked::Task(_) => job.step().is_active(name),
-            Lacked::Name(_) => job.place_of(name).is_some(),
+            Needed::Task(_) => job.step().is_active(name),
+            Needed::Name(_) => job.place_of(name).is_some(),
         }
     }
 
@@ -208,11 +208,11 @@ impl Makers {
 
     /// Returns what may help a line that lacks a task or a name. Of the names that are near, the last 64 that its step makes are
     /// looked at; where memory is refused none is found.
-    pub fn clue(&self, alloc: Global, job: &Job, line_number: u32, lacked: Lacked) -> Clue {
+    pub fn clue(&self, alloc: Global, job: &Job, line_number: u32, lacked: Needed) -> Clue {
         let step = self.step_of(line_number);
         let made = match lacked {
-            Lacked::Task(_) => &self.tasks,
-            Lacked::Name(_) => &self.names,
+            Needed::Task(_) => &self.tasks,
+            Needed::Name(_) => &self.names,
         };
         let clue = made.clue(lacked.name(), line_number, step);
         if !matches!(clue, Clue::Nothing) {

@@ -5,7 +5,7 @@ ghost use Rattle.std.specs.Option.{unwrap_or};
 ghost use Rattle.clap.specs.Words.{IsAmong, Kinds, Text, app_of, first_value, found_of, kind_of, new_app, new_rule, with_rule};
 ghost use Rattle.clap.specs.declared.error.kind.ErrorKind.TheVariants.{OutOfMemory};
 ghost use Rattle.clap.specs.declared.builder.value_parser.ValueParser.{ValueParser as Parser};
-ghost use Rattle.mvsjob.specs.CommandLine.{AreParsers, FindsWrong, IsColor, IsFormat, IsMode, IsNumber, IsOneOf, IsProfile, IsRecipe, IsScriptMode, IsTaken, Parsers, answers_app, assigned, checking_app, colors, command, formats, flag_rule, judging_app, places, profiles, random_app, rule_app, telling_app, value_rule, versioned};
+ghost use Rattle.mvsjob.specs.CommandLine.{AreParsers, FindsWrong, IsColor, IsFormat, IsMode, IsNumber, IsOneOf, IsProfile, IsRecipe, IsScriptMode, IsTaken, Parsers, answers_app, assigned, checking_app, colors, command, formats, flag_rule, judging_app, places, profiles, random_app, rule_app, output_app, value_rule, versioned};
 ghost use Rattle.reference.specs.Texts.{names};
 
 use crate::choices::{Color, Mode, Recipe, Settings};
@@ -276,8 +276,8 @@ fn with_profile<'a>(command: Command<'a>, alloc: Global) -> Result<Command<'a>, 
 }
 
 // Adds the options for the output of a run.
-fn with_telling<'a>(command: Command<'a>, alloc: Global) -> Result<Command<'a>, AllocError>
-    ensures { IfOk result (λ c. app_of c ≡ telling_app (app_of command.entry)) }
+fn with_outputs<'a>(command: Command<'a>, alloc: Global) -> Result<Command<'a>, AllocError>
+    ensures { IfOk result (λ c. app_of c ≡ output_app (app_of command.entry)) }
 {
     let explaining = with_flag(
         command,
@@ -369,7 +369,7 @@ fn command<'a>(alloc: Global) -> Result<Command<'a>, AllocError>
     let judged = with_judging(answered, alloc)?;
     let random = with_random(judged, alloc)?;
     let profiled = with_profile(random, alloc)?;
-    let telling = with_telling(profiled, alloc)?;
+    let telling = with_outputs(profiled, alloc)?;
     let colored = with_color(telling, alloc)?;
     let coded = with_code(colored, alloc)?;
     with_rule_text(coded, alloc)
@@ -415,7 +415,7 @@ fn is_set(matches: &ArgMatches<'_>, name: &str) -> bool
 }
 
 // Whether an option has this value.
-fn says(matches: &ArgMatches<'_>, name: &str, value: &str) -> bool
+fn has_value(matches: &ArgMatches<'_>, name: &str, value: &str) -> bool
     ensures { IsTrue result ↔ first_value (found_of matches.now) name.now ≡ Some value.now }
 {
     match matches.get_str(name) {
@@ -428,9 +428,9 @@ fn says(matches: &ArgMatches<'_>, name: &str, value: &str) -> bool
 fn color(matches: &ArgMatches<'_>) -> Color
     ensures { IsColor (first_value (found_of matches.now) (codes "color")) result }
 {
-    if says(matches, "color", "always") {
+    if has_value(matches, "color", "always") {
         Color::Always
-    } else if says(matches, "color", "never") {
+    } else if has_value(matches, "color", "never") {
         Color::Never
     } else {
         Color::Auto
@@ -441,9 +441,9 @@ fn color(matches: &ArgMatches<'_>) -> Color
 fn format(matches: &ArgMatches<'_>) -> Format
     ensures { IsFormat (first_value (found_of matches.now) (codes "format")) result }
 {
-    if says(matches, "format", "tap") {
+    if has_value(matches, "format", "tap") {
         Format::Tap
-    } else if says(matches, "format", "junit") {
+    } else if has_value(matches, "format", "junit") {
         Format::Junit
     } else {
         Format::Text
@@ -454,21 +454,21 @@ fn format(matches: &ArgMatches<'_>) -> Format
 fn profile(matches: &ArgMatches<'_>) -> Profile
     ensures { IsProfile (first_value (found_of matches.now) (codes "profile")) result }
 {
-    if says(matches, "profile", "tasks") {
+    if has_value(matches, "profile", "tasks") {
         Profile::Tasks
-    } else if says(matches, "profile", "pools") {
+    } else if has_value(matches, "profile", "pools") {
         Profile::Pools
-    } else if says(matches, "profile", "tidy") {
+    } else if has_value(matches, "profile", "tidy") {
         Profile::Tidy
-    } else if says(matches, "profile", "faults") {
+    } else if has_value(matches, "profile", "faults") {
         Profile::Faults
-    } else if says(matches, "profile", "lists") {
+    } else if has_value(matches, "profile", "lists") {
         Profile::Lists
-    } else if says(matches, "profile", "boundaries") {
+    } else if has_value(matches, "profile", "boundaries") {
         Profile::Boundaries
-    } else if says(matches, "profile", "whole") {
+    } else if has_value(matches, "profile", "whole") {
         Profile::Whole
-    } else if says(matches, "profile", "all") {
+    } else if has_value(matches, "profile", "all") {
         Profile::All
     } else {
         Profile::Storage

@@ -7,9 +7,9 @@ ghost use Rattle.mvs_model.specs.Runs.{IsAnswered, IsPrinting, IsPrintingFront};
 ghost use Rattle.std.specs.Option.{option_map};
 ghost use Rattle.std.specs.Io.KnownBytes.{IsAtEnd, Keeps};
 ghost use Rattle.mvs_job.specs.Consuming.{WritesText};
-ghost use Rattle.mvsjob.specs.Faultless.{HasRead, StopsWithin, Writes, WritesPart, begun, coming, first_behind, known_coming, limited, passed, rest_of, without_faults};
+ghost use Rattle.mvsjob.specs.Faultless.{HasRead, StopsWithin, Writes, WritesPart, begun, coming, is_first_after, known_coming, limited, passed, rest_of, without_faults};
 
-use crate::faulty::says_nothing;
+use crate::faulty::is_blank_or_comment;
 use job_script::{LineBuffer, read_line};
 use mvs_job::{Consumer, Printer, RunFault, Source, Told, run_source};
 use mvs_model::line::{Fault, Line};
@@ -88,12 +88,12 @@ impl Lines {
         requires { self.old.given ≡ None }
         ensures passed { rest_of self.new.line self.new.given ≡ passed self.old.first self.old.line }
         ensures begun { begun self.new.line self.new.given ≡ [] }
-        ensures first { self.new.first ≡ first_behind self.old.first self.old.line }
+        ensures first { self.new.first ≡ is_first_after self.old.first self.old.line }
         ensures ended { self.new.ended ≡ self.old.ended }
     {
         match read_line(self.line.bytes(), self.first, &mut self.read) {
             Ok(()) => {
-                self.first &= says_nothing(&self.read);
+                self.first &= is_blank_or_comment(&self.read);
                 self.given = Some(0);
                 self.number = self.number.saturating_add(1);
             }

@@ -4,7 +4,7 @@ ghost use Rattle.std.specs.Prelude.{◌≡◌, ◌≤◌, ◌<◌, ◌+◌, ◌^
 ghost use Rattle.mvs_model.specs.Answers.{Event};
 ghost use Rattle.mvs_model.specs.Lines.{lines_of};
 ghost use Rattle.mvs_model.specs.Numbers.{most_script_bytes};
-ghost use Rattle.mvs_model.specs.Reading.{LineOf, says_nothing};
+ghost use Rattle.mvs_model.specs.Reading.{LineOf, is_blank_or_comment};
 ghost use Rattle.mvs_model.specs.Runs.{IsRun};
 ghost use Rattle.mvsjob.specs.Faulty.{EndsAt, IsFirstFault, IsLineOf};
 
@@ -39,9 +39,9 @@ impl Faulty<'_> {
 }
 
 /// Whether a line says nothing that says this.
-pub fn says_nothing(read: &Line) -> bool
+pub fn is_blank_or_comment(read: &Line) -> bool
     ensures { (first : Bool) (bytes : List ℕ) → LineOf first bytes read.now
-        → result ≡ says_nothing bytes }
+        → result ≡ is_blank_or_comment bytes }
 {
     match read {
         Line::Nothing => true,
@@ -50,7 +50,7 @@ pub fn says_nothing(read: &Line) -> bool
 }
 
 // Returns the number of the line after n lines, the first of which has a number.
-fn number_behind(number: u32, passed: usize) -> u32
+fn number_after(number: u32, passed: usize) -> u32
     ensures { number + passed < 2 ^ 32 → result ≡ number + passed }
 {
     if passed <= (u32::MAX - number) as usize {
@@ -78,17 +78,17 @@ pub fn first_faulty(text: &[u8], number: u32, first: bool) -> Faulty<'_>
         let line = &rest[..end];
         if let Err(fault) = read_line(line, is_first, &mut read) {
             return Faulty {
-                number: number_behind(number, passed),
+                number: number_after(number, passed),
                 line,
                 fault,
             };
         }
-        is_first &= says_nothing(&read);
+        is_first &= is_blank_or_comment(&read);
         passed += 1;
         at += end + 1;
     }
     Faulty {
-        number: number_behind(number, passed),
+        number: number_after(number, passed),
         line: &[],
         fault: Fault::OutOfPlace,
     }

@@ -4,7 +4,7 @@ ghost use Rattle.std.specs.Prelude.{◌≡◌, None, position};
 ghost use Rattle.mvsjob.specs.Served.{HasNoForeign, is_foreign};
 
 use crate::faulty::Faulty;
-use crate::kept::{ended, ended_lines};
+use crate::recorder::{ended, ended_lines};
 use job_script::parted::parted;
 use job_script::read_line;
 use mvs_model::line::{Fault, Line};

@@ -6,7 +6,7 @@ ghost use Rattle.std.specs.Process.{exit_status};
 ghost use Rattle.mvsjob.specs.Endings.{status_of};
 
 mod answers;
-mod asking;
+mod queries;
 mod assembled;
 mod choices;
 mod clues;
@@ -19,7 +19,7 @@ mod faultless;
 mod faulty;
 mod front;
 mod judging;
-mod kept;
+mod recorder;
 mod opened;
 mod piped;
 mod script;
@@ -36,7 +36,7 @@ use diagnosis::{PlainName, diagnose};
 use ending::{Cause, Ending, GiveUp};
 use event_json::EventLines;
 use faulty::Faulty;
-use kept::Kept;
+use kept::LineRecorder;
 use mvs_job::{Explained, RunFault};
 use mvs_model::outcome::Outcome;
 use mvs_model::watched::Watched;
@@ -125,7 +125,7 @@ fn run_lines<R: Read + Drop>(
 ) -> Result<Ending, GiveUp>
     requires { writer.old.failed ≡ false }
 {
-    let Ok(kept) = Kept::new(rt.alloc(), reader) else {
+    let Ok(kept) = LineRecorder::new(rt.alloc(), reader) else {
         return Err(GiveUp::Job(RunFault::Memory));
     };
     let (alloc, placement) = (rt.alloc(), settings.placement);

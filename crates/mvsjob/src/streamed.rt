@@ -9,7 +9,7 @@ ghost use Rattle.mvs_job.specs.Consuming.{WritesText};
 ghost use Rattle.mvs_job.specs.Streams.{StopsText};
 ghost use Rattle.mvsjob.specs.Faultless.{Writes, WritesPart};
 
-use crate::kept::Kept;
+use crate::recorder::LineRecorder;
 use mvs_job::{Consumer, RunFault, Told, run_job, run_source};
 use mvs_model::outcome::Outcome;
 use mvs_model::want::Placement;
@@ -21,13 +21,13 @@ use std::io::{Read, Write};
 #[derive(Drop)]
 pub struct Streamed<R> {
     pub ended: Result<Outcome, RunFault>,
-    pub reader: Watched<Kept<R>>,
+    pub reader: Watched<LineRecorder<R>>,
 }
 
 /// Runs the script that a reader has, each line before the next one is read.
 pub fn run_streamed<R: Read + Drop, W: Write>(
     alloc: Global,
-    reader: Kept<R>,
+    reader: LineRecorder<R>,
     writer: &mut Watched<W>,
     placement: Placement,
 ) -> Streamed<R>
@@ -69,7 +69,7 @@ pub fn run_streamed<R: Read + Drop, W: Write>(
 /// Runs the script that a reader has, each line before the next one is read, and gives each entry of the run to a consumer.
 pub fn stream_to<R: Read + Drop, W: Write, C: Consumer>(
     alloc: Global,
-    reader: Kept<R>,
+    reader: LineRecorder<R>,
     writer: &mut Watched<W>,
     placement: Placement,
     consumer: &mut C,

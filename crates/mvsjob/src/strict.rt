@@ -2,7 +2,7 @@
 
 ghost use Rattle.std.specs.Prelude.{None};
 
-use crate::clues::{Lacked, Makers, unset};
+use crate::clues::{Needed, Makers, unset};
 use diagnosis::{Clue, NotServed, PlainName};
 use job_script::read_line;
 use mvs_job::{Hears, Job, Unserved, Walk};
@@ -36,7 +36,7 @@ impl<'a> Teller<'a> {
     }
 
     // Returns what may help a line.
-    fn clue(&self, job: &Job, line_number: u32, lacked: Lacked) -> Clue {
+    fn clue(&self, job: &Job, line_number: u32, lacked: Needed) -> Clue {
         match &self.makers {
             Some(makers) => makers.clue(self.rt.alloc(), job, line_number, lacked),
             None => Clue::Nothing,
@@ -60,13 +60,13 @@ impl<'a> Teller<'a> {
         };
         match why {
             Unserved::NotRun => {
-                let lacked = Lacked::Task(*task);
+                let lacked = Needed::Task(*task);
                 let clue = self.clue(job, line_number, lacked);
                 Some(NotServed::without_task(line, *task, clue))
             }
             Unserved::NoName => {
                 let name = unset(job, statement)?;
-                let lacked = Lacked::Name(name);
+                let lacked = Needed::Name(name);
                 let clue = self.clue(job, line_number, lacked);
                 Some(NotServed::without_name(line, name, clue))
             }

@@ -15,7 +15,7 @@ use Rattle.mvs_model.specs.declared.line.Written.TheVariants as written
 use Rattle.mvs_model.specs.Grammar.{Meaning, Row, getmain_list, table}
 use Rattle.mvs_model.specs.Grammar as grammar
 use Rattle.mvs_model.specs.Name.{padded, same_name}
-use Rattle.mvs_model.specs.Reading.{◌>>=◌, ◌when◌, ByKey, LineOf, behind_form, by_key, checks, first_of, form_in, has_key, if_kind, is_conflict, is_for, is_half, is_list, is_name, is_name_byte, is_twice, items, key_of, kind_of, lacks_keyword, lacks_positional, number, operand_checks, operands_of, operation_in, release_of, repeats, row_checks, row_of, rows_of, says_nothing, statement_checks, statement_of, task_in, text_of, value_of, with_left}
+use Rattle.mvs_model.specs.Reading.{◌>>=◌, ◌when◌, ByKey, LineOf, operands_after_form, by_key, checks, first_of, form_in, has_key, if_kind, is_conflict, is_for, is_half, is_list, is_name, is_name_byte, is_twice, items, key_of, kind_of, lacks_keyword, lacks_positional, number, operand_checks, operands_of, operation_in, release_of, repeats, row_checks, row_of, rows_of, is_blank_or_comment, statement_checks, statement_of, task_in, text_of, value_of, with_left}
 use Rattle.mvs_model.specs.ReadingLaws.{keyed}
 use Rattle.mvs_model.proofs.Orders.{same_name_is}
 use Rattle.mvs_model.proofs.Reading.{found_has, first_fails, none_behind, none_later, passing_have, said_with}
@@ -222,18 +222,18 @@ row_found operation operands row e = found_has IsFit _ (rows_of operation) row (
 abbrev last_checks : Row → ByKey → List (Fault × Bool)
 last_checks row os = MissingOperand when (lacks_positional row os || lacks_keyword row os || list_any (is_half os) row.rules) ∷ Conflicting when list_any (is_conflict os) row.rules ∷ []
 
-row_fits : (form : List ℕ) (operands : List (List ℕ)) (row : Row) (s : Statement) → IsFit row → first_of (row_checks operands (Some row)) ≡ None → statement_of row.meaning form (by_key (behind_form row operands)) ≡ Some s → AreasFit s
+row_fits : (form : List ℕ) (operands : List (List ℕ)) (row : Row) (s : Statement) → IsFit row → first_of (row_checks operands (Some row)) ≡ None → statement_of row.meaning form (by_key (operands_after_form row operands)) ≡ Some s → AreasFit s
 row_fits form operands row s fit e is =
-    let checks = flat_map (operand_checks row) (with_left (behind_form row operands)) in
-    let behind = last_checks row (by_key (behind_form row operands)) in
-    fit form (behind_form row operands) s (none_in_front checks behind e) (first_fails (drop 1 behind) (none_later 1 behind (none_behind checks behind e))) is
+    let checks = flat_map (operand_checks row) (with_left (operands_after_form row operands)) in
+    let behind = last_checks row (by_key (operands_after_form row operands)) in
+    fit form (operands_after_form row operands) s (none_in_front checks behind e) (first_fails (drop 1 behind) (none_later 1 behind (none_behind checks behind e))) is
 
 statement_fits : (first : Bool) (task operation : List ℕ) (operands : List (List ℕ)) (l : Line) → first_of (statement_checks first task operation operands) ≡ None → said_with task (form_in operation operands) operands (row_of operation operands) ≡ Some l → LineFits l
 statement_fits first task operation operands l e said = at (none_later 5 (statement_checks first task operation operands) e) (row_of operation operands) refl said where
   at : first_of (row_checks operands (row_of operation operands)) ≡ None → (o : Option Row) → row_of operation operands ≡ o → said_with task (form_in operation operands) operands o ≡ Some l → LineFits l
   at rest None found is = none_some is
   at rest (Some row) found is =
-      stated (statement_of row.meaning (form_in operation operands) (by_key (behind_form row operands))) is (λ s es. row_fits (form_in operation operands) operands row s (row_found operation operands row found) (ap (λ o. first_of (row_checks operands o)) (sym found) ∙ rest) es) where
+      stated (statement_of row.meaning (form_in operation operands) (by_key (operands_after_form row operands))) is (λ s es. row_fits (form_in operation operands) operands row s (row_found operation operands row found) (ap (λ o. first_of (row_checks operands o)) (sym found) ∙ rest) es) where
         stated : (o : Option Statement) → (o >>= λ s. Some (line.Statement (padded task) s)) ≡ Some l → ((s : Statement) → o ≡ Some s → AreasFit s) → LineFits l
         stated None e h = none_some e
         stated (Some s) e h = let same : line.Statement (padded task) s ≡ l = (let g : Some (line.Statement (padded task) s) ≡ Some l = e in cc) in subst LineFits same (h s refl)
@@ -241,7 +241,7 @@ statement_fits first task operation operands l e said = at (none_later 5 (statem
 -- what a line says that is read
 pub line_fits : (first : Bool) (bytes : List ℕ) (l : Line) → LineOf first bytes l → LineFits l
 line_fits first bytes l is =
-    (elim (says_nothing bytes) as (λ b. first_of (if b then [] else statement_checks first (task_in bytes) (operation_in bytes) (operands_of bytes)) ≡ None → (if b then Some line.Nothing else said_with (task_in bytes) (form_in (operation_in bytes) (operands_of bytes)) (operands_of bytes) (row_of (operation_in bytes) (operands_of bytes))) ≡ Some l → LineFits l) [
+    (elim (is_blank_or_comment bytes) as (λ b. first_of (if b then [] else statement_checks first (task_in bytes) (operation_in bytes) (operands_of bytes)) ≡ None → (if b then Some line.Nothing else said_with (task_in bytes) (form_in (operation_in bytes) (operands_of bytes)) (operands_of bytes) (row_of (operation_in bytes) (operands_of bytes))) ≡ Some l → LineFits l) [
       | true ↦ λ e said. let same : line.Nothing ≡ l = (let g : Some line.Nothing ≡ Some l = said in cc) in subst LineFits same tt
       | false ↦ λ e said. statement_fits first (task_in bytes) (operation_in bytes) (operands_of bytes) l e said
     ]) (none_later 2 (checks first bytes) is.no_fault) is.says

@@ -44,7 +44,7 @@ use Rattle.mvs_laws.proofs.Kept.{enters_tasks}
 use Rattle.mvs_model.proofs.Orders.{same_name_is, same_name_self}
 use Rattle.mvs_model.proofs.Tests.{by_test, true_false}
 use Rattle.request_forms.specs.Facts.{listed}
-use Rattle.request_forms.specs.Standing.{label_meant}
+use Rattle.request_forms.specs.SubpoolLabels.{label_meant}
 use Rattle.page.specs.declared.change.Change.{Change}
 use Rattle.page.specs.declared.change.Change.TheVariants as change
 use Rattle.page.specs.Changes.{answer_changes, area_change, area_changes, free_changes}

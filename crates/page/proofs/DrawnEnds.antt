@@ -8,7 +8,7 @@ use Rattle.mvs_model.specs.Changes.{End}
 use Rattle.mvs_model.specs.Finite.{has, kept}
 use Rattle.mvs_model.specs.Job.{JobValue}
 use Rattle.mvs_model.specs.Name.{same_name}
-use Rattle.mvs_model.specs.Owners.{ends_with, entry, goes}
+use Rattle.mvs_model.specs.Owners.{ends_with, entry, is_among_ended}
 use Rattle.mvs_model.proofs.Orders.{same_name_sym}
 use Rattle.page.specs.declared.change.Change.TheVariants as change
 use Rattle.page.specs.Changes.{fall_changes}
@@ -84,12 +84,12 @@ falls_left t [] p = all_left p
 falls_left t (y ∷ xs) p = then_left (λ x. same_name x y) (λ x. list_any (same_name x) xs) (λ x. same_name x y || list_any (same_name x) xs) p (ended y p) _ (λ x. both_out x y xs) (one_ended p y) (falls_left t xs (ended y p))
 
 -- the task that abends, and those that fall with it
-pub abend_left : (t : Name) (fallen : List Name) (p : Picture) → IsLeft (goes t fallen) p (replayed_all p (change.Abend t ∷ fall_changes t fallen))
-abend_left t fallen p = then_left (λ x. same_name x t) (λ x. list_any (same_name x) fallen) (goes t fallen) p (ended t p) _ (λ x. both_out x t fallen) (one_ended p t) (falls_left t fallen (ended t p))
+pub abend_left : (t : Name) (fallen : List Name) (p : Picture) → IsLeft (is_among_ended t fallen) p (replayed_all p (change.Abend t ∷ fall_changes t fallen))
+abend_left t fallen p = then_left (λ x. same_name x t) (λ x. list_any (same_name x) fallen) (is_among_ended t fallen) p (ended t p) _ (λ x. both_out x t fallen) (one_ended p t) (falls_left t fallen (ended t p))
 
 -- the task that returns, with which none falls
-pub return_left : (t : Name) (fallen : List Name) (p : Picture) → ((x : Name) → list_any (same_name x) fallen ≡ false) → IsLeft (goes t fallen) p (replayed_all p (change.Return t ∷ []))
-return_left t fallen p none = then_left (λ x. same_name x t) (λ _. false) (goes t fallen) p (ended t p) (ended t p) (λ x. (λ i. not (same_name x t || none x i)) ∙ at (same_name x t)) (one_ended p t) (all_left (ended t p)) where
+pub return_left : (t : Name) (fallen : List Name) (p : Picture) → ((x : Name) → list_any (same_name x) fallen ≡ false) → IsLeft (is_among_ended t fallen) p (replayed_all p (change.Return t ∷ []))
+return_left t fallen p none = then_left (λ x. same_name x t) (λ _. false) (is_among_ended t fallen) p (ended t p) (ended t p) (λ x. (λ i. not (same_name x t || none x i)) ∙ at (same_name x t)) (one_ended p t) (all_left (ended t p)) where
   at : (b : Bool) → not (b || false) ≡ (not b && true)
   at true = refl
   at false = refl
@@ -100,15 +100,15 @@ module _ (old new : JobValue) (t : Name) (e : End old.state t new.state) (names 
   -- the label of a subpool that stays goes on to mean it
   stays : (l : Label) (s : ℕ) → ends_with old.state.owners t e.fallen s ≡ false → Means old.state.owners l s → Means new.state.owners l s
   stays l s stay m = record {
-    owned = e.owners.owner s ∙ ap (kept (λ x. not (goes t e.fallen x))) m.owned ∙ ap (λ b. cond (not b) (Some l.owner) None) out;
-    under = e.owners.table (l.owner, l.number) ∙ ap (kept (λ s. not (goes t e.fallen l.owner || ends_with old.state.owners t e.fallen s))) m.under ∙ (λ i. cond (not (out i || stay i)) (Some s) None);
+    owned = e.owners.owner s ∙ ap (kept (λ x. not (is_among_ended t e.fallen x))) m.owned ∙ ap (λ b. cond (not b) (Some l.owner) None) out;
+    under = e.owners.table (l.owner, l.number) ∙ ap (kept (λ s. not (is_among_ended t e.fallen l.owner || ends_with old.state.owners t e.fallen s))) m.under ∙ (λ i. cond (not (out i || stay i)) (Some s) None);
   } where
-    out : goes t e.fallen l.owner ≡ false
-    out = sym (ap (has (goes t e.fallen)) m.owned) ∙ stay
+    out : is_among_ended t e.fallen l.owner ≡ false
+    out = sym (ap (has (is_among_ended t e.fallen)) m.owned) ∙ stay
 
   -- what is owned by a task that ends is of a subpool that ends
-  alike : (l : Label) (s : ℕ) → Means old.state.owners l s → not (goes t e.fallen l.owner) ≡ not (ends_with old.state.owners t e.fallen s)
-  alike l s m = sym (ap (λ o. not (has (goes t e.fallen) o)) m.owned)
+  alike : (l : Label) (s : ℕ) → Means old.state.owners l s → not (is_among_ended t e.fallen l.owner) ≡ not (ends_with old.state.owners t e.fallen s)
+  alike l s m = sym (ap (λ o. not (has (is_among_ended t e.fallen) o)) m.owned)
 
   stayed : (s : ℕ) → not (ends_with old.state.owners t e.fallen s) ≡ true → ends_with old.state.owners t e.fallen s ≡ false
   stayed s h = grind (arith, nat_tests)
@@ -120,16 +120,16 @@ module _ (old new : JobValue) (t : Name) (e : End old.state t new.state) (names 
   neither : (a b : Bool) → not (a || b) ≡ true → not b ≡ true
   neither a b h = grind (arith, nat_tests)
 
-  pub ends_shown : (p q : Picture) → IsLeft (goes t e.fallen) p q → ShowsBy (Means old.state.owners) p old → ShowsBy (Means new.state.owners) q new
+  pub ends_shown : (p q : Picture) → IsLeft (is_among_ended t e.fallen) p q → ShowsBy (Means old.state.owners) p old → ShowsBy (Means new.state.owners) q new
   ends_shown p q left shows = record {
     regions = left.regions ∙ shows.regions ∙ sym e.drops.regions;
     held = λ d. subst (λ x. Both (IsMark (Means new.state.owners)) x (get new.state.held d)) (sym (left.held d)) (subst (Both (IsMark (Means new.state.owners)) _) (sym (e.drops.held d))
         (both_kept (IsMark (Means old.state.owners)) (IsMark (Means new.state.owners)) _ _ (λ m h k. alike m.label h.subpool k.label)
         (λ m h b k. record { label = stays m.label h.subpool (stayed h.subpool b) k.label; pooled = k.pooled }) (p.held d) (get old.state.held d) (shows.held d)));
-    tasks = λ x. left.tasks x ∙ ap (kept (λ _. not (goes t e.fallen x))) (shows.tasks x) ∙ sym (e.owners.tasks x);
+    tasks = λ x. left.tasks x ∙ ap (kept (λ _. not (is_among_ended t e.fallen x))) (shows.tasks x) ∙ sym (e.owners.tasks x);
     subpools = λ x n. subst (λ y. Both (Means new.state.owners) y (entry new.state.owners x n)) (sym (left.subpools x n)) (subst (Both (Means new.state.owners) _) (sym (e.owners.table (x, n)))
-        (both_kept (Means old.state.owners) (Means new.state.owners) _ _ (λ l s m. both_not (goes t e.fallen x) _ _ (alike l s m))
-        (λ l s b m. stays l s (stayed s (neither (goes t e.fallen x) (ends_with old.state.owners t e.fallen s) b)) m) (p.subpools x n) (entry old.state.owners x n) (shows.subpools x n)));
+        (both_kept (Means old.state.owners) (Means new.state.owners) _ _ (λ l s m. both_not (is_among_ended t e.fallen x) _ _ (alike l s m))
+        (λ l s b m. stays l s (stayed s (neither (is_among_ended t e.fallen x) (ends_with old.state.owners t e.fallen s) b)) m) (p.subpools x n) (entry old.state.owners x n) (shows.subpools x n)));
     names = λ n. left.names n ∙ shows.names n ∙ sym (ap (λ m. get m n) names);
     pools = λ n. subst (λ x. Both (IsDrawn (Means new.state.owners)) x (get new.state.pools n)) (sym (left.pools n)) (subst (Both (IsDrawn (Means new.state.owners)) _) (sym (e.drops.pools n))
         (both_kept (IsDrawn (Means old.state.owners)) (IsDrawn (Means new.state.owners)) _ _ (λ q k i. alike q.label k.subpool i.label)

@@ -18,7 +18,7 @@ use Rattle.mvs_model.specs.Want.{WantValue}
 use Rattle.mvs_laws.proofs.Kept.{enters_tasks}
 use Rattle.mvs_model.proofs.Orders.{name_cmp_total, same_name_self}
 use Rattle.request_forms.specs.Facts.{listed}
-use Rattle.request_forms.specs.Standing.{label_meant}
+use Rattle.request_forms.specs.SubpoolLabels.{label_meant}
 use Rattle.page.specs.declared.change.Change.TheVariants as change
 use Rattle.page.specs.Changes.{area_change, area_changes}
 use Rattle.page.specs.Picture.{Both, IsDrawn, IsMark, Label, Means, Picture, ShowsBy, changed, replayed_all, with_area, with_name}

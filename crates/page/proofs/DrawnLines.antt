@@ -20,7 +20,7 @@ use Rattle.mvs_model.specs.Owners.{entry, is_active}
 use Rattle.mvs_model.specs.Place.{PlaceValue, place_at}
 use Rattle.mvs_model.specs.Replies.{answer_of, where_answer}
 use Rattle.mvs_model.specs.Resolving.{address_of, places_in, places_of, resolved}
-use Rattle.mvs_model.specs.Runs.{Any, Asks, Does, Makes, Says, Tells}
+use Rattle.mvs_model.specs.Runs.{Any, Asks, Does, Makes, AnswersTo, OnlyAnswers}
 use Rattle.mvs_model.proofs.ByCase.{Accesses}
 use Rattle.mvs_model.proofs.Tests.{by_test}
 use Rattle.request_forms.specs.Facts.{listed}
@@ -50,7 +50,7 @@ module _ (old new : JobValue) (t : Name) (said : Answer) (p : Picture) (shows : 
   tells_shown cs e same = subst (λ q. ShowsBy (Means new.state.owners) q new) (sym same) (same_shown old new p (ap (λ j. j.state) e) (ap (λ j. j.names) e) shows)
 
   -- a name is not set
-  no_name : (a : Written) → Tells old answer.NoName said new → Shown old new t said p shows a said
+  no_name : (a : Written) → OnlyAnswers old answer.NoName said new → Shown old new t said p shows a said
   no_name a h = subst (λ x. Shown old new t said p shows a x) (sym h.0) (tells_shown [] h.1 refl)
 
   module _ (active : is_active old.state.owners t ≡ true) (before : IsKept old.state) (behind : IsKept new.state) where
@@ -113,7 +113,7 @@ module _ (old new : JobValue) (t : Name) (said : Answer) (p : Picture) (shows : 
           (λ names i. request_changes (option_and_then (λ a. option_map (λ b. request.Move a b n) ((ap (λ g. address_of g from) names ∙ f) i)) ((ap (λ g. address_of g to) names ∙ e) i)))
           refl (λ w names. writes_shown old new (place_at x n) _ p w names shows) k)
 
-    says_shown : (s : Statement) → AreasFit s → Says Any old t s said new → ShowsBy (Means new.state.owners) (replayed_all p (statement_changes t s said new)) new
+    says_shown : (s : Statement) → AreasFit s → AnswersTo Any old t s said new → ShowsBy (Means new.state.owners) (replayed_all p (statement_changes t s said new)) new
     says_shown (says.Region below above fill residence) fit h = absurd h
     says_shown (says.Request a) fit h = asks_shown a fit h
     says_shown (says.Where name) fit h = subst (λ x. ShowsBy (Means new.state.owners) (replayed_all p (where_changes name x new)) new) (sym h.0) (tells_shown (where_changes name (where_answer (get old.names name)) new) h.1 (at (get old.names name))) where
@@ -128,7 +128,7 @@ module _ (old new : JobValue) (t : Name) (said : Answer) (p : Picture) (shows : 
     says_shown says.ReportMap fit h = tells_shown [] h.1 refl
 
   -- a task that is not active does nothing
-  not_run : (s : Statement) → Tells old answer.NotRun said new → ShowsBy (Means new.state.owners) (replayed_all p (statement_changes t s said new)) new
+  not_run : (s : Statement) → OnlyAnswers old answer.NotRun said new → ShowsBy (Means new.state.owners) (replayed_all p (statement_changes t s said new)) new
   not_run s h = subst (λ x. ShowsBy (Means new.state.owners) (replayed_all p (statement_changes t s x new)) new) (sym h.0) (tells_shown (statement_changes t s answer.NotRun new) h.1 (at s)) where
     at : (s : Statement) → replayed_all p (statement_changes t s answer.NotRun new) ≡ p
     at (says.Region below above fill residence) = refl

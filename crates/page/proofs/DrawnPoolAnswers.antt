@@ -65,8 +65,8 @@ module _ (old mid : JobValue) (t name : Name) (number s : ℕ) (plan : Plan) (of
     stay = enters_stay old.state.owners t number s mid.state.owners of enters
 
 -- the change of the last part of a pool
-part_told : (new : JobValue) (name : Name) (pool : Pool) (v : Option Part) → get new.state.pools name ≡ Some pool → slice_get pool.parts (length pool.parts - 1) ≡ v → part_change new name ≡ option_map (λ part. change.Part name part.place part.count) v
-part_told new name pool v is last = ap (option_and_then (last_part name)) is ∙ ap (option_map (λ part. change.Part name part.place part.count)) last
+part_at_hint : (new : JobValue) (name : Name) (pool : Pool) (v : Option Part) → get new.state.pools name ≡ Some pool → slice_get pool.parts (length pool.parts - 1) ≡ v → part_change new name ≡ option_map (λ part. change.Part name part.place part.count) v
+part_at_hint new name pool v is last = ap (option_and_then (last_part name)) is ∙ ap (option_map (λ part. change.Part name part.place part.count)) last
 
 -- the pools where one is put in the place of another that was put there
 put_over : (old : State) (name : Name) (pool : Pool) (v : Option Pool) (new : Name → Option Pool) → Changes (get old.pools) (λ n. same_name n name) v new → Changes (get (insert old.pools name pool)) (λ n. same_name n name) v new
@@ -119,7 +119,7 @@ module _ (old new : JobValue) (t : Name) (said : Answer) (p : Picture) (shows : 
         (ap (λ b. cond b (Some (record { label = l.0; cell_size = size; parts = []; taken = λ c. false })) (p.pools name)) (same_name_self name))
         (record { label = means; cell_size = refl; parts = refl; taken = λ c. sym (set.contains-empty nat_cmp c) }) refl x.held (put_over old.state name (new_pool s plan) _ (get new.state.pools) x.pools) begun in
         done_shown old new t said p shows build asked m Rc0 (change.Pool name l.0.number l.0.owner size ∷ change.Part name q primary ∷ []) is
-        ((λ i. listed (option_map (λ l. change.Pool name l.0 l.1 size) (l.1 i)) ++ listed (part_told new name (model.with_part (new_pool s plan) primary q) (Some part) (put_there old.state new.state name _ x.pools) refl i)))
+        ((λ i. listed (option_map (λ l. change.Pool name l.0 l.1 size) (l.1 i)) ++ listed (part_at_hint new name (model.with_part (new_pool s plan) primary q) (Some part) (put_there old.state new.state name _ x.pools) refl i)))
         done
 
     pub build_shown : S build said
@@ -156,10 +156,10 @@ module _ (old new : JobValue) (t : Name) (said : Answer) (p : Picture) (shows : 
     old_part : (pool : Pool) (c : ℕ) → get old.state.pools name ≡ Some pool → get new.state.pools name ≡ Some (record pool { taken = set.insert pool.taken c }) → replayed_all p (listed (part_change new name)) ≡ p
     old_part pool c is now = at (slice_get pool.parts (length pool.parts - 1)) refl where
       at : (v : Option Part) → slice_get pool.parts (length pool.parts - 1) ≡ v → replayed_all p (listed (part_change new name)) ≡ p
-      at None e = ap (λ v. replayed_all p (listed v)) (part_told new name (record pool { taken = set.insert pool.taken c }) None now e)
+      at None e = ap (λ v. replayed_all p (listed v)) (part_at_hint new name (record pool { taken = set.insert pool.taken c }) None now e)
       at (Some part) e =
           let d = drawn_there (Means old.state.owners) (p.pools name) (get old.state.pools name) pool is (shows.pools name) in
-          ap (λ v. replayed_all p (listed v)) (part_told new name (record pool { taken = set.insert pool.taken c }) (Some part) now e)
+          ap (λ v. replayed_all p (listed v)) (part_at_hint new name (record pool { taken = set.insert pool.taken c }) (Some part) now e)
           ∙ part_drawn (Means old.state.owners) name pool part.place part.count p d.0 d.1 d.2 (length pool.parts - 1) e
 
     -- a part more
@@ -173,7 +173,7 @@ module _ (old new : JobValue) (t : Name) (said : Answer) (p : Picture) (shows : 
         let fresh = no_part_there old.state name pool pool.secondary g.0 d.0 (Means old.state.owners) before.well.apart is x.chosen d.2 in
         let grown = part_shown old (record old { state = g.1 }) name pool pool.secondary g.0 p x.regions x.owners_are refl d.0 d.1 d.2 fresh x.held x.pools shows in
         taken with_it c g.1 (replayed p (change.Part name g.0 pool.secondary)) g.3.2.1 there g.3.2.0 grown
-        (ap (λ v. replayed_all p (listed v)) (part_told new name (record with_it { taken = set.insert pool.taken c }) (Some (record { place = g.0; count = pool.secondary })) (put_there g.1 new.state name _ g.3.2.0.pools) (last_of pool.parts (record { place = g.0; count = pool.secondary }))))
+        (ap (λ v. replayed_all p (listed v)) (part_at_hint new name (record with_it { taken = set.insert pool.taken c }) (Some (record { place = g.0; count = pool.secondary })) (put_there g.1 new.state name _ g.3.2.0.pools) (last_of pool.parts (record { place = g.0; count = pool.secondary }))))
 
     got : (o : Option Pool) → get old.state.pools name ≡ o → GetStep old.state t name conditional o m.reply new.state → S get_cell said
     got None e h = abends_shown old new t said p shows get_cell wanted m no_such_pool h

@@ -17,14 +17,14 @@ use Rattle.mvs_model.specs.Answers as answer
 use Rattle.mvs_model.specs.Card.{CardValue}
 use Rattle.mvs_laws.specs.Going.{Holds}
 use Rattle.mvs_model.specs.Job.{JobValue, job_at}
-use Rattle.mvs_laws.specs.Laws.{KeptWellFormed}
+use Rattle.mvs_laws.specs.Laws.{StaysWellFormed}
 use Rattle.mvs_model.specs.Lines.{card_of}
 use Rattle.mvs_model.specs.Name.{name_cmp, same_name}
 use Rattle.mvs_model.specs.Owners.{entry_cmp, is_active}
 use Rattle.mvs_model.specs.Place.{PlaceValue}
 use Rattle.mvs_model.specs.Replies.{answer_of, done_answer, grant_answer, where_answer}
 use Rattle.mvs_model.specs.Resolving.{resolved}
-use Rattle.mvs_model.specs.Runs.{Any, Asks, Does, Says, machine}
+use Rattle.mvs_model.specs.Runs.{Any, Asks, Does, AnswersTo, machine}
 use Rattle.mvs_model.specs.State.{State}
 use Rattle.mvs_model.specs.Walk.{Leads, Serves, ServesLine, ending, is_first}
 use Rattle.mvs_laws.proofs.Going.{leads_keep}
@@ -32,7 +32,7 @@ use Rattle.mvs_model.proofs.Orders.{name_cmp_total, same_name_sym}
 use Rattle.mvs_model.proofs.Reading.{one_reading}
 use Rattle.mvs_model.proofs.Tests.{by_test, true_false}
 use Rattle.mvs_laws.proofs.Walking.{leads_next, served_first, served_in}
-use Rattle.page.specs.Changes.{begin_changes, changes_of, said_changes, statement_changes}
+use Rattle.page.specs.Changes.{begin_changes, changes_of, line_changes, statement_changes}
 use Rattle.page.specs.Pages.{IsReadAs}
 use Rattle.page.specs.Picture.{Both, ChangesDraw, Draws, EachIsDrawn, IsDrawn, IsMark, Means, Picture, Shows, ShowsBy, blank, replayed_all}
 use Rattle.page.proofs.AreasRead.{AreasFit, LineFits, line_fits}
@@ -76,7 +76,7 @@ asks_region : (old new : JobValue) (t : Name) (a : Written) (o : Option Request)
 asks_region old new t a None said h = ap is_region h.0
 asks_region old new t a (Some r) said h = ap is_region h.told ∙ reply_region old.state a r h.reply
 
-says_region : (old new : JobValue) (t : Name) (s : Statement) (said : Answer) → Says Any old t s said new → is_region said ≡ false
+says_region : (old new : JobValue) (t : Name) (s : Statement) (said : Answer) → AnswersTo Any old t s said new → is_region said ≡ false
 says_region old new t (says.Region below above fill residence) said h = absurd h
 says_region old new t (says.Request a) said h = asks_region old new t a (resolved old.names a) said h
 says_region old new t (says.Where name) said h = ap is_region h.0 ∙ where_region (get old.names name)
@@ -87,7 +87,7 @@ does_region : (old new : JobValue) (t : Name) (s : Statement) (said : Answer) �
 does_region old new t s said h = by_test (not (is_active old.state.owners t)) h (λ _ x. ap is_region x.0) (λ _ x. says_region old new t s said x)
 
 -- what such a statement did
-said_is : (t u : Name) (s : Statement) (said : Answer) (new : JobValue) → is_region said ≡ false → said_changes (line.Statement t s) (Some new) (u, said) ≡ statement_changes u s said new
+said_is : (t u : Name) (s : Statement) (said : Answer) (new : JobValue) → is_region said ≡ false → line_changes (line.Statement t s) (Some new) (u, said) ≡ statement_changes u s said new
 said_is t u s answer.NotRun new e = refl
 said_is t u s answer.NoName new e = refl
 said_is t u s (answer.At a) new e = refl
@@ -170,7 +170,7 @@ leads_drawn (l ∷ lines) number old new events before (inr (mid, told, rest, se
 pub each_is_drawn : EachIsDrawn
 each_is_drawn lines events step h = leads_drawn lines 1 None step events blank h
 
-module _ (well : KeptWellFormed) where
+module _ (well : StaysWellFormed) where
   -- the step of a run is kept
   kept_step : (served : List (List ℕ)) (events : List Event) (step : Option JobValue) → Leads machine 1 None served events step → KeptStep step
   kept_step served events None h = tt

@@ -15,7 +15,7 @@ use Rattle.mvs_model.proofs.Keepers.{number_low}
 use Rattle.mvs_model.proofs.Orders.{same_name_is, same_name_self}
 use Rattle.mvs_model.proofs.SeenReports.{first_only}
 use Rattle.mvs_model.proofs.Tests.{false_true, none_some, same_self}
-use Rattle.request_forms.specs.Standing.{label_had, label_meant}
+use Rattle.request_forms.specs.SubpoolLabels.{label_had, label_meant}
 use Rattle.page.specs.Picture.{Label, Means}
 use Rattle.page.proofs.Numbered.{Numbered}
 

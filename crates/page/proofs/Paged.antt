@@ -23,7 +23,7 @@ use Rattle.mvs_job.specs.declared.printing.Stop.TheVariants as stop
 use Rattle.mvs_job.specs.Naming.{SetLines, no_lines}
 use Rattle.page.specs.Changes.{answer_in, changes_of}
 use Rattle.page.specs.Lines.{change_lines}
-use Rattle.page.specs.Markup.{Inside, class_of, class_said, escaped, escaped_byte, fault_of, head_of, is_plain, item_of, pre_texts, reply_of, tail_of}
+use Rattle.page.specs.Markup.{Inside, class_of, answer_class, escaped, escaped_byte, fault_of, head_of, is_plain, item_of, pre_texts, reply_of, tail_of}
 use Rattle.page.specs.Pages.{EndsSo, IsClosing, Items, ShowsPrinting, SoFar, WritesItem, WritesPage, WritesShown}
 use Rattle.page.proofs.Plain.{Shows, both_shown, head_shown, none_shown, note_of_shown, plain_shown, reply_shown, tail_shown}
 
@@ -101,7 +101,7 @@ module _ (start before after : Option (List ℕ)) (frame script rest : List ℕ)
 
 -- ---- what a reader sees
 
-class_plain : (a : Answer) → is_plain (class_said a) ≡ true
+class_plain : (a : Answer) → is_plain (answer_class a) ≡ true
 class_plain answer.NotRun = refl
 class_plain answer.NoName = refl
 class_plain (answer.At a) = refl

@@ -5,7 +5,7 @@ use Rattle.std.proofs.KnownBytes.{Keeps-refl}
 use Rattle.mvs_model.specs.declared.line.Line.{Line}
 use Rattle.mvs_model.specs.declared.line.Line.TheVariants as line
 use Rattle.mvs_model.specs.Answers.{Event, Region, Told}
-use Rattle.mvs_model.specs.Lent.{fallen_in}
+use Rattle.mvs_model.specs.FullAnswers.{ended_with_in}
 use Rattle.mvs_model.specs.Memory.{StopsForMemory, TakesMemory}
 use Rattle.mvs_model.specs.Runs.{machine}
 use Rattle.mvs_model.proofs.Reading.{one_reading}
@@ -13,50 +13,50 @@ use Rattle.mvs_model.specs.declared.line.Fault.{Fault}
 use Rattle.mvs_model.specs.Job.{JobValue}
 use Rattle.mvs_model.specs.Reading.{FaultOf, IsReading, LineOf}
 use Rattle.mvs_model.specs.Walk.{Serves, ServesLine, is_first}
-use Rattle.job_script.specs.Said.{filled}
+use Rattle.job_script.specs.LineMeaning.{filled}
 use Rattle.job_script.specs.Writing.{AppendsFront}
 use Rattle.mvs_job.specs.declared.printing.Stop.TheVariants as stop
-use Rattle.mvs_job.specs.declared.walk.LineTold.{LineTold}
-use Rattle.mvs_job.specs.declared.walk.LineTold.TheVariants as told
-use Rattle.mvs_job.specs.Apart.{StandsBehind}
-use Rattle.mvs_job.specs.Explaining.{IsBehind}
+use Rattle.mvs_job.specs.declared.walk.LineEvent.{LineEvent}
+use Rattle.mvs_job.specs.declared.walk.LineEvent.TheVariants as told
+use Rattle.mvs_job.specs.Apart.{AppendsExplanation}
+use Rattle.mvs_job.specs.Explaining.{IsExplanationText}
 use Rattle.mvs_job.specs.Naming.{KeepsLines, SetLines}
-use Rattle.mvs_job.specs.Telling.{IsTold, WalkValue, ended, events_told, lent_in}
+use Rattle.mvs_job.specs.LineEvents.{ServesAs, WalkValue, ended, events_of_line, full_answer_in}
 use Rattle.mvs_job.specs.Why.{OfRead}
 use Rattle.mvs_model.specs.Texts.{printing}
 use Rattle.page.specs.Changes.{changes_of}
 use Rattle.page.specs.Lines.{change_lines}
 use Rattle.page.specs.Markup.{class_of, head_of, note_of, reply_of, tail_of}
 use Rattle.page.specs.Pages.{IsFaultItem, IsItem, IsNext, IsReadAs, WritesItem}
-use Rattle.page.specs.Told.{goes_on, item_told}
+use Rattle.page.specs.Items.{continues, item_of_event}
 
 module _ (w w' : WalkValue) (set later : SetLines) (l : List ℕ) (read : Line) (behind item : List ℕ) (reads : IsReadAs w.step l read) where
   -- the item of a line that tells something else than a fault
-  item_is : (t : LineTold) → IsTold w l t w' → KeepsLines w set l w' t later → StandsBehind (Some []) (Some behind) w set l w' t → goes_on t ≡ true → item ≡ item_told w.number l read w' t behind → IsItem w.number w.step set l w'.step later item
+  item_is : (t : LineEvent) → ServesAs w l t w' → KeepsLines w set l w' t later → AppendsExplanation (Some []) (Some behind) w set l w' t → continues t ≡ true → item ≡ item_of_event w.number l read w' t behind → IsItem w.number w.step set l w'.step later item
   item_is (told.Faulted fault) tells kept stands so e = absurd (let f : false ≡ true = so in cc)
-  item_is told.Nothing tells kept (text, is, h) so e = (read, events_told w.number w' told.Nothing, behind, reads, tells, kept, subst (IsBehind w.step set l (events_told w.number w' told.Nothing) w'.step) (sym is) h, e)
+  item_is told.Nothing tells kept (text, is, h) so e = (read, events_of_line w.number w' told.Nothing, behind, reads, tells, kept, subst (IsExplanationText w.step set l (events_of_line w.number w' told.Nothing) w'.step) (sym is) h, e)
   item_is (told.Began end card) tells kept (text, is, h) so e =
-      (read, events_told w.number w' (told.Began end card), behind, reads, tells, kept, subst (IsBehind w.step set l (events_told w.number w' (told.Began end card)) w'.step) (sym is) h, e)
+      (read, events_of_line w.number w' (told.Began end card), behind, reads, tells, kept, subst (IsExplanationText w.step set l (events_of_line w.number w' (told.Began end card)) w'.step) (sym is) h, e)
   item_is (told.Answered t a) tells kept (text, is, h) so e =
-      (read, events_told w.number w' (told.Answered t a), behind, reads, tells, kept, subst (IsBehind w.step set l (events_told w.number w' (told.Answered t a)) w'.step) (sym is) h, e)
+      (read, events_of_line w.number w' (told.Answered t a), behind, reads, tells, kept, subst (IsExplanationText w.step set l (events_of_line w.number w' (told.Answered t a)) w'.step) (sym is) h, e)
 
-  fault_is : (t : LineTold) → IsTold w l t w' → goes_on t ≡ false → item ≡ item_told w.number l read w' t behind → IsFaultItem w.number w.step l item
-  fault_is (told.Faulted fault) tells so e = (events_told w.number w' (told.Faulted fault), (fault, tells.0, refl), e)
+  fault_is : (t : LineEvent) → ServesAs w l t w' → continues t ≡ false → item ≡ item_of_event w.number l read w' t behind → IsFaultItem w.number w.step l item
+  fault_is (told.Faulted fault) tells so e = (events_of_line w.number w' (told.Faulted fault), (fault, tells.0, refl), e)
   fault_is told.Nothing tells so e = absurd (let f : true ≡ false = so in cc)
   fault_is (told.Began end card) tells so e = absurd (let f : true ≡ false = so in cc)
   fault_is (told.Answered t a) tells so e = absurd (let f : true ≡ false = so in cc)
 
-  module _ (t : LineTold) (tells : IsTold w l t w') (kept : KeepsLines w set l w' t later) (stands : StandsBehind (Some []) (Some behind) w set l w' t) (e : item ≡ item_told w.number l read w' t behind) where
-    pub item_written : (before after : Option (List ℕ)) (b : Bool) → b ≡ goes_on t → Appends before after item → WritesItem before after w.number w.step set l w'.step later (Ok b)
+  module _ (t : LineEvent) (tells : ServesAs w l t w') (kept : KeepsLines w set l w' t later) (stands : AppendsExplanation (Some []) (Some behind) w set l w' t) (e : item ≡ item_of_event w.number l read w' t behind) where
+    pub item_written : (before after : Option (List ℕ)) (b : Bool) → b ≡ continues t → Appends before after item → WritesItem before after w.number w.step set l w'.step later (Ok b)
     item_written before after true so a = (item, a, item_is t tells kept stands (sym so) e)
     item_written before after false so a = (item, a, fault_is t tells (sym so) e)
 
-    next_is : (b : Bool) → goes_on t ≡ b → IsNext w.number w.step set (l ∷ []) item
+    next_is : (b : Bool) → continues t ≡ b → IsNext w.number w.step set (l ∷ []) item
     next_is true so = inl (w'.step, later, item_is t tells kept stands so e)
     next_is false so = inr (fault_is t tells so e)
 
     pub item_cut : (before after : Option (List ℕ)) → AppendsFront before after item → WritesItem before after w.number w.step set l w'.step later (Err stop.Write)
-    item_cut before after f = (f.0, f.3, inr (f.1, subst (IsNext w.number w.step set (l ∷ [])) f.2 (next_is (goes_on t) refl)))
+    item_cut before after f = (f.0, f.3, inr (f.1, subst (IsNext w.number w.step set (l ∷ [])) f.2 (next_is (continues t) refl)))
 
 -- ---- a line that is blank or a comment
 
@@ -69,26 +69,26 @@ module _ (w w' : WalkValue) (set later : SetLines) (l : List ℕ) (nothing : Lin
   some_events [] e is = absurd (let f : e ∷ [] ≡ [] = is in cc)
   some_events (x ∷ front) e is = absurd (let f : x ∷ (front ++ e ∷ []) ≡ [] = is in cc)
 
-  told_nothing : (t : LineTold) → IsTold w l t w' → t ≡ told.Nothing
+  told_nothing : (t : LineEvent) → ServesAs w l t w' → t ≡ told.Nothing
   told_nothing told.Nothing tells = refl
   told_nothing (told.Faulted fault) tells = absurd (one_reading.not_both (is_first w.step) l line.Nothing fault nothing tells.0)
   told_nothing (told.Began end card) tells = absurd (some_events (ended end) (Told w.number card.name (Region card)) (no_events _ tells))
-  told_nothing (told.Answered t a) tells = absurd (some_events [] (Told w.number t (lent_in w'.step (fallen_in w'.reply) t a)) (no_events _ tells))
+  told_nothing (told.Answered t a) tells = absurd (some_events [] (Told w.number t (full_answer_in w'.step (ended_with_in w'.reply) t a)) (no_events _ tells))
 
   -- nothing is explained of it
-  unexplained : (step : Option JobValue) → LineOf (is_first step) l line.Nothing → IsBehind step set l [] w'.step []
+  unexplained : (step : Option JobValue) → LineOf (is_first step) l line.Nothing → IsExplanationText step set l [] w'.step []
   unexplained None of = ([], [], [], [], refl, refl, refl, inr (inl (refl, refl)), refl)
   unexplained (Some job) of =
       let read : OfRead job line.Nothing [] None = (refl, refl) in
       ([], [], [], [], inl (line.Nothing, of, (None, read, refl)), (None, inl (line.Nothing, of, (None, read, refl)), (None, refl, refl)), refl, inl (line.Nothing, of, refl), refl)
 
-  noted : (t : LineTold) → t ≡ told.Nothing → IsTold w l t w' → KeepsLines w set l w' t later → IsItem w.number w.step set l w'.step later (note_of w.number l)
+  noted : (t : LineEvent) → t ≡ told.Nothing → ServesAs w l t w' → KeepsLines w set l w' t later → IsItem w.number w.step set l w'.step later (note_of w.number l)
   noted told.Nothing is tells kept = (line.Nothing, [], [], inl nothing, tells, kept, unexplained w.step nothing, refl)
   noted (told.Faulted fault) is tells kept = absurd (let f : told.Faulted fault ≡ told.Nothing = is in cc)
   noted (told.Began end card) is tells kept = absurd (let f : told.Began end card ≡ told.Nothing = is in cc)
   noted (told.Answered t a) is tells kept = absurd (let f : told.Answered t a ≡ told.Nothing = is in cc)
 
-  module _ (t : LineTold) (tells : IsTold w l t w') (kept : KeepsLines w set l w' t later) where
+  module _ (t : LineEvent) (tells : ServesAs w l t w') (kept : KeepsLines w set l w' t later) where
     is_noted : IsItem w.number w.step set l w'.step later (note_of w.number l)
     is_noted = noted t (told_nothing t tells) tells kept
 
@@ -101,8 +101,8 @@ module _ (w w' : WalkValue) (set later : SetLines) (l : List ℕ) (nothing : Lin
 -- ---- the text of an item
 
 -- the item of a line with a fault
-pub faulted_is : (number : ℕ) (l : List ℕ) (read : Line) (w : WalkValue) (t : LineTold) (fault : Fault) (behind printed : List ℕ) → t ≡ told.Faulted fault → printed ≡ printing (events_told number w t)
-    → head_of number (codes "js") l ++ (reply_of printed ++ codes "<p>The job ends here.</p>\n</article>\n") ≡ item_told number l read w t behind
+pub faulted_is : (number : ℕ) (l : List ℕ) (read : Line) (w : WalkValue) (t : LineEvent) (fault : Fault) (behind printed : List ℕ) → t ≡ told.Faulted fault → printed ≡ printing (events_of_line number w t)
+    → head_of number (codes "js") l ++ (reply_of printed ++ codes "<p>The job ends here.</p>\n</article>\n") ≡ item_of_event number l read w t behind
 faulted_is number l read w (told.Faulted g) fault behind printed is e = ap (λ x. head_of number (codes "js") l ++ (reply_of x ++ codes "<p>The job ends here.</p>\n</article>\n")) e
 faulted_is number l read w told.Nothing fault behind printed is e = absurd (let f : told.Nothing ≡ told.Faulted fault = is in cc)
 faulted_is number l read w (told.Began end card) fault behind printed is e = absurd (let f : told.Began end card ≡ told.Faulted fault = is in cc)
@@ -116,8 +116,8 @@ by_parts : (number : ℕ) (l behind how how' printed printed' changes changes' :
 by_parts number l behind how how' printed printed' changes changes' e f g =
     ap (λ x. item_by number l behind x printed changes) e ∙ ap (λ x. item_by number l behind how' x changes) f ∙ ap (λ x. item_by number l behind how' printed' x) g
 
-pub stated_is : (number : ℕ) (l : List ℕ) (read : Line) (w : WalkValue) (t : LineTold) (behind how printed changes below : List ℕ) → (t ≡ told.Nothing → ⊥) → ((fault : Fault) → t ≡ told.Faulted fault → ⊥) → how ≡ class_of (events_told number w t) → printed ≡ printing (events_told number w t)
-    → changes ≡ change_lines (changes_of read (events_told number w t) w.step) → below ≡ behind → item_by number l below how printed changes ≡ item_told number l read w t behind
+pub stated_is : (number : ℕ) (l : List ℕ) (read : Line) (w : WalkValue) (t : LineEvent) (behind how printed changes below : List ℕ) → (t ≡ told.Nothing → ⊥) → ((fault : Fault) → t ≡ told.Faulted fault → ⊥) → how ≡ class_of (events_of_line number w t) → printed ≡ printing (events_of_line number w t)
+    → changes ≡ change_lines (changes_of read (events_of_line number w t) w.step) → below ≡ behind → item_by number l below how printed changes ≡ item_of_event number l read w t behind
 stated_is number l read w told.Nothing behind how printed changes below some other e f g h = absurd (some refl)
 stated_is number l read w (told.Faulted fault) behind how printed changes below some other e f g h = absurd (other fault refl)
 stated_is number l read w (told.Answered t a) behind how printed changes below some other e f g h = ap (λ x. item_by number l x how printed changes) h ∙ by_parts number l behind how _ printed _ changes _ e f g

@@ -22,7 +22,7 @@ use Rattle.mvs_model.specs.Pools.{Pool}
 use Rattle.mvs_model.specs.Reports.{each_below}
 use Rattle.mvs_model.specs.Resolving.{resolved}
 use Rattle.request_forms.specs.Facts.{listed}
-use Rattle.request_forms.specs.Standing.{label_had, label_meant}
+use Rattle.request_forms.specs.SubpoolLabels.{label_had, label_meant}
 use Rattle.page.specs.declared.change.Change.{Change}
 use Rattle.page.specs.declared.change.Change.TheVariants as change
 
@@ -170,11 +170,11 @@ answer_in (StepEnded abended ∷ (Told number t said ∷ [])) = Some (t, said)
 answer_in _ = None
 
 -- what a line did that says this, and is answered so
-abbrev pub said_changes : Line → Option JobValue → Name × Answer → List Change
-said_changes l new (t, answer.Region card) = begin_changes card
-said_changes (line.Statement task s) (Some new) (t, said) = statement_changes t s said new
-said_changes l new said = []
+abbrev pub line_changes : Line → Option JobValue → Name × Answer → List Change
+line_changes l new (t, answer.Region card) = begin_changes card
+line_changes (line.Statement task s) (Some new) (t, said) = statement_changes t s said new
+line_changes l new said = []
 
 -- the changes of a line with these events
 abbrev pub changes_of : Line → List Event → Option JobValue → List Change
-changes_of l events new = unwrap_or (option_map (said_changes l new) (answer_in events)) []
+changes_of l events new = unwrap_or (option_map (line_changes l new) (answer_in events)) []

@@ -2,5 +2,5 @@ pub mod Changes
 pub mod Lines
 pub mod Markup
 pub mod Pages
-pub mod Told
+pub mod Items
 pub mod Picture

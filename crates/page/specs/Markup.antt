@@ -53,17 +53,17 @@ pre_texts (Tag name) (b ∷ bs) = if b == 62 then pre_texts (Inside (is_pre name
 -- ---- items
 
 -- the result of a statement: it was executed, it was refused and its task continues, or its task abended
-abbrev pub class_said : Answer → List ℕ
-class_said answer.NotRun = codes "no"
-class_said answer.NoName = codes "no"
-class_said answer.Rc4 = codes "no"
-class_said answer.NoCell = codes "no"
-class_said (answer.Abended code fallen) = codes "ab"
-class_said _ = codes "ok"
+abbrev pub answer_class : Answer → List ℕ
+answer_class answer.NotRun = codes "no"
+answer_class answer.NoName = codes "no"
+answer_class answer.Rc4 = codes "no"
+answer_class answer.NoCell = codes "no"
+answer_class (answer.Abended code fallen) = codes "ab"
+answer_class _ = codes "ok"
 
 -- the result of the events of a line
 abbrev pub class_of : List Event → List ℕ
-class_of events = unwrap_or (option_map (λ said. class_said said.1) (answer_in events)) (codes "ok")
+class_of events = unwrap_or (option_map (λ said. answer_class said.1) (answer_in events)) (codes "ok")
 
 -- the most bytes that are shown of a line
 abbrev pub most_of_line : ℕ

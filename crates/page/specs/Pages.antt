@@ -15,8 +15,8 @@ use Rattle.mvs_model.specs.Texts.{printing}
 use Rattle.mvs_model.specs.Walk.{ServesLine, Faults, Closes, is_first}
 use Rattle.mvs_job.specs.declared.printing.Stop.{Stop}
 use Rattle.mvs_job.specs.declared.printing.Stop.TheVariants as stop
-use Rattle.mvs_job.specs.Explaining.{IsBehind}
-use Rattle.mvs_job.specs.Naming.{IsSetBehind, SetLines, no_lines}
+use Rattle.mvs_job.specs.Explaining.{IsExplanationText}
+use Rattle.mvs_job.specs.Naming.{AreNamesAfter, SetLines, no_lines}
 use Rattle.page.specs.Markup.{Inside, closing_of, escaped, fault_of, item_of, pre_texts}
 
 -- A line was read as this; one with a fault, as anything.
@@ -28,7 +28,7 @@ IsReadAs old l read = LineOf (is_first old) l read ⊎ ((fault : Fault) × Fault
 abbrev pub IsItem : ℕ → Option JobValue → SetLines → List ℕ → Option JobValue → SetLines → List ℕ → Type 0
 IsItem number old set l new later item =
     (read : Line) × (events : List Event) × (behind : List ℕ)
-    × IsReadAs old l read × ServesLine machine number old l events new × IsSetBehind number old set l events later × IsBehind old set l events new behind
+    × IsReadAs old l read × ServesLine machine number old l events new × AreNamesAfter number old set l events later × IsExplanationText old set l events new behind
     × (item ≡ item_of number l read events new behind)
 
 -- The item is that of the line of this number, which has a fault.

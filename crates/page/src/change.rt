@@ -2,7 +2,7 @@
 
 ghost use Rattle.std.specs.Prelude.{◌≡◌, ◌≤◌, ◌+◌, ◌++◌, OnOk, codes, decimal, length};
 ghost use Rattle.mvs_model.specs.Name.{trimmed};
-ghost use Rattle.page.specs.Lines.{change_line, change_lines, change_said, has_said, place_said, residence_said, subpool_said};
+ghost use Rattle.page.specs.Lines.{change_line, change_lines, change_text, has_text, place_text, residence_text, subpool_text_of};
 
 use job_script::text::Text;
 use mvs_model::name::Name;
@@ -119,7 +119,7 @@ pub enum Change {
 // Appends the residence of a task.
 fn push_residence(text: &mut Text, residence: Residence)
     requires { length text.old ≤ 140 }
-    ensures text { text.new ≡ text.old ++ residence_said residence }
+    ensures text { text.new ≡ text.old ++ residence_text residence }
     ensures len { length text.new ≤ length text.old + 10 }
 {
     match residence {
@@ -131,7 +131,7 @@ fn push_residence(text: &mut Text, residence: Residence)
 // Appends an address and a length.
 fn push_place(text: &mut Text, place: Place)
     requires { length text.old ≤ 120 }
-    ensures text { text.new ≡ text.old ++ place_said place }
+    ensures text { text.new ≡ text.old ++ place_text place }
     ensures len { length text.new ≤ length text.old + 17 }
 {
     text.push_word(place.addr().get());
@@ -151,7 +151,7 @@ fn push_number(text: &mut Text, number: SubNo)
 // Appends a subpool.
 fn push_subpool(text: &mut Text, number: SubNo, owner: &Name)
     requires { length text.old ≤ 120 }
-    ensures text { text.new ≡ text.old ++ subpool_said number owner.now }
+    ensures text { text.new ≡ text.old ++ subpool_text_of number owner.now }
     ensures len { length text.new ≤ length text.old + 19 }
 {
     push_number(text, number);
@@ -162,7 +162,7 @@ fn push_subpool(text: &mut Text, number: SubNo, owner: &Name)
 // Appends that a task has something with a number.
 fn push_has(text: &mut Text, task: &Name, number: SubNo)
     requires { length text.old ≤ 2 }
-    ensures text { text.new ≡ text.old ++ has_said task.now number }
+    ensures text { text.new ≡ text.old ++ has_text task.now number }
     ensures len { length text.new ≤ length text.old + 23 }
 {
     text.push_all(b"HAS ");
@@ -186,7 +186,7 @@ fn push_of(text: &mut Text, word: &[u8], name: &Name)
 fn push_at(text: &mut Text, word: &[u8], place: Place)
     requires old { length text.old ≤ 100 }
     requires word { length word.now ≤ 20 }
-    ensures text { text.new ≡ text.old ++ (word.now ++ place_said place) }
+    ensures text { text.new ≡ text.old ++ (word.now ++ place_text place) }
     ensures len { length text.new ≤ length text.old + (length word.now + 17) }
 {
     text.push_all(word);
@@ -196,7 +196,7 @@ fn push_at(text: &mut Text, word: &[u8], place: Place)
 // Appends the beginning of a step.
 fn push_step(text: &mut Text, below: u32, above: u32, fill: u8)
     requires { length text.old ≤ 2 }
-    ensures text { text.new ≡ text.old ++ change_said (Change.Step below above fill) }
+    ensures text { text.new ≡ text.old ++ change_text (Change.Step below above fill) }
     ensures len { length text.new ≤ length text.old + 100 }
 {
     text.push_all(b"STEP BELOW ");
@@ -211,7 +211,7 @@ fn push_step(text: &mut Text, below: u32, above: u32, fill: u8)
 fn push_task(text: &mut Text, name: &Name, mother: &Name, residence: Residence)
     requires { length text.old ≤ 2 }
     ensures text { text.new
-        ≡ text.old ++ change_said (Change.Task name.now mother.now residence) }
+        ≡ text.old ++ change_text (Change.Task name.now mother.now residence) }
     ensures len { length text.new ≤ length text.old + 100 }
 {
     push_of(text, b"TASK ", name);
@@ -223,7 +223,7 @@ fn push_task(text: &mut Text, name: &Name, mother: &Name, residence: Residence)
 fn push_take(text: &mut Text, place: Place, number: SubNo, owner: &Name, name: &Name)
     requires { length text.old ≤ 2 }
     ensures text { text.new
-        ≡ text.old ++ change_said (Change.Take place number owner.now name.now) }
+        ≡ text.old ++ change_text (Change.Take place number owner.now name.now) }
     ensures len { length text.new ≤ length text.old + 100 }
 {
     push_at(text, b"TAKE ", place);
@@ -236,7 +236,7 @@ fn push_take(text: &mut Text, place: Place, number: SubNo, owner: &Name, name: &
 fn push_pool(text: &mut Text, name: &Name, number: SubNo, owner: &Name, size: u32)
     requires { length text.old ≤ 2 }
     ensures text { text.new
-        ≡ text.old ++ change_said (Change.Pool name.now number owner.now size) }
+        ≡ text.old ++ change_text (Change.Pool name.now number owner.now size) }
     ensures len { length text.new ≤ length text.old + 100 }
 {
     push_of(text, b"POOL ", name);
@@ -249,7 +249,7 @@ fn push_pool(text: &mut Text, name: &Name, number: SubNo, owner: &Name, size: u3
 // Appends a part of a cell pool.
 fn push_part(text: &mut Text, pool: &Name, place: Place, cells: u32)
     requires { length text.old ≤ 2 }
-    ensures text { text.new ≡ text.old ++ change_said (Change.Part pool.now place cells) }
+    ensures text { text.new ≡ text.old ++ change_text (Change.Part pool.now place cells) }
     ensures len { length text.new ≤ length text.old + 100 }
 {
     push_of(text, b"PART ", pool);
@@ -261,7 +261,7 @@ fn push_part(text: &mut Text, pool: &Name, place: Place, cells: u32)
 // Appends an allocated cell.
 fn push_cell(text: &mut Text, pool: &Name, place: Place, name: &Name)
     requires { length text.old ≤ 2 }
-    ensures text { text.new ≡ text.old ++ change_said (Change.Cell pool.now place name.now) }
+    ensures text { text.new ≡ text.old ++ change_text (Change.Cell pool.now place name.now) }
     ensures len { length text.new ≤ length text.old + 100 }
 {
     push_of(text, b"CELL ", pool);
@@ -272,7 +272,7 @@ fn push_cell(text: &mut Text, pool: &Name, place: Place, name: &Name)
 // Appends a change.
 fn push_change(text: &mut Text, change: &Change)
     requires { length text.old ≤ 2 }
-    ensures text { text.new ≡ text.old ++ change_said change.now }
+    ensures text { text.new ≡ text.old ++ change_text change.now }
     ensures len { length text.new ≤ length text.old + 100 }
 {
     match change {

@@ -1,7 +1,7 @@
 //! What a line did to the step, as changes.
 
 ghost use Rattle.std.specs.Prelude.{◌≡◌, ◌≤◌, ◌<◌, ◌+◌, ◌++◌, ◌∷◌, [], List, ℕ, Some, length};
-ghost use Rattle.mvs_model.specs.Lent.{fallen_in, lent};
+ghost use Rattle.mvs_model.specs.FullAnswers.{ended_with_in, full_answer};
 ghost use Rattle.mvs_model.specs.Name.{same_name};
 ghost use Rattle.mvs_model.specs.Numbers.{task_numbers};
 ghost use Rattle.mvs_model.specs.declared.name.Name.{Name as TaskName};
@@ -9,11 +9,11 @@ ghost use Rattle.mvs_model.specs.Reports.{each_below};
 ghost use Rattle.mvs_model.specs.Resolving.{resolved};
 ghost use Rattle.mvs_model.specs.State.{State};
 ghost use Rattle.request_forms.specs.Facts.{listed};
-ghost use Rattle.mvs_job.specs.Telling.{IsLent, events_told};
+ghost use Rattle.mvs_job.specs.LineEvents.{IsAvailable, events_of_line};
 ghost use Rattle.page.specs.Changes.{answer_changes, area_change, area_changes, begin_changes, cell_change, changes_of, done_changes, empty_change, fall_changes, free_changes, held_change, part_change, pool_change, request_changes, statement_changes, where_changes};
 
 use crate::change::Change;
-use mvs_job::{Job, LineTold, Walk};
+use mvs_job::{Job, LineEvent, Walk};
 use mvs_model::answer::Answer;
 use mvs_model::card::Card;
 use mvs_model::line::{Line, Statement, Written};
@@ -342,7 +342,7 @@ fn answer_changes(
     requires { length fallen.now ≤ 31 }
     ensures { (st : State)
         → result
-        ≡ answer_changes task.now written.now (lent st fallen.now task.now answer.now) job.now }
+        ≡ answer_changes task.now written.now (full_answer st fallen.now task.now answer.now) job.now }
 {
     match answer {
         Answer::Ended => return_changes(task),
@@ -366,7 +366,7 @@ fn answer_changes(
 // Returns the place that WHERE shows.
 fn where_changes(name: &Name, answer: &Answer, job: &Job) -> Changes
     ensures { (st : State) (fallen : List TaskName) (t : TaskName)
-        → result ≡ where_changes name.now (lent st fallen t answer.now) job.now }
+        → result ≡ where_changes name.now (full_answer st fallen t answer.now) job.now }
 {
     let mut changes = no_changes();
     if let Answer::At(_) = answer {
@@ -406,7 +406,7 @@ fn statement_changes(
     requires { length fallen.now ≤ 31 }
     ensures { (st : State)
         → result
-        ≡ statement_changes task.now statement.now (lent st fallen.now task.now answer.now)
+        ≡ statement_changes task.now statement.now (full_answer st fallen.now task.now answer.now)
         job.now }
 {
     match statement {
@@ -420,7 +420,7 @@ fn statement_changes(
 
 // The tasks that ended with the one that abended, where the last request abended.
 fn fallen(walk: &Walk) -> &[Name]
-    ensures names { result.now ≡ fallen_in walk.now.reply }
+    ensures names { result.now ≡ ended_with_in walk.now.reply }
     ensures most { length result.now ≤ 31 }
 {
     match walk.reply() {
@@ -430,19 +430,19 @@ fn fallen(walk: &Walk) -> &[Name]
 }
 
 /// Returns the changes of a line with this meaning and these events. Its request is written over `request`.
-pub fn changes_of(read: &Line, walk: &Walk, told: &LineTold, request: &mut Request) -> Changes
-    requires { IsLent walk.now told.now }
+pub fn changes_of(read: &Line, walk: &Walk, told: &LineEvent, request: &mut Request) -> Changes
+    requires { IsAvailable walk.now told.now }
     ensures { (number : ℕ)
-        → result ≡ changes_of read.now (events_told number walk.now told.now) walk.now.step }
+        → result ≡ changes_of read.now (events_of_line number walk.now told.now) walk.now.step }
 {
     match told {
-        LineTold::Began { card, .. } => begin_changes(card),
-        LineTold::Answered { task, answer } => match (read, walk.job()) {
+        LineEvent::Began { card, .. } => begin_changes(card),
+        LineEvent::Answered { task, answer } => match (read, walk.job()) {
             (Line::Statement(_, statement), Some(job)) => {
                 statement_changes(task, statement, answer, job, fallen(walk), request)
             }
             _ => no_changes(),
         },
-        LineTold::Nothing | LineTold::Faulted(_) => no_changes(),
+        LineEvent::Nothing | LineEvent::Faulted(_) => no_changes(),
     }
 }

@@ -1,20 +1,20 @@
 //! The item of a line.
 
 ghost use Rattle.std.specs.Prelude.{◌≡◌, ◌≢◌, ◌++◌, List, ℕ, IfOk, OnOk, codes};
-ghost use Rattle.mvs_model.specs.Lent.{lent};
+ghost use Rattle.mvs_model.specs.FullAnswers.{full_answer};
 ghost use Rattle.mvs_model.specs.State.{State};
 ghost use Rattle.mvs_model.specs.Texts.{printing};
 ghost use Rattle.mvs_model.specs.declared.name.Name.{Name as TaskName};
-ghost use Rattle.mvs_job.specs.Telling.{IsLent, events_told};
+ghost use Rattle.mvs_job.specs.LineEvents.{IsAvailable, events_of_line};
 ghost use Rattle.page.specs.Lines.{change_lines};
 ghost use Rattle.page.specs.Changes.{changes_of};
-ghost use Rattle.page.specs.Markup.{class_of, class_said, head_of, reply_of, tail_of};
-ghost use Rattle.page.specs.Told.{item_told};
+ghost use Rattle.page.specs.Markup.{class_of, answer_class, head_of, reply_of, tail_of};
+ghost use Rattle.page.specs.Items.{item_of_event};
 
 use crate::change::push_lines;
 use crate::changes::changes_of;
 use crate::markup::{push_head, push_reply, push_tag, push_tail};
-use mvs_job::{LineTold, Walk};
+use mvs_job::{LineEvent, Walk};
 use mvs_model::answer::Answer;
 use mvs_model::line::Line;
 use mvs_model::request::Request;
@@ -30,15 +30,15 @@ pub struct Numbered<'a> {
 /// What a line printed, and its explanation.
 #[derive(Drop)]
 pub struct Served {
-    pub told: LineTold,
+    pub told: LineEvent,
     pub printed: Vec<u8>,
     pub behind: Vec<u8>,
 }
 
 // How a statement went that is answered so.
-fn class_said(answer: &Answer) -> &'static [u8]
+fn answer_class(answer: &Answer) -> &'static [u8]
     ensures { (st : State) (fallen : List TaskName) (t : TaskName)
-        → result.now ≡ class_said (lent st fallen t answer.now) }
+        → result.now ≡ answer_class (full_answer st fallen t answer.now) }
 {
     match answer {
         Answer::NotRun | Answer::NoName | Answer::Rc4 | Answer::NoCell => b"no",
@@ -48,12 +48,12 @@ fn class_said(answer: &Answer) -> &'static [u8]
 }
 
 // Makes the item for the events of a line.
-fn class_of(walk: &Walk, told: &LineTold) -> &'static [u8]
-    requires { IsLent walk.now told.now }
-    ensures { (number : ℕ) → result.now ≡ class_of (events_told number walk.now told.now) }
+fn class_of(walk: &Walk, told: &LineEvent) -> &'static [u8]
+    requires { IsAvailable walk.now told.now }
+    ensures { (number : ℕ) → result.now ≡ class_of (events_of_line number walk.now told.now) }
 {
     match told {
-        LineTold::Answered { answer, .. } => class_said(answer),
+        LineEvent::Answered { answer, .. } => answer_class(answer),
         _ => b"ok",
     }
 }
@@ -63,15 +63,15 @@ fn lines_of_change(
     alloc: Global,
     read: &Line,
     walk: &Walk,
-    told: &LineTold,
+    told: &LineEvent,
     request: &mut Request,
 ) -> Result<Vec<u8>, AllocError>
-    requires { IsLent walk.now told.now }
+    requires { IsAvailable walk.now told.now }
     ensures { IfOk result
         (λ lines. (number : ℕ)
         → lines.items
         ≡ change_lines
-        (changes_of read.now (events_told number walk.now told.now) walk.now.step)) }
+        (changes_of read.now (events_of_line number walk.now told.now) walk.now.step)) }
 {
     let mut lines = Vec::new(alloc);
     push_lines(&mut lines, changes_of(read, walk, told, request).as_slice())?;
@@ -123,13 +123,13 @@ pub fn item_of(
     served: &Served,
     request: &mut Request,
 ) -> Result<Vec<u8>, AllocError>
-    requires lent { IsLent walk.now served.now.told }
-    requires answered { served.now.told ≢ LineTold.Nothing }
+    requires full_answer { IsAvailable walk.now served.now.told }
+    requires answered { served.now.told ≢ LineEvent.Nothing }
     requires printed { served.now.printed.items
-        ≡ printing (events_told numbered.now.number walk.now served.now.told) }
+        ≡ printing (events_of_line numbered.now.number walk.now served.now.told) }
     ensures { IfOk result
         (λ item. item.items
-        ≡ item_told numbered.now.number numbered.now.line.now read.now walk.now
+        ≡ item_of_event numbered.now.number numbered.now.line.now read.now walk.now
         served.now.told served.now.behind.items) }
 {
     let how = class_of(walk, &served.told);
@@ -138,8 +138,8 @@ pub fn item_of(
     let printed = served.printed.as_slice();
     let behind = served.behind.as_slice();
     match &served.told {
-        LineTold::Nothing => unreachable!(),
-        LineTold::Faulted(_) => faulted(alloc, numbered, printed),
+        LineEvent::Nothing => unreachable!(),
+        LineEvent::Faulted(_) => faulted(alloc, numbered, printed),
         _ => stated(alloc, numbered, how, printed, behind, lines),
     }
 }

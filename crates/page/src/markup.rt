@@ -67,7 +67,7 @@ fn without_star(line: &[u8]) -> &[u8]
 }
 
 // Returns the lines after the first one of a text.
-fn behind_line(text: &[u8], end: usize) -> &[u8]
+fn lines_after(text: &[u8], end: usize) -> &[u8]
     requires { end ≤ length text.now }
     ensures { result.now ≡ drop (end + 1) text.now }
 {
@@ -88,7 +88,7 @@ fn push_words(item: &mut Vec<u8>, behind: &[u8]) -> Result<(), AllocError>
     let end = line_end(behind);
     push_escaped(item, without_star(&behind[..end]))?;
     item.extend_from_slice(b"\n")?;
-    push_words(item, behind_line(behind, end))
+    push_words(item, lines_after(behind, end))
 }
 
 // Appends the tag that begins the item of a statement.

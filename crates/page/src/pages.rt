@@ -4,18 +4,18 @@ ghost use Rattle.std.specs.Prelude.{◌≡◌, ◌≤◌, ◌<◌, ◌+◌, ◌^
 ghost use Rattle.mvs_model.specs.Numbers.{most_script_bytes};
 ghost use Rattle.mvs_model.specs.Reading.{LineOf};
 ghost use Rattle.mvs_model.specs.Texts.{printing};
-ghost use Rattle.mvs_job.specs.Apart.{StandsBehind};
+ghost use Rattle.mvs_job.specs.Apart.{AppendsExplanation};
 ghost use Rattle.mvs_job.specs.Naming.{KeepsLines, no_lines};
-ghost use Rattle.mvs_job.specs.Telling.{IsLent, IsTold, closing, events_told};
+ghost use Rattle.mvs_job.specs.LineEvents.{IsAvailable, ServesAs, closing, events_of_line};
 ghost use Rattle.mvs_model.specs.Walk.{is_first};
 ghost use Rattle.page.specs.Markup.{closing_of};
 ghost use Rattle.page.specs.Pages.{IsReadAs, WritesItem, WritesPage, WritesShown};
-ghost use Rattle.page.specs.Told.{goes_on};
+ghost use Rattle.page.specs.Items.{continues};
 
 use crate::item::{Numbered, Served, item_of};
 use crate::markup::{print_note, push_reply};
 use job_script::{read_line, write_all};
-use mvs_job::{Explainer, LineTold, Stop, Walk, line_end, print_closing};
+use mvs_job::{Explainer, LineEvent, Stop, Walk, line_end, print_closing};
 use mvs_model::line::Line;
 use mvs_model::outcome::Outcome;
 use mvs_model::request::Request;
@@ -50,7 +50,7 @@ fn is_first(walk: &Walk) -> bool
 }
 
 // Parses a line of a job in this state, and returns whether it is blank or a comment.
-fn says_nothing(walk: &Walk, line: &[u8], read: &mut Line) -> bool
+fn is_blank_or_comment(walk: &Walk, line: &[u8], read: &mut Line) -> bool
     ensures read { IsReadAs walk.now.step line.now read.new }
     ensures nothing { result ≡ true → LineOf (is_first walk.now.step) line.now Line.Nothing }
     ensures something { result ≡ false → LineOf (is_first walk.now.step) line.now Line.Nothing → ⊥ }
@@ -65,11 +65,11 @@ fn says_nothing(walk: &Walk, line: &[u8], read: &mut Line) -> bool
 }
 
 // Returns whether a job continues after a line with these events.
-fn goes_on(told: &LineTold) -> bool
-    ensures { result ≡ goes_on told.now }
+fn continues(told: &LineEvent) -> bool
+    ensures { result ≡ continues told.now }
 {
     match told {
-        LineTold::Faulted(_) => false,
+        LineEvent::Faulted(_) => false,
         _ => true,
     }
 }
@@ -88,17 +88,17 @@ impl Maker {
     // Executes a line. Memory can be exhausted there, or by what it prints.
     fn serve(&mut self, alloc: Global, walk: &mut Walk, line: &[u8]) -> Result<Served, AllocError>
         requires { walk.old.number + 1 < 2 ^ 32 }
-        ensures told { IfOk result (λ served. IsTold walk.old line.now served.told walk.new) }
+        ensures told { IfOk result (λ served. ServesAs walk.old line.now served.told walk.new) }
         ensures printed { IfOk result
             (λ served. served.printed.items
-            ≡ printing (events_told walk.old.number walk.new served.told)) }
+            ≡ printing (events_of_line walk.old.number walk.new served.told)) }
         ensures behind { IfOk result
-            (λ served. StandsBehind (Some []) (Some served.behind.items) walk.old
+            (λ served. AppendsExplanation (Some []) (Some served.behind.items) walk.old
             self.old.explainer line.now walk.new served.told) }
         ensures lines { IfOk result
             (λ served. KeepsLines walk.old self.old.explainer line.now walk.new served.told
             self.new.explainer) }
-        ensures lent { IfOk result (λ served. IsLent walk.new served.told) }
+        ensures full_answer { IfOk result (λ served. IsAvailable walk.new served.told) }
         ensures read { self.new.read ≡ self.old.read }
         ensures number { walk.new.number ≡ walk.old.number + 1 }
     {
@@ -177,7 +177,7 @@ impl Maker {
             return Err(Stop::Memory);
         };
         match write_all(writer, &item) {
-            Ok(()) => Ok(goes_on(&served.told)),
+            Ok(()) => Ok(continues(&served.told)),
             Err(_) => Err(Stop::Write),
         }
     }
@@ -198,7 +198,7 @@ impl Maker {
         ensures ok { OnOk result (writer.new.failed ≡ writer.old.failed) }
         ensures write { IsErrOf result Stop.Write → writer.new.failed ≡ true }
     {
-        if says_nothing(walk, line, &mut self.read) {
+        if is_blank_or_comment(walk, line, &mut self.read) {
             return self.write_note(walk, line, writer);
         }
         self.write_answered(alloc, walk, line, writer)

@@ -8,7 +8,7 @@ use crate::requests::{Change, attach, obtain, obtain_some, pool, release, touch}
 use crate::statements::{statement, write_region};
 use crate::theme::Theme;
 use crate::{Profile, RandomFault};
-use mvs_job::{LineTold, Session};
+use mvs_job::{LineEvent, Session};
 use mvs_model::answer::Answer;
 use mvs_model::name::Name;
 use mvs_model::place::Place;
@@ -200,9 +200,9 @@ impl Maker {
     }
 
     // Records the changes of a line.
-    fn hear(&mut self, told: &LineTold, change: Change) {
+    fn hear(&mut self, told: &LineEvent, change: Change) {
         match told {
-            LineTold::Answered { task, answer } => match answer {
+            LineEvent::Answered { task, answer } => match answer {
                 Answer::NotRun | Answer::NoName | Answer::Rc4 | Answer::NoCell => {}
                 Answer::Ended | Answer::Abended(_) => self.end(task),
                 Answer::At(_)
@@ -215,7 +215,7 @@ impl Maker {
                 | Answer::Subpools
                 | Answer::Map => self.take(change),
             },
-            LineTold::Nothing | LineTold::Began { .. } | LineTold::Faulted(_) => {}
+            LineEvent::Nothing | LineEvent::Began { .. } | LineEvent::Faulted(_) => {}
         }
     }
 

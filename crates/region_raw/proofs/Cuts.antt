@@ -33,8 +33,8 @@ run_before cs i j n le =
     ap (λ k. take n (drop i (take k cs))) gap ∙ ap (take n) (drop-take i (j - i) cs) ∙ take-take n (j - i) (drop i cs) (omega arith)
 
 -- and where it lies before it
-run_behind : (cs : Bytes) (i k n : ℕ) → k ≤ i → take n (drop (i - k) (drop k cs)) ≡ take n (drop i cs)
-run_behind cs i k n le = let same : k + (i - k) ≡ i = omega arith in ap (take n) (drop-drop (i - k) k cs ∙ ap (λ m. drop m cs) same)
+run_after : (cs : Bytes) (i k n : ℕ) → k ≤ i → take n (drop (i - k) (drop k cs)) ≡ take n (drop i cs)
+run_after cs i k n le = let same : k + (i - k) ≡ i = omega arith in ap (take n) (drop-drop (i - k) k cs ∙ ap (λ m. drop m cs) same)
 
 -- a run of one
 pub single : (cs : Bytes) (i : ℕ) → i < length cs → take 1 (drop i cs) ≡ get_or cs i None ∷ []
@@ -129,7 +129,7 @@ module _ {M : Type 1} {𝓤 : Ura M} (𝓛 : Logic 𝓤) (b : ℕ) where
     both_out (inr le) fits_i fits_j =
         let L = take j cs in let R = drop (j + n) cs in let end = (o + j) + n in let k = i - (j + n) in let A = take n (drop k R) in
         let inside : k + n ≤ length R = omega (arith, length-drop (j + n) cs) in
-        let same : A ≡ First = run_behind cs i (j + n) n le in let there : end + k ≡ o + i = omega arith in
+        let same : A ≡ First = run_after cs i (j + n) n le in let there : end + k ≡ o + i = omega arith in
         qed 𝓛 (‵ (row b o cs) ∷ []) ∵ use1 𝓛 (‵ (row b (o + j) Second) ⊛ (‵ (row b o L) ⊛ ‵ (row b end R))) (out cs o j n fits_j) $ split ! $ move ! (1 ∷ []) $ split ! $ move ! (1 ∷ []) $
         use1 𝓛 (‵ (row b (end + k) A) ⊛ raw (wand 𝓤 (sem 𝓛 (row b (end + k) A)) (sem 𝓛 (row b end R)))) (aside R end k n inside) $ split ! $
         use1 𝓛 (‵ (row b (o + i) First)) (moved (end + k) (o + i) A First there same) $ frame ! $ move ! (2 ∷ []) $ frame ! $

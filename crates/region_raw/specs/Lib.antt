@@ -1,8 +1,8 @@
 -- Rows of bytes, and pages cut from them.
 pub mod Rows
 pub mod Pages
-pub mod LendsRegion
+pub mod BorrowsRegion
 -- The definitions below the region.
 pub mod Ownership
-pub mod LendsRaw
-pub mod LendsBlock
+pub mod BorrowsRaw
+pub mod BorrowsBlock

@@ -45,7 +45,7 @@ impl Drop for Block {
 }
 
 impl Block {
-    ghost use Rattle.region_raw.specs.LendsBlock.{LendsSecond, LendsRun};
+    ghost use Rattle.region_raw.specs.BorrowsBlock.{BorrowsSecond, BorrowsRun};
 
     /// A block of `len` blank bytes. For no bytes no memory is taken.
     pub fn new(alloc: Global, len: usize) -> Result<Block, OutOfMemory>
@@ -106,7 +106,7 @@ impl Block {
     /// Borrows the `n` bytes from `at` on for writing.
     pub fn part_mut(&mut self, at: usize, n: usize) -> &mut [u8]
         requires { IsRun self.old at n }
-        ensures* writes_back { sem 𝓛 (LendsRun self.entry at n result) }
+        ensures* writes_back { sem 𝓛 (BorrowsRun self.entry at n result) }
         ensures value { result.now ≡ run self.old at n }
     {
         self.bytes.slice_mut(self.start, at, n)
@@ -117,7 +117,7 @@ impl Block {
         requires apart { IsApart from to n }
         requires source { IsRun self.old from n }
         requires target { IsRun self.old to n }
-        ensures* writes_back { sem 𝓛 (LendsSecond self.entry to n result) }
+        ensures* writes_back { sem 𝓛 (BorrowsSecond self.entry to n result) }
         ensures read { result.0.now ≡ run self.old from n }
         ensures written { result.1.now ≡ run self.old to n }
     {

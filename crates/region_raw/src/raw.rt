@@ -83,7 +83,7 @@ pub fn end_block(bytes: RawBytes, right: Right)
 }
 
 impl RawBytes {
-    ghost use Rattle.region_raw.specs.LendsRaw.{LendsSecond, LendsRun};
+    ghost use Rattle.region_raw.specs.BorrowsRaw.{BorrowsSecond, BorrowsRun};
 
     /// The `n` bytes from `at` on.
     pub fn slice(&self, start: Start, at: usize, n: usize) -> &[u8]
@@ -98,7 +98,7 @@ impl RawBytes {
     pub fn slice_mut(&mut self, start: Start, at: usize, n: usize) -> &mut [u8]
         requires start { start.ptr ≡ self.old.at }
         requires filled { IsRun self.old.bytes at n }
-        ensures* writes_back { sem 𝓛 (LendsRun self.entry at n result) }
+        ensures* writes_back { sem 𝓛 (BorrowsRun self.entry at n result) }
         ensures value { result.now ≡ run self.old.bytes at n }
     {
         unsafe { slice::from_raw_parts_mut(start.ptr.add(at), n) }
@@ -110,7 +110,7 @@ impl RawBytes {
         requires apart { IsApart from to n }
         requires source { IsRun self.old.bytes from n }
         requires target { IsRun self.old.bytes to n }
-        ensures* writes_back { sem 𝓛 (LendsSecond self.entry to n result) }
+        ensures* writes_back { sem 𝓛 (BorrowsSecond self.entry to n result) }
         ensures read { result.0.now ≡ run self.old.bytes from n }
         ensures written { result.1.now ≡ run self.old.bytes to n }
     {

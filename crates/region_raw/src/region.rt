@@ -36,7 +36,7 @@ impl Model for Region {
 }
 
 impl Region {
-    ghost use Rattle.region_raw.specs.LendsRegion.{LendsPart, LendsSecond};
+    ghost use Rattle.region_raw.specs.BorrowsRegion.{BorrowsPart, BorrowsSecond};
 
     /// Makes a region of blank pages. Only this allocates memory; for no pages it allocates none.
     pub fn new(alloc: Global, pages: usize) -> Result<Region, OutOfMemory>
@@ -126,7 +126,7 @@ impl Region {
     /// Borrows the `n` bytes from `at` on for writing.
     pub fn part_mut(&mut self, at: usize, n: usize) -> &mut [u8]
         requires { IsPart self.old at n }
-        ensures* writes_back { sem 𝓛 (LendsPart self.entry at n result) }
+        ensures* writes_back { sem 𝓛 (BorrowsPart self.entry at n result) }
         ensures writes { (ws : List ℕ) → Writes self.old at ws (with_part self.old at ws) }
         ensures value { result.now ≡ part_of self.old at n }
         ensures len { length result.now ≡ n }
@@ -141,7 +141,7 @@ impl Region {
         requires apart { IsApart from to n }
         requires source { IsPart self.old from n }
         requires target { IsPart self.old to n }
-        ensures* writes_back { sem 𝓛 (LendsSecond self.entry to n result) }
+        ensures* writes_back { sem 𝓛 (BorrowsSecond self.entry to n result) }
         ensures writes { (ws : List ℕ) → Writes self.old to ws (with_part self.old to ws) }
         ensures read { result.0.now ≡ part_of self.old from n }
         ensures written { result.1.now ≡ part_of self.old to n }

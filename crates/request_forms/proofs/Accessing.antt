@@ -13,7 +13,7 @@ use Rattle.mvs_model.specs.Name.{name_cmp}
 use Rattle.mvs_model.specs.View.{state_of}
 use Rattle.cell_pool.specs.Agree.{Agree}
 use Rattle.cell_pool.specs.Roots.{Root, pools_of}
-use Rattle.cell_pool.proofs.Counted.{all_kept as parts_kept}
+use Rattle.cell_pool.proofs.Counted.{all_kept as parts_carry_pools}
 use Rattle.cell_pool.proofs.Keeping.{write_keeps}
 use Rattle.mvs_model.specs.Changes.{Granted, Writes}
 use Rattle.mvs_model.specs.Requests.{all_granted, bytes_from, moved_from}
@@ -48,7 +48,7 @@ module _ (roots : FinMap name_cmp Root) (st : Storage) (agree : Agree roots st) 
   -- what is written there leaves the pools as they are
   module _ (new : Storage) (p : PlaceValue) (value : ℕ → Option ℕ) (now : IsStorage new) (regions : new.regions ≡ st.regions) (held : new.held ≡ st.held) (bytes : (a : ℕ) → get new.bytes a ≡ cond (has_address p a) (value a) (get st.bytes a)) (may : Granted (machine_state roots st o) p) where
     pub write_agrees : Agree roots new × (pools_of roots new ≡ pools_of roots st)
-    write_agrees = parts_kept roots st new agree (write_keeps roots st new p value o agree now regions held bytes may)
+    write_agrees = parts_carry_pools roots st new agree (write_keeps roots st new p value o agree now regions held bytes may)
 
   pub put_agrees : (new : Storage) (p : PlaceValue) (bytes : List ℕ) → Puts st p bytes new → Granted (machine_state roots st o) p → Agree roots new
   put_agrees new p bytes puts h = (write_agrees new p _ puts.storage puts.regions puts.held puts.bytes h).0
@@ -63,11 +63,11 @@ module _ (roots : FinMap name_cmp Root) (st : Storage) (agree : Agree roots st) 
       (puts_seen st o (pools_of roots st) agree.parts.storage new p.addr bytes puts.storage h puts.regions puts.held puts.bytes)) h puts
 
   -- what a write tells
-  pub write_told : (written : Bool) (new : Storage) (p : PlaceValue) (bytes : List ℕ) → length bytes ≡ p.len
+  pub write_events : (written : Bool) (new : Storage) (p : PlaceValue) (bytes : List ℕ) → length bytes ≡ p.len
       → MatchBool written (Granted (machine_state roots st o) p × Puts st p bytes new) ((Granted (machine_state roots st o) p → ⊥) × (new ≡ st))
       → MatchBool written (Granted (machine_state roots st o) p × Writes (machine_state roots st o) p (bytes_from p.addr bytes) (machine_state roots new o)) ((Granted (machine_state roots st o) p → ⊥) × (machine_state roots new o ≡ machine_state roots st o))
-  write_told true new p bytes len (h, puts) = (h, put_written new p bytes len h puts)
-  write_told false new p bytes len (none, same) = (none, ap (λ s. machine_state roots s o) same)
+  write_events true new p bytes len (h, puts) = (h, put_written new p bytes len h puts)
+  write_events false new p bytes len (none, same) = (none, ap (λ s. machine_state roots s o) same)
 
   module _ (t : Name) where
     pub show_denied : (from n : ℕ) → (Granted (machine_state roots st o) (place_at from n) → ⊥) → Tries {A = Unit {0}} (λ _. Done) (machine_state roots st o) t (Show from n) (Err NoAccess) (machine_state roots st o)

@@ -23,7 +23,7 @@ use Rattle.std.specs.Option.{option_map, unwrap_or}
 use Rattle.cell_pool.specs.Agree.{Agree}
 use Rattle.cell_pool.specs.Building.{Builds, causes_of_build}
 use Rattle.cell_pool.specs.Roots.{Root, pools_of}
-use Rattle.cell_pool.specs.Telling.{PartTakesTold, first_in}
+use Rattle.cell_pool.specs.Hints.{PartFollowsHint, first_in}
 use Rattle.request_forms.specs.Taking.{TakesPool, first_cells}
 use Rattle.cell_pool.proofs.Pooled.{build_is_step}
 use Rattle.request_forms.specs.Machine.{machine_state}
@@ -57,7 +57,7 @@ module _ (roots fewer : FinMap name_cmp Root) (st new : Storage) (o : Owners) (t
 
 -- a pool that is made has its first cell at the address that is told, where the store puts it there
 module _ (roots new_roots : FinMap name_cmp Root) (st new : Storage) (o after : Owners) (t name : Name) (number s : ℕ) (plan : Plan) (agree : Agree roots st) (sub : SubpoolOf o (keeper o t number) number s) where
-  takes_pool : (a : ℕ) → PartTakesTold st name (new_pool s plan) plan.primary a (pools_of new_roots new) → (later : State) → MachineBuilds (machine_state roots st o) (keeper o t number) name number plan later → first_cells (get later.pools name) ≡ a ∷ []
+  takes_pool : (a : ℕ) → PartFollowsHint st name (new_pool s plan) plan.primary a (pools_of new_roots new) → (later : State) → MachineBuilds (machine_state roots st o) (keeper o t number) name number plan later → first_cells (get later.pools name) ≡ a ∷ []
       → first_cells (get (machine_state new_roots new after).pools name) ≡ a ∷ []
   takes_pool a told later b e =
       let q = b.2.0 in
@@ -68,7 +68,7 @@ module _ (roots new_roots : FinMap name_cmp Root) (st new : Storage) (o after : 
       let first : a ≡ first_in (new_pool s plan) plan.primary q = cc in
       ap first_cells (told q chosen first) ∙ there
 
-  pub pool_takes : (told : Option ℕ) (r : Result (Unit {0}) Refusal) → ((a : ℕ) → told ≡ Some a → OnOk r (PartTakesTold st name (new_pool s plan) plan.primary a (pools_of new_roots new)))
+  pub pool_takes : (told : Option ℕ) (r : Result (Unit {0}) Refusal) → ((a : ℕ) → told ≡ Some a → OnOk r (PartFollowsHint st name (new_pool s plan) plan.primary a (pools_of new_roots new)))
       → OnOk r (TakesPool (machine_state roots st o) t number name plan told (machine_state new_roots new after))
   pool_takes told (Ok _) takes = λ a e. takes_pool a (takes a e)
   pool_takes told (Err code) takes = tt

@@ -16,7 +16,7 @@ use Rattle.mvs_model.specs.Storage.{Storage, holder, Chosen, IsStorage, Grant, R
 use Rattle.mvs_model.specs.Owners.{Owners, entry, IsSpare, Binds, SubpoolOf}
 use Rattle.mvs_model.specs.Reasons.{Lacks}
 use Rattle.mvs_model.specs.Changes.{ListGrant, ShortOf}
-use Rattle.mvs_model.specs.Determined.{ListTakesTold}
+use Rattle.mvs_model.specs.Determined.{ListFollowsHints}
 use Rattle.mvs_model.specs.Causes.{AfterGrants}
 use Rattle.mvs_model.proofs.Owning.{enters_some}
 use Rattle.mvs_model.proofs.Reasons.{bound_entry}
@@ -27,7 +27,7 @@ use Rattle.request_forms.specs.declared.obtain_list.Lack.{Lack}
 use Rattle.request_forms.proofs.Rooms.{room_lacks}
 use Rattle.request_forms.proofs.Pooling.{granted, grant_agrees, grants_agree}
 use Rattle.mvs_model.proofs.StorageLaws.{taken_back}
-use Rattle.request_forms.specs.Lists.{GrantsEach, IsMemberShort, LacksAt, LacksBehind, LacksIn, TakesFirst, first_of, later_of, list_wants}
+use Rattle.request_forms.specs.Lists.{GrantsEach, IsMemberShort, LacksAt, LacksAfter, LacksIn, TakesFirst, first_of, later_of, list_wants}
 use Rattle.request_forms.proofs.Obtaining.{its_subpool, new_subpool, stays_entered, now_entered, takes_told}
 
 -- the first member granted, and then the others
@@ -92,7 +92,7 @@ module _ (roots : FinMap name_cmp Root) where
   )
 
   each_takes : (st new : Storage) (o : Owners) (t : Name) (number s : ℕ) (wants : List WantValue) (told : List ℕ) (ps : List PlaceValue) → Agree roots st → entry o t number ≡ Some s → length told ≡ length wants → GrantsEach st s wants told ps new
-      → ListTakesTold (machine_state roots st o) t number wants told ps (machine_state roots new o)
+      → ListFollowsHints (machine_state roots st o) t number wants told ps (machine_state roots new o)
   each_takes st new o t number s [] told [] agree e l h = ap (λ x. machine_state roots x o) h
   each_takes st new o t number s [] told (p ∷ ps) agree e l h = h
   each_takes st new o t number s (want ∷ wants) told [] agree e l h = h
@@ -107,7 +107,7 @@ module _ (roots : FinMap name_cmp Root) where
   lacks_seen : (st : Storage) (o : Owners) (t : Name) (number s : ℕ) (want : WantValue) (short : Shortfall) → Agree roots st → SubpoolOf o t number s → LacksIn st s want short → Lacks t number short (machine_state roots st o) want
   lacks_seen st o t number s want short agree is h = let lacks = room_lacks roots st o s want short.room agree h.0 in ((s, is, lacks.0), h.1, (s, is, lacks.1))
 
-  each_short : (st : Storage) (o : Owners) (t : Name) (number s : ℕ) (wants : List WantValue) (short : Shortfall) (j : ℕ) → Agree roots st → entry o t number ≡ Some s → LacksBehind st s wants short j → AfterGrants (Lacks t number short) (machine_state roots st o) t number wants j
+  each_short : (st : Storage) (o : Owners) (t : Name) (number s : ℕ) (wants : List WantValue) (short : Shortfall) (j : ℕ) → Agree roots st → entry o t number ≡ Some s → LacksAfter st s wants short j → AfterGrants (Lacks t number short) (machine_state roots st o) t number wants j
   each_short st o t number s [] short j agree e h = absurd h
   each_short st o t number s (want ∷ wants) short zero agree e h = lacks_seen st o t number s want short agree (its_subpool o t number s e) h
   each_short st o t number s (want ∷ wants) short (suc j) agree e h = (
@@ -129,7 +129,7 @@ module _ (roots : FinMap name_cmp Root) where
   )
 
   new_takes : (st new : Storage) (o after : Owners) (t : Name) (number s : ℕ) (wants : List WantValue) (told : List ℕ) (ps : List PlaceValue) → Agree roots st → 1 ≤ length wants → entry o t number ≡ None → IsSpare o s → Binds o t number s after → length told ≡ length wants
-      → GrantsEach st s wants told ps new → ListTakesTold (machine_state roots st o) t number wants told ps (machine_state roots new after)
+      → GrantsEach st s wants told ps new → ListFollowsHints (machine_state roots st o) t number wants told ps (machine_state roots new after)
   new_takes st new o after t number s [] told ps agree some e spare b l h = absurd (omega arith)
   new_takes st new o after t number s (want ∷ wants) told [] agree some e spare b l h = h
   new_takes st new o after t number s (want ∷ wants) [] (p ∷ ps) agree some e spare b l h = absurd (let f : 0 ≡ suc (length wants) = l in omega (arith, f))
@@ -140,7 +140,7 @@ module _ (roots : FinMap name_cmp Root) where
     each_takes h.0 new after t number s wants told ps (grant_agrees roots st h.0 s want p agree h.1 h.2).0 (bound_entry o after t number s b) (let f : suc (length told) ≡ suc (length wants) = l in omega (arith, f)) h.4,
   )
 
-  areas_short_of_new : (st : Storage) (o : Owners) (t : Name) (number s : ℕ) (wants : List WantValue) (short : Shortfall) (j : ℕ) → Agree roots st → entry o t number ≡ None → IsSpare o s → LacksBehind st s wants short j
+  areas_short_of_new : (st : Storage) (o : Owners) (t : Name) (number s : ℕ) (wants : List WantValue) (short : Shortfall) (j : ℕ) → Agree roots st → entry o t number ≡ None → IsSpare o s → LacksAfter st s wants short j
       → AfterGrants (Lacks t number short) (machine_state roots st o) t number wants j
   areas_short_of_new st o t number s [] short j agree e spare h = absurd h
   areas_short_of_new st o t number s (want ∷ wants) short zero agree e spare h = lacks_seen st o t number s want short agree (new_subpool o t number s e spare) h
@@ -172,19 +172,19 @@ module _ (roots : FinMap name_cmp Root) where
   -- and they take the addresses that are told
   pub areas_take : (st new : Storage) (o : Owners) (t : Name) (number s start : ℕ) (items lengths told : List ℕ) (r : Result (List PlaceValue) Lack) → Agree roots st → items ≡ lengths → entry o t number ≡ Some s
       → MatchResult r (λ ps. (more : List PlaceValue) × (ps ≡ [] ++ more) × GrantsEach st s (list_wants items start) told more new) (λ lack. LacksAt st s (list_wants items start) lack.member lack.short × (new ≡ st))
-      → IfOk r (λ ps. length told ≡ length lengths → ListTakesTold (machine_state roots st o) t number (list_wants lengths start) told ps (machine_state roots new o))
+      → IfOk r (λ ps. length told ≡ length lengths → ListFollowsHints (machine_state roots st o) t number (list_wants lengths start) told ps (machine_state roots new o))
   areas_take st new o t number s start items lengths told (Err k) agree same e h = tt
   areas_take st new o t number s start items lengths told (Ok ps) agree same e h = λ l.
-      subst (λ x. ListTakesTold (machine_state roots st o) t number (list_wants x start) told ps (machine_state roots new o)) same
-      (subst (λ x. ListTakesTold (machine_state roots st o) t number (list_wants items start) told x (machine_state roots new o)) (sym h.1)
+      subst (λ x. ListFollowsHints (machine_state roots st o) t number (list_wants x start) told ps (machine_state roots new o)) same
+      (subst (λ x. ListFollowsHints (machine_state roots st o) t number (list_wants items start) told x (machine_state roots new o)) (sym h.1)
       (each_takes st new o t number s (list_wants items start) told h.0 agree e (as_many told items lengths start same l) h.2))
 
   pub new_areas_take : (st new : Storage) (o after : Owners) (t : Name) (number s start : ℕ) (items lengths told : List ℕ) (ps : List PlaceValue) → Agree roots st → items ≡ lengths → 1 ≤ length items → entry o t number ≡ None → IsSpare o s → Binds o t number s after
       → (more : List PlaceValue) × (ps ≡ [] ++ more) × GrantsEach st s (list_wants items start) told more new
-      → length told ≡ length lengths → ListTakesTold (machine_state roots st o) t number (list_wants lengths start) told ps (machine_state roots new after)
+      → length told ≡ length lengths → ListFollowsHints (machine_state roots st o) t number (list_wants lengths start) told ps (machine_state roots new after)
   new_areas_take st new o after t number s start items lengths told ps agree same some e spare b h l =
-      subst (λ x. ListTakesTold (machine_state roots st o) t number (list_wants x start) told ps (machine_state roots new after)) same
-      (subst (λ x. ListTakesTold (machine_state roots st o) t number (list_wants items start) told x (machine_state roots new after)) (sym h.1)
+      subst (λ x. ListFollowsHints (machine_state roots st o) t number (list_wants x start) told ps (machine_state roots new after)) same
+      (subst (λ x. ListFollowsHints (machine_state roots st o) t number (list_wants items start) told x (machine_state roots new after)) (sym h.1)
       (new_takes st new o after t number s (list_wants items start) told h.0 agree (some_wants items start some) e spare b (as_many told items lengths start same l) h.2))
 
   -- areas of a subpool that the task would have

@@ -19,7 +19,7 @@ use Rattle.mvs_model.specs.Reports.{page_subpool}
 use Rattle.mvs_model.specs.Reasons.{IsLongest, IsRoom, free_pages}
 use Rattle.mvs_model.proofs.StorageLaws.{shorter_place}
 use Rattle.cell_pool.specs.Agree.{Agree}
-use Rattle.cell_pool.specs.Laying.{StandsFor}
+use Rattle.cell_pool.specs.Laying.{IsEquivalentWant}
 use Rattle.cell_pool.specs.Roots.{Root, pools_of}
 use Rattle.mvs_model.proofs.Seen.{same_holder}
 use Rattle.subpool_store.specs.FreePages.{free_pages as free_in}
@@ -92,7 +92,7 @@ pages_free roots st o agree first n free counted =
     counted ∙ (λ i. count_below n (λ p. not (is_some (seen i (first + p)))))
 
 -- what is found for a thing is found for another one for which it stands
-module _ (r : Regions) (bounded : IsBounded r) (held : ℕ → Option ℕ) (s : ℕ) (real want : WantValue) (stands : StandsFor real want) where
+module _ (r : Regions) (bounded : IsBounded r) (held : ℕ → Option ℕ) (s : ℕ) (real want : WantValue) (stands : IsEquivalentWant real want) where
   -- no place is so long
   none_so_long : (n a : ℕ) (w : WantValue) → 0x3000000 < n → Places r held s w n a → ⊥
   none_so_long n a w l p = at p.0.inside where
@@ -154,7 +154,7 @@ module _ (r : Regions) (bounded : IsBounded r) (held : ℕ → Option ℕ) (s : 
   }
 
 -- what is found for what stands for a part is found for the part
-pub part_stands : (st : State) → IsBounded st.regions → (s size cells : ℕ) (side : Side) (want : WantValue) → StandsFor (part_want size cells side) want → (v : Option Room)
+pub part_stands : (st : State) → IsBounded st.regions → (s size cells : ℕ) (side : Side) (want : WantValue) → IsEquivalentWant (part_want size cells side) want → (v : Option Room)
     → MatchOption v ((p : PlaceValue) × Chosen st.regions (state_holder st) s want p) (λ room. NoPlace st.regions (state_holder st) s want × IsRoom st s want room)
     → MatchOption v ((p : PlaceValue) × Chosen st.regions (state_holder st) s (part_want size cells side) p) (λ room. NoPlace st.regions (state_holder st) s (part_want size cells side) × IsRoom st s (part_want size cells side) room)
 part_stands st bounded s size cells side want stands None h = (h.0, stands_chosen st.regions bounded (state_holder st) s (part_want size cells side) want stands h.0 h.1)

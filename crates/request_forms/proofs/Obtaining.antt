@@ -19,7 +19,7 @@ use Rattle.mvs_model.specs.Name.{name_cmp}
 use Rattle.mvs_model.specs.Codes.{family, form_side}
 use Rattle.mvs_model.specs.Changes.{GrantTo, ShortOf}
 use Rattle.mvs_model.specs.Requests.{side_for}
-use Rattle.mvs_model.specs.Determined.{TakesTold}
+use Rattle.mvs_model.specs.Determined.{FollowsHint}
 use Rattle.mvs_model.proofs.OneOwners.{one_subpool}
 use Rattle.mvs_model.proofs.Seen.{no_place_seen, same_holder}
 use Rattle.cell_pool.specs.Agree.{Agree}
@@ -73,7 +73,7 @@ bound_keeper o t found number s new named binds = subst (λ n. Binds o (keeper o
 
 -- an area takes the address that is told, where it takes it from the store
 pub takes_told : (roots : FinMap name_cmp Root) (st : Storage) (o : Owners) (t : Name) (number s : ℕ) (want : WantValue) (told : Option ℕ) (p : PlaceValue) → Agree roots st → SubpoolOf o t number s
-    → ((q : PlaceValue) → told ≡ Some q.addr → Chosen st.regions (holder st) s want q → Some p ≡ Some q) → (a : ℕ) → told ≡ Some a → TakesTold (machine_state roots st o) t number want a p
+    → ((q : PlaceValue) → told ≡ Some q.addr → Chosen st.regions (holder st) s want q → Some p ≡ Some q) → (a : ℕ) → told ≡ Some a → FollowsHint (machine_state roots st o) t number want a p
 takes_told roots st o t number s want told p agree sub takes a is q later g e =
     let same : g.subpool ≡ s = one_subpool o t number g.subpool s g.is_subpool sub in
     let chosen : Chosen st.regions (holder st) s want q = subst (λ h. Chosen st.regions h s want q) (same_holder st o (pools_of roots st) agree.parts.storage) (subst (λ u. Chosen st.regions (state.holder (machine_state roots st o)) u want q) same g.chosen) in
@@ -81,6 +81,6 @@ takes_told roots st o t number s want told p agree sub takes a is q later g e =
     ap (λ r. (unwrap_or r p).addr) found ∙ e
 
 pub area_takes : (roots : FinMap name_cmp Root) (st : Storage) (o : Owners) (t : Name) (number s : ℕ) (want : WantValue) (told : Option ℕ) (r : Option PlaceValue) → Agree roots st → SubpoolOf o t number s
-    → ((q : PlaceValue) → told ≡ Some q.addr → Chosen st.regions (holder st) s want q → r ≡ Some q) → IfSome r (λ p. (a : ℕ) → told ≡ Some a → TakesTold (machine_state roots st o) t number want a p)
+    → ((q : PlaceValue) → told ≡ Some q.addr → Chosen st.regions (holder st) s want q → r ≡ Some q) → IfSome r (λ p. (a : ℕ) → told ≡ Some a → FollowsHint (machine_state roots st o) t number want a p)
 area_takes roots st o t number s want told None agree sub takes = tt
 area_takes roots st o t number s want told (Some p) agree sub takes = takes_told roots st o t number s want told p agree sub takes

@@ -5,7 +5,7 @@ use Rattle.std.specs.Option.{option_and_then, option_map}
 use Rattle.std.specs.FinMap.{FinMap, get}
 use Rattle.mvs_model.specs.declared.name.Name.{Name}
 use Rattle.mvs_model.specs.Finite.{has, any_below, count_below}
-use Rattle.mvs_model.specs.Kept.{OwnersKept}
+use Rattle.mvs_model.specs.Consistent.{OwnersConsistent}
 use Rattle.mvs_model.specs.Name.{name_cmp}
 use Rattle.mvs_model.specs.Owners.{Owners, entry, is_active, subpool_meant}
 use Rattle.mvs_model.specs.Reports.{label_of, number_of, page_subpool}
@@ -18,7 +18,7 @@ use Rattle.cell_pool.proofs.Tallied.{splits_bytes}
 use Rattle.request_forms.specs.Facts.{bytes_of, has_subpool, owned_at, pages_in, pages_of}
 use Rattle.request_forms.specs.Machine.{machine_state}
 use Rattle.request_forms.specs.Reports.{page_holder}
-use Rattle.request_forms.specs.Standing.{label_had, label_meant}
+use Rattle.request_forms.specs.SubpoolLabels.{label_had, label_meant}
 use Rattle.request_forms.specs.declared.facts.OwnedSubpool.{OwnedSubpool}
 use Rattle.request_forms.proofs.Reporting.{pages_seen}
 
@@ -29,12 +29,12 @@ same_below zero test other same = refl
 same_below (suc n) test other same = ap (λ b. b || any_below test n) (same n (omega arith)) ∙ ap (λ b. other n || b) (same_below n test other (λ k low. same k (omega arith)))
 
 -- the number and the owner of a subpool
-label_is : (o : Owners) (s number : ℕ) (owner : Name) → OwnersKept o → get o.owner s ≡ Some owner → entry o owner number ≡ Some s → label_of o (Some s) ≡ Some (number, owner)
+label_is : (o : Owners) (s number : ℕ) (owner : Name) → OwnersConsistent o → get o.owner s ≡ Some owner → entry o owner number ≡ Some s → label_of o (Some s) ≡ Some (number, owner)
 label_is o s number owner kept owned entered =
     ap (λ v. option_and_then (λ t. option_map (λ n. (n, t)) (number_of o t s)) v) owned ∙ ap (λ v. option_map (λ n. (n, owner)) v) (number_kept o owner number s kept entered)
 
 -- what the tasks tell of a subpool
-pub label_told : (o : Owners) (s : ℕ) (v : Option (ℕ × Name)) → OwnersKept o → MatchOption v (get o.owner s ≡ None) (λ r. (get o.owner s ≡ Some r.1) × (entry o r.1 r.0 ≡ Some s)) → v ≡ label_of o (Some s)
+pub label_told : (o : Owners) (s : ℕ) (v : Option (ℕ × Name)) → OwnersConsistent o → MatchOption v (get o.owner s ≡ None) (λ r. (get o.owner s ≡ Some r.1) × (entry o r.1 r.0 ≡ Some s)) → v ≡ label_of o (Some s)
 label_told o s None kept h = sym (ap (λ v. option_and_then (λ t. option_map (λ n. (n, t)) (number_of o t s)) v) h)
 label_told o s (Some r) kept h = sym (label_is o s r.0 r.1 kept h.0 h.1)
 
@@ -68,7 +68,7 @@ module _ (roots : FinMap name_cmp Root) (st : Storage) (o : Owners) (agree : Agr
   pub none_owned : (t : Name) → get o.owner s ≡ None → None ≡ owned_at (machine_state roots st o) t s
   none_owned t none = sym (ap (λ v. option_map (row t) (option_and_then (λ t. option_map (λ n. (n, t)) (number_of o t s)) v)) none)
 
-  module _ (number : ℕ) (owner : Name) (kept : OwnersKept o) (owned : get o.owner s ≡ Some owner) (entered : entry o owner number ≡ Some s) where
+  module _ (number : ℕ) (owner : Name) (kept : OwnersConsistent o) (owned : get o.owner s ≡ Some owner) (entered : entry o owner number ≡ Some s) where
     pub some_owned : (t : Name) (had : Bool) (bytes below above b a : ℕ) → had ≡ has_subpool o t s → bytes ≡ held_bytes st s → b ≡ st.regions.below → a ≡ st.regions.above
         → below ≡ count_below b (λ p. has (λ r. r == s) (page_holder st (6 + p))) → above ≡ count_below a (λ p. has (λ r. r == s) (page_holder st (4096 + p)))
         → Some (record { number = number; owner = owner; bytes = bytes; pages = below + above; had = had }) ≡ owned_at (machine_state roots st o) t s

@@ -24,7 +24,7 @@ use Rattle.cell_pool.specs.Laws.{IsClear}
 use Rattle.cell_pool.specs.Layout.{byte_of}
 use Rattle.cell_pool.specs.Roots.{Root, pool_of, pools_of}
 use Rattle.cell_pool.proofs.Frame.{get-pools_of}
-use Rattle.cell_pool.proofs.Counted.{all_kept as parts_kept}
+use Rattle.cell_pool.proofs.Counted.{all_kept as parts_carry_pools}
 use Rattle.cell_pool.proofs.Keeping.{grant_keeps, release_keeps, releases_keep, drops_pools}
 use Rattle.std.specs.FinMap.{FinMap, get, same_map}
 use Rattle.mvs_model.proofs.Orders.{name_cmp_total, name_cmp-IsAntisymmetric}
@@ -40,7 +40,7 @@ step_storage roots st agree = record { storage = agree.parts.storage; bounded = 
 
 -- a grant leaves the pools as they are
 pub grant_agrees : (roots : FinMap name_cmp Root) (st new : Storage) (s : ℕ) (want : WantValue) (p : PlaceValue) → Agree roots st → IsStorage new → Grant st s want p new → Agree roots new × (pools_of roots new ≡ pools_of roots st)
-grant_agrees roots st new s want p agree now g = parts_kept roots st new agree (grant_keeps roots st new s want p agree now g)
+grant_agrees roots st new s want p agree now g = parts_carry_pools roots st new agree (grant_keeps roots st new s want p agree now g)
 
 pub granted : (roots : FinMap name_cmp Root) (st new : Storage) (o after : Owners) (t : Name) (number s : ℕ) (want : WantValue) (p : PlaceValue) → Agree roots st → IsStorage new → SubpoolOf o t number s → Enters o t number s after → Grant st s want p new
     → GrantTo (machine_state roots st o) t number want p (machine_state roots new after)
@@ -59,7 +59,7 @@ grants_agree roots st new s (want ∷ wants) told (p ∷ ps) agree h = grants_ag
 pub releases_agree : (roots : FinMap name_cmp Root) (st new : Storage) (s : ℕ) (ps : List PlaceValue) → Agree roots st → AllByRecursion (IsClear (pools_of roots st)) ps → ReleasesEach st s ps new → Agree roots new × (pools_of roots new ≡ pools_of roots st)
 releases_agree roots st new s [] agree clear h = (subst (Agree roots) (sym h) agree, ap (pools_of roots) h)
 releases_agree roots st new s (p ∷ ps) agree clear h =
-    let one = parts_kept roots st h.0 agree (release_keeps roots st h.0 s p agree h.1 h.2 clear.0) in
+    let one = parts_carry_pools roots st h.0 agree (release_keeps roots st h.0 s p agree h.1 h.2 clear.0) in
     let rest = releases_agree roots h.0 new s ps one.0 (subst (λ pools. AllByRecursion (IsClear pools) ps) (sym one.1) clear.1) h.3 in
     (rest.0, rest.1 ∙ one.1)
 
@@ -67,7 +67,7 @@ releases_agree roots st new s (p ∷ ps) agree clear h =
 module _ (test : ℕ → Bool) (roots fewer : FinMap name_cmp Root) (st new : Storage) (agree : Agree roots st) (now : IsStorage new) (gone : Keeps (get roots) (λ _ r. not (test r.subpool)) (get fewer))
     (regions : new.regions ≡ st.regions) (held : Keeps (get st.held) (λ _ t. not (test t)) (get new.held)) (bytes : Changes (get st.bytes) (λ a. has test (holder st (a / 8))) None (get new.bytes)) where
   kept : Agree fewer new × (pools_of fewer new ≡ pools_of fewer st)
-  kept = let d = drops_pools test roots fewer st agree gone in parts_kept fewer st new d.0 (releases_keep test fewer st new d.0 now regions held bytes d.2)
+  kept = let d = drops_pools test roots fewer st agree gone in parts_carry_pools fewer st new d.0 (releases_keep test fewer st new d.0 now regions held bytes d.2)
 
   pub still_agree : Agree fewer new
   still_agree = kept.0

@@ -6,7 +6,7 @@ use Rattle.mvs_model.specs.declared.name.Name.{Name}
 use Rattle.mvs_model.specs.declared.report.SubpoolLine.{SubpoolLine}
 use Rattle.mvs_model.specs.declared.report.MapRun.{MapRun}
 use Rattle.mvs_model.specs.Finite.{has}
-use Rattle.mvs_model.specs.Kept.{OwnersKept}
+use Rattle.mvs_model.specs.Consistent.{OwnersConsistent}
 use Rattle.mvs_model.specs.Storage.{Storage, holder, IsStorage, held_bytes}
 use Rattle.mvs_model.specs.Owners.{Owners, entry, owns}
 use Rattle.mvs_model.specs.Name.{name_cmp}
@@ -24,7 +24,7 @@ pub pages_seen : (roots : FinMap name_cmp Root) (st : Storage) (o : Owners) → 
 pages_seen roots st o is = λ i page. first_from (512 * page) 512 (sym (same_holder st o (pools_of roots st) is) i)
 
 -- the label of a subpool is that of the pages that are assigned to it
-pub label_is : (o : Owners) (owner : Option ℕ) (s : ℕ) (label : Option (ℕ × Name)) → OwnersKept o → owner ≡ Some s
+pub label_is : (o : Owners) (owner : Option ℕ) (s : ℕ) (label : Option (ℕ × Name)) → OwnersConsistent o → owner ≡ Some s
     → MatchOption label (get o.owner s ≡ None) (λ r. (get o.owner s ≡ Some r.1) × (entry o r.1 r.0 ≡ Some s)) → IsHolder o owner label
 label_is o owner s None kept is none = ap (λ v. option_and_then (λ x. get o.owner x) v) is ∙ none
 label_is o owner s (Some r) kept is (owned, has) = (s, is, owned, number_kept o r.1 r.0 s kept has)

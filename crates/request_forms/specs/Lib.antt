@@ -5,6 +5,6 @@ pub mod Machine
 pub mod Refused
 pub mod Reports
 pub mod Rooms
-pub mod Standing
+pub mod SubpoolLabels
 pub mod Taking
 pub mod Places

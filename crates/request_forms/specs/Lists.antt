@@ -43,14 +43,14 @@ abbrev pub LacksIn : Storage → ℕ → WantValue → Shortfall → Type 0
 LacksIn st s want short = LacksPlace st s want short.room × (short.bytes ≡ want.least)
 
 -- After grants for this many members, the next one has no place, and lacks this.
-abbrev pub LacksBehind : Storage → ℕ → List WantValue → Shortfall → ℕ → Type 0
-LacksBehind old s [] short j = ⊥
-LacksBehind old s (want ∷ wants) short zero = LacksIn old s want short
-LacksBehind old s (want ∷ wants) short (suc j) = (p : PlaceValue) × (mid : Storage) × IsStorage mid × Grant old s want p mid × LacksBehind mid s wants short j
+abbrev pub LacksAfter : Storage → ℕ → List WantValue → Shortfall → ℕ → Type 0
+LacksAfter old s [] short j = ⊥
+LacksAfter old s (want ∷ wants) short zero = LacksIn old s want short
+LacksAfter old s (want ∷ wants) short (suc j) = (p : PlaceValue) × (mid : Storage) × IsStorage mid × Grant old s want p mid × LacksAfter mid s wants short j
 
 -- The member of this number, from 1 on, has no place once those before it are granted, and lacks this.
 abbrev pub LacksAt : Storage → ℕ → List WantValue → ℕ → Shortfall → Type 0
-LacksAt old s wants k short = (j : ℕ) × (k ≡ j + 1) × LacksBehind old s wants short j
+LacksAt old s wants k short = (j : ℕ) × (k ≡ j + 1) × LacksAfter old s wants short j
 
 -- The same of a list of the machine.
 abbrev pub IsMemberShort : State → Name → ℕ → List WantValue → ℕ → Shortfall → Type 0

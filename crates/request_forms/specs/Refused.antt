@@ -17,7 +17,7 @@ use Rattle.mvs_model.specs.State.{State, holder}
 use Rattle.mvs_model.specs.Changes.{Disjoint, HeldPlain, ShortOf}
 use Rattle.mvs_model.specs.Requests.{all_granted, is_invalid, on_doubleword, residence_of, side_for, whole}
 use Rattle.mvs_model.specs.Determined.{is_list}
-use Rattle.mvs_model.specs.Reasons.{accessed, asked_code, number_of, released}
+use Rattle.mvs_model.specs.Reasons.{accessed, requested_code, number_of, released}
 
 -- The number may be named, and there is no place for what is wanted under it.
 abbrev pub ShortUnder : State → Name → ℕ → WantValue → Type 0
@@ -73,6 +73,6 @@ Concerns st t request Overlap = Disjoint (map whole (released request)) → ⊥
 Concerns st t request NoTakenCell = Untaken st request
 Concerns st t request NotOwned = (is_active st.owners t ≡ true) × GivesShared st.owners t request
 Concerns st t request ActiveSubtask = (is_active st.owners t ≡ true) × (has_subtask st.owners t ≡ true)
-Concerns st t request (Asked code) = code ≡ asked_code request
+Concerns st t request (Asked code) = code ≡ requested_code request
 Concerns st t request NoAccess = list_all (all_granted st) (accessed request) ≡ false
 Concerns st t request _ = Unit {0}

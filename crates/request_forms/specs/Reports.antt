@@ -35,12 +35,12 @@ abbrev pub Begins : (ℕ → Option ℕ) → ℕ → ℕ → Type 0
 Begins owner first page = first < page → owner (page - 1) ≢ owner page
 
 -- The page is assigned like the one before it in its region.
-abbrev pub GoesOn : (ℕ → Option ℕ) → ℕ → ℕ → Type 0
-GoesOn owner first page = (first < page) × (owner (page - 1) ≡ owner page)
+abbrev pub ContinuesRun : (ℕ → Option ℕ) → ℕ → ℕ → Type 0
+ContinuesRun owner first page = (first < page) × (owner (page - 1) ≡ owner page)
 
 -- No run begins in a region's pages from an address on, before a page.
 abbrev pub NoneBegins : (ℕ → Option ℕ) → ℕ → ℕ → ℕ → Type 0
-NoneBegins owner first from end = (p : ℕ) → first ≤ p → from ≤ page_bytes * p → p < end → GoesOn owner first p
+NoneBegins owner first from end = (p : ℕ) → first ≤ p → from ≤ page_bytes * p → p < end → ContinuesRun owner first p
 
 -- The pages up to the stop are assigned like the first of them, and the next one of the region, if there is one, is not.
 pub record EndsAt (owner : ℕ → Option ℕ) (page end stop : ℕ) : Type 0 where

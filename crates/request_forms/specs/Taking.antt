@@ -5,23 +5,23 @@ use Rattle.mvs_model.specs.declared.name.Name.{Name}
 use Rattle.mvs_model.specs.declared.code.Form.{Form}
 use Rattle.mvs_model.specs.declared.request.Request.TheVariants.{Build, Get, Obtain, ObtainList}
 use Rattle.mvs_model.specs.declared.request.Reply.TheVariants.{Cell, Listed, Obtained, Rc0}
-use Rattle.mvs_model.specs.Determined.{Entered, ListTakesTold, TakesTold}
+use Rattle.mvs_model.specs.Determined.{Entered, ListFollowsHints, FollowsHint}
 use Rattle.mvs_model.specs.Owners.{keeper}
 use Rattle.mvs_model.specs.Place.{PlaceValue}
 use Rattle.mvs_model.specs.State.{State}
 use Rattle.mvs_model.specs.Pools.{Pool, first_cell}
 use Rattle.mvs_model.specs.Requests.{Builds, Plan, residence_of, side_for}
 use Rattle.mvs_model.specs.Want.{AskValue, side_of, want_of}
-use Rattle.cell_pool.specs.Telling.{CellTakesTold}
+use Rattle.cell_pool.specs.Hints.{CellFollowsHint}
 use Rattle.request_forms.specs.Lists.{first_of, list_wants}
 
 -- A granted area uses the hinted address.
 abbrev pub TakesArea : State → Name → Form → ℕ → AskValue → Option ℕ → PlaceValue → Type 0
-TakesArea old t form number ask told p = (a : ℕ) → told ≡ Some a → TakesTold old (keeper old.owners t number) number (want_of ask (side_for old t form ask.loc)) a p
+TakesArea old t form number ask told p = (a : ℕ) → told ≡ Some a → FollowsHint old (keeper old.owners t number) number (want_of ask (side_for old t form ask.loc)) a p
 
 -- Each area of a list uses its hint, if there is a hint for each.
 abbrev pub TakesAreas : State → Name → ℕ → List ℕ → ℕ → List ℕ → List PlaceValue → State → Type 0
-TakesAreas old t number lengths start told ps new = length told ≡ length lengths → ListTakesTold old (keeper old.owners t number) number (list_wants lengths start) told ps new
+TakesAreas old t number lengths start told ps new = length told ≡ length lengths → ListFollowsHints old (keeper old.owners t number) number (list_wants lengths start) told ps new
 
 -- the hint for the first cell of a further part: the one after that of the cell, or that of the cell
 abbrev pub further_of : List ℕ → Option ℕ
@@ -31,7 +31,7 @@ further_of (a ∷ first ∷ more) = Some first
 
 -- A taken cell is at the hinted address, if there can be one.
 abbrev pub TakesCell : State → Name → List ℕ → PlaceValue → Type 0
-TakesCell old name told p = (a : ℕ) → first_of told ≡ Some a → CellTakesTold old name a (further_of told) p
+TakesCell old name told p = (a : ℕ) → first_of told ≡ Some a → CellFollowsHint old name a (further_of told) p
 
 -- the addresses of the first cells of a pool's parts, where it is there
 abbrev pub first_cells : Option Pool → List ℕ

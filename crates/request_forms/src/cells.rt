@@ -13,7 +13,7 @@ ghost use Rattle.mvs_model.specs.Want.{side_of};
 ghost use Rattle.request_forms.specs.Taking.{TakesCell, TakesPool, further_of};
 
 use crate::machine::Machine;
-use crate::obtain_list::first_told;
+use crate::obtain_list::first_hint;
 use boundary_loc::side;
 use cell_pool::Plan;
 use mvs_model::bounded::{CellCount, CellSize};
@@ -25,7 +25,7 @@ use mvs_model::want::Loc;
 use task_owner::TaskId;
 
 // Returns the hint for the first cell of a further part.
-fn further_told(told: &[Addr]) -> Option<Addr>
+fn further_hint(told: &[Addr]) -> Option<Addr>
     ensures { result ≡ further_of told.now }
 {
     match told {
@@ -115,8 +115,8 @@ impl Machine {
             → Tries Cell self.old.state t (request.Get pool.now conditional) result self.new.state }
         ensures told { IfOk result (TakesCell self.old.state pool.now told.now) }
     {
-        let cell = first_told(told);
-        let first = further_told(told);
+        let cell = first_hint(told);
+        let first = further_hint(told);
         self.pools
             .get(&mut self.store, pool, conditional, cell, first)
     }

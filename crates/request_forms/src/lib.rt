@@ -13,11 +13,11 @@ mod obtain_list;
 mod release;
 mod report;
 mod shortage;
-mod standing;
+mod subpool_labels;
 mod subtasking;
 mod unreleased;
 
 pub use facts::OwnedSubpool;
 pub use machine::Machine;
-pub use obtain_list::{first_told, no_shortfall};
-pub use standing::FreePages;
+pub use obtain_list::{first_hint, no_shortfall};
+pub use subpool_labels::FreePages;

@@ -43,7 +43,7 @@ fn with_place(granted: Option<Places>, place: Place) -> Places
 }
 
 /// Returns the first hint, if there is one.
-pub fn first_told(told: &[Addr]) -> Option<Addr>
+pub fn first_hint(told: &[Addr]) -> Option<Addr>
     ensures { result ≡ first_of told.now }
 {
     match told {
@@ -53,7 +53,7 @@ pub fn first_told(told: &[Addr]) -> Option<Addr>
 }
 
 // Returns the hints for the later members.
-fn later_told(told: &[Addr]) -> &[Addr]
+fn later_hints(told: &[Addr]) -> &[Addr]
     ensures { result.now ≡ later_of told.now }
 {
     match told {
@@ -125,7 +125,7 @@ fn grant_each(
         };
     };
     let want = Want::fixed(*length, start, Side::Below);
-    let Some(place) = store.obtain(subpool, &want, first_told(told)) else {
+    let Some(place) = store.obtain(subpool, &want, first_hint(told)) else {
         return Err(Lack {
             member: 1,
             short: shortfall(store, subpool, &want),
@@ -136,7 +136,7 @@ fn grant_each(
         subpool,
         rest,
         start,
-        later_told(told),
+        later_hints(told),
         Some(with_place(granted, place)),
     ) {
         Ok(places) => Ok(places),

@@ -2,11 +2,11 @@
 
 ghost use Rattle.std.specs.Prelude.{◌≡◌, ◌<◌, ◌≤◌, ◌+◌, ◌*◌, Some, None, not, MatchBool, MatchOption};
 ghost use Rattle.mvs_model.specs.Numbers.{first_page_above, most_pages_above, page_bytes, subpool_numbers};
-ghost use Rattle.mvs_model.specs.Kept.{OwnersKept};
+ghost use Rattle.mvs_model.specs.Consistent.{OwnersConsistent};
 ghost use Rattle.mvs_model.specs.Owners.{entry};
 ghost use Rattle.mvs_model.specs.Storage.{IsStorage};
 ghost use Rattle.task_owner.specs.Tasks.{IsTask, name_of};
-ghost use Rattle.request_forms.specs.Reports.{Begins, EndsAt, GoesOn, HasNone, IsHolder, IsMapEnd, IsMapRun, IsPages, IsSubpoolLine, NoneBegins, page_holder};
+ghost use Rattle.request_forms.specs.Reports.{Begins, EndsAt, ContinuesRun, HasNone, IsHolder, IsMapEnd, IsMapRun, IsPages, IsSubpoolLine, NoneBegins, page_holder};
 
 use crate::machine::Machine;
 use mvs_model::name::Name;
@@ -20,7 +20,7 @@ use task_owner::{TaskId, Tasks, pass_none};
 // The first number at or after one that the task has, with its subpool.
 fn first_entry(tasks: &Tasks, t: TaskId, from: u8) -> Option<(SubNo, SubpoolId)>
     requires task { IsTask tasks.now t }
-    requires kept { OwnersKept tasks.now.owners }
+    requires kept { OwnersConsistent tasks.now.owners }
     ensures { MatchOption result
         (HasNone tasks.now.owners (name_of tasks.now t) from subpool_numbers)
         (λ r. (from ≤ r.0) × (r.0 < subpool_numbers)
@@ -53,7 +53,7 @@ fn begins(store: &Store, first: u32, page: u32) -> bool
     requires within { first ≤ page }
     requires low { page < first_page_above + most_pages_above }
     ensures { MatchBool result (Begins (page_holder store.now.storage) first page)
-        (GoesOn (page_holder store.now.storage) first page) }
+        (ContinuesRun (page_holder store.now.storage) first page) }
 {
     if page == first {
         return true;

@@ -5,7 +5,7 @@ use Rattle.std.proofs.lemmas.Option.{slice_get-get_or}
 use Rattle.std.specs.List.{slice_get}
 use Rattle.std.specs.FinMap.{get}
 use Rattle.mvs_model.specs.Place.{PlaceValue, place_at}
-use Rattle.mvs_model.specs.Storage.{AllHeld, Chosen, Covers, HeldBy, IsLength, IsPageOwner, LiesIn, MayTake, Meets, NoPlace, Open, Places, Storage, holder}
+use Rattle.mvs_model.specs.Storage.{AllHeld, Chosen, Covers, HeldBy, IsLength, IsPageOwner, IsBetween, MayTake, Meets, NoPlace, Open, Places, Storage, holder}
 use Rattle.mvs_model.specs.Want.{WantValue, IsWant}
 use Rattle.subpool_store.specs.Region.{AllHeldIn, BestIn, ChangedIn, RegionState, HeldIn, IsBest, OpenIn, OwnsPage}
 use Rattle.subpool_store.specs.Joined.{BestAbove, IsStore, Taken, regions_of, store_of}
@@ -24,7 +24,7 @@ module _ (b a : RegionState) (fill s : ℕ) (both : IsStore b a) where
   open_below p is_open =
       let first : b.first ≡ 3072 = both.first_below in
       let few : b.pages ≤ 2048 = both.few_below in
-      let inside : LiesIn (8 * b.first) (8 * b.first + 4096 * b.pages) p = is_open.inside in
+      let inside : IsBetween (8 * b.first) (8 * b.first + 4096 * b.pages) p = is_open.inside in
       record {
         inside = inl (omega arith, omega arith);
         each = λ d covered. same_may _ _ s d (λ e on. sym (low_holder b a fill e (omega arith))) (is_open.each d covered);
@@ -34,7 +34,7 @@ module _ (b a : RegionState) (fill s : ℕ) (both : IsStore b a) where
   open_above p is_open =
       let first : a.first ≡ 2097152 = both.first_above in
       let few : a.pages ≤ 8192 = both.few_above in
-      let inside : LiesIn (8 * a.first) (8 * a.first + 4096 * a.pages) p = is_open.inside in
+      let inside : IsBetween (8 * a.first) (8 * a.first + 4096 * a.pages) p = is_open.inside in
       record {
         inside = inr (omega arith, omega arith);
         each = λ d covered. same_may _ _ s d (λ e on. sym (high_holder b a fill e (omega arith) (omega arith))) (is_open.each d covered);
@@ -149,13 +149,13 @@ module _ (b a : RegionState) (fill : ℕ) (st : Storage) (both : IsStore b a) (i
         absurd (omega arith)
   ]
 
-  pub below_taken : (v w : Option ℕ) (b' : RegionState) → LiesIn (8 * b.first) (8 * b.first + 4096 * b.pages) p → ChangedIn b p v w b' → Taken st p v w (store_of b' a fill)
+  pub below_taken : (v w : Option ℕ) (b' : RegionState) → IsBetween (8 * b.first) (8 * b.first + 4096 * b.pages) p → ChangedIn b p v w b' → Taken st p v w (store_of b' a fill)
   below_taken v w b' inside change =
       let first : b.first ≡ 3072 = both.first_below in
       let few : b.pages ≤ 2048 = both.few_below in
       subst (λ t. Taken t p v w (store_of b' a fill)) is (below_changes b a fill b' p v w (omega arith) change)
 
-  pub above_taken : (v w : Option ℕ) (a' : RegionState) → LiesIn (8 * a.first) (8 * a.first + 4096 * a.pages) p → ChangedIn a p v w a' → Taken st p v w (store_of b a' fill)
+  pub above_taken : (v w : Option ℕ) (a' : RegionState) → IsBetween (8 * a.first) (8 * a.first + 4096 * a.pages) p → ChangedIn a p v w a' → Taken st p v w (store_of b a' fill)
   above_taken v w a' inside change =
       let first : a.first ≡ 2097152 = both.first_above in
       let few : a.pages ≤ 8192 = both.few_above in

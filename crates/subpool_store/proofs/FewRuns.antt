@@ -35,11 +35,11 @@ is_clear : (b c : Bool) → (not b && c) ≡ true → b ≡ false
 is_clear true c e = absurd (let f : false ≡ true = e in cc)
 is_clear false c e = refl
 
-is_behind : (b c first held : Bool) → first ≡ false → (not b && (c && (first || held))) ≡ true → held ≡ true
-is_behind true c first held inner e = absurd (let f : false ≡ true = e in cc)
-is_behind false false first held inner e = absurd (let f : false ≡ true = e in cc)
-is_behind false true true held inner e = absurd (let f : true ≡ false = inner in cc)
-is_behind false true false held inner e = e
+comes_later : (b c first held : Bool) → first ≡ false → (not b && (c && (first || held))) ≡ true → held ≡ true
+comes_later true c first held inner e = absurd (let f : false ≡ true = e in cc)
+comes_later false false first held inner e = absurd (let f : false ≡ true = e in cc)
+comes_later false true true held inner e = absurd (let f : true ≡ false = inner in cc)
+comes_later false true false held inner e = e
 
 no_page : (b c : Bool) → (not b && (false && c)) ≡ false
 no_page true c = refl
@@ -50,7 +50,7 @@ module _ (holder : ℕ → Option ℕ) (s : ℕ) where
   never_both : (d : ℕ) → ((d + 1) % 512 ≡ 0 → ⊥) → begins_free_run holder s d ≡ true → begins_free_run holder s (d + 1) ≡ true → ⊥
   never_both d inner one other =
       let clear : is_some (holder d) ≡ false = is_clear _ _ one in
-      let set : is_some (holder (d + 1 - 1)) ≡ true = is_behind _ _ _ _ (ne_eqb ((d + 1) % 512) 0 inner) other in
+      let set : is_some (holder (d + 1 - 1)) ≡ true = comes_later _ _ _ _ (ne_eqb ((d + 1) % 512) 0 inner) other in
       both_ways _ clear (ap (λ k. is_some (holder k)) (let same : d ≡ d + 1 - 1 = omega arith in same) ∙ set)
 
   -- the runs of one page

@@ -6,7 +6,7 @@ use Rattle.std.proofs.lemmas.Option.{none-some, same_Some}
 use Rattle.std.specs.Ordering.{nat_cmp}
 use Rattle.std.specs.FinMap.{get, empty, get-empty}
 use Rattle.mvs_model.specs.Place.{PlaceValue}
-use Rattle.mvs_model.specs.Storage.{Covers, IsWhole, LiesIn}
+use Rattle.mvs_model.specs.Storage.{Covers, IsWhole, IsBetween}
 use Rattle.mvs_model.specs.Want.{WantValue, IsWant}
 use Rattle.mvs_model.proofs.Tables.{same_maps}
 use Rattle.page_map.specs.Owners.{owner_of, is_usable}
@@ -132,11 +132,11 @@ module _ (first : ℕ) (bits : List Bool) (pages : List (Option ℕ)) (bytes : �
     open_usable is_open = pages_usable bits pages s start end ordered (open_pass is_open)
 
     -- an open place lies in the region
-    pub open_inside : OpenIn h s p → LiesIn (8 * first) (8 * first + 8 * length bits) p
+    pub open_inside : OpenIn h s p → IsBetween (8 * first) (8 * first + 8 * length bits) p
     open_inside is_open =
         let there : OpenIn (region_of first bits pages bytes) s p = subst (λ g. OpenIn g s p) (sym is) is_open in
         let sizes : length bits ≡ 512 * length pages = region.exact.sizes in
-        let inside : LiesIn (8 * first) (8 * first + 4096 * length pages) p = there.inside in
+        let inside : IsBetween (8 * first) (8 * first + 4096 * length pages) p = there.inside in
         (inside.0, let high : p.addr + p.len ≤ 8 * first + 4096 * length pages = inside.1 in omega arith)
 
     module _ (bits' : List Bool) (pages' : List (Option ℕ)) (is_open : OpenIn h s p) (marked : IsMarked bits start end true bits') (assigned : IsAssigned pages (start / 512) ((end - 1) / 512 + 1) s pages') where
@@ -161,7 +161,7 @@ module _ (first : ℕ) (bits : List Bool) (pages : List (Option ℕ)) (bytes : �
           })
 
     -- a place that is held lies in the region
-    pub held_inside : HeldIn h s p → LiesIn (8 * first) (8 * first + 8 * length bits) p
+    pub held_inside : HeldIn h s p → IsBetween (8 * first) (8 * first + 8 * length bits) p
     held_inside held =
         let each : (d : ℕ) → Covers p d → get (held_of first bits pages) d ≡ Some s = λ d covered. ap (λ g. get g.held d) is ∙ held d covered in
         let begin = holder_some first bits pages (p.addr / 8) s (each (p.addr / 8) (omega arith, omega arith)) in
@@ -241,7 +241,7 @@ module _ (first : ℕ) (bits : List Bool) (pages : List (Option ℕ)) (bytes : �
       ∙ cond-true _ _ _ (ap is_some (sym (holder_at first bits pages (a / 8)) ∙ ap (λ g. get g.held (a / 8)) is) ∙ held)
 
   -- a place that is held by some subpools lies in the region
-  pub all_inside : (p : PlaceValue) → 1 ≤ p.len → AllHeldIn h p → LiesIn (8 * first) (8 * first + 8 * length bits) p
+  pub all_inside : (p : PlaceValue) → 1 ≤ p.len → AllHeldIn h p → IsBetween (8 * first) (8 * first + 8 * length bits) p
   all_inside p some held =
       let begin = at (p.addr / 8) (held (p.addr / 8) (omega arith, omega arith)) in
       let last = at ((p.addr + p.len - 1) / 8) (held ((p.addr + p.len - 1) / 8) (omega arith, omega arith)) in

@@ -6,7 +6,7 @@ use Rattle.free_queue.specs.Runs.{IsFree, Queue, Run, Same, page_of}
 use Rattle.free_queue.proofs.Free.{free_from}
 use Rattle.region_raw.specs.Pages.{IsPart, Pages, Writes, is_open, with_part}
 use Rattle.subpool_store.specs.Memory.{IsHeldPart, IsMemory, MemoryState, held_bits, is_held, memory_of}
-use Rattle.subpool_store.specs.LendsMemory.{with_bytes}
+use Rattle.subpool_store.specs.BorrowsMemory.{with_bytes}
 use Rattle.subpool_store.proofs.PageChange.{same_held}
 use Rattle.subpool_store.proofs.PageTaken.{bit_is}
 use Rattle.subpool_store.proofs.Queued.{closed_free, closed_past, free_is, held_open, moved, other_held}

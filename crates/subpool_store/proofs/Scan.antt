@@ -4,7 +4,7 @@ use Rattle.std.proofs.lemmas.Bool.{both_ways, cases_lt}
 use Rattle.mvs_model.specs.Place.{PlaceValue}
 use Rattle.mvs_model.specs.Storage.{InRun}
 use Rattle.mvs_model.specs.Want.{WantValue}
-use Rattle.subpool_store.specs.Search.{AllPass, Beats, BehindBest, IsCandidate, IsNextRun, LongestIn, NoneFits}
+use Rattle.subpool_store.specs.Search.{AllPass, Beats, CandidatesAfterBest, IsCandidate, IsNextRun, LongestIn, NoneFits}
 
 -- the first doubleword of such a place passes
 pub first_passes : (test : ℕ → Bool) (first : ℕ) (q : PlaceValue) → 8 ≤ q.len → q.addr % 8 ≡ 0 → AllPass test first q → (first ≤ q.addr / 8) × (test (q.addr / 8 - first) ≡ true)
@@ -30,7 +30,7 @@ run_passes test first n from start end next p q run addr_is len_is inside d cove
 pub best_behind : (test : ℕ → Bool) (first n : ℕ) (want : WantValue) (from start end next : ℕ) (p : PlaceValue) (best best' r : Option PlaceValue) → IsNextRun test n from start end next → 8 ≤ want.least → 8 * n ≡ want.least →
     p.addr ≡ 8 * (first + start) → p.len ≡ 8 * (end - start) → LongestIn p want r →
     ((n : ℕ) → Beats best n → Beats best' n) → ((n : ℕ) → Beats r n → Beats best' n) →
-    BehindBest test first want best from → BehindBest test first want best' next
+    CandidatesAfterBest test first want best from → CandidatesAfterBest test first want best' next
 best_behind test first n want from start end next p best best' r run some is addr_is len_is answer keeps takes before q cand =
     elim (before q cand) [
       | inr beaten ↦ inr (keeps q.len beaten)
@@ -60,7 +60,7 @@ best_behind test first n want from start end next p best best' r run some is add
       beaten (Some b) found inside = found.longest q cand.length inside cand.meets
 
 -- nothing is before the start
-pub best_anywhere : (test : ℕ → Bool) (first : ℕ) (want : WantValue) → 8 ≤ want.least → BehindBest test first want None 0
+pub best_anywhere : (test : ℕ → Bool) (first : ℕ) (want : WantValue) → 8 ≤ want.least → CandidatesAfterBest test first want None 0
 best_anywhere test first want some q cand =
     let least : want.least ≤ q.len = cand.length.least in
     let long : 8 ≤ q.len = omega arith in
@@ -68,7 +68,7 @@ best_anywhere test first want some q cand =
     inl (omega arith)
 
 -- where nothing fits from an index on, best is the longest of all
-pub best_of_all : (test : ℕ → Bool) (first n : ℕ) (want : WantValue) (best : Option PlaceValue) (from : ℕ) → 8 * n ≡ want.least → ((to : ℕ) → NoneFits test n from to) → BehindBest test first want best from →
+pub best_of_all : (test : ℕ → Bool) (first n : ℕ) (want : WantValue) (best : Option PlaceValue) (from : ℕ) → 8 * n ≡ want.least → ((to : ℕ) → NoneFits test n from to) → CandidatesAfterBest test first want best from →
     (q : PlaceValue) → IsCandidate test first want q → Beats best q.len
 best_of_all test first n want best from is none before q cand = elim (before q cand) [
   | inr beaten ↦ beaten

@@ -3,7 +3,7 @@ pub mod Sizes
 pub mod Edits
 pub mod Region
 pub mod Memory
-pub mod LendsMemory
+pub mod BorrowsMemory
 pub mod Bound
 pub mod Joined
 pub mod FreePages
@@ -11,5 +11,5 @@ pub mod Value
 pub mod Search
 pub mod Walk
 pub mod Written
-pub mod LendsRegion
-pub mod LendsBytes
+pub mod BorrowsRegion
+pub mod BorrowsBytes

@@ -6,7 +6,7 @@ use Rattle.std.specs.Coded.{Coded, code_by, coded×, coded_ℕ}
 use Rattle.mvs_model.specs.Finite.{Changes, Keeps, count_below, has}
 use Rattle.mvs_model.specs.Numbers.{first_doubleword_above, page_bytes, page_doublewords}
 use Rattle.mvs_model.specs.Place.{PlaceValue}
-use Rattle.mvs_model.specs.Storage.{Covers, IsLength, LiesIn, MayTake, Meets, PageRule, covers, has_address}
+use Rattle.mvs_model.specs.Storage.{Covers, IsLength, IsBetween, MayTake, Meets, PageRule, covers, has_address}
 use Rattle.mvs_model.specs.Table.{table}
 use Rattle.mvs_model.specs.Want.{WantValue}
 use Rattle.page_map.specs.Owners.{owner_of}
@@ -73,7 +73,7 @@ pub record IsSound (h : RegionState) : Type 0 where
 
 -- All of the place is in the region, and s may take each of its doublewords.
 pub record OpenIn (h : RegionState) (s : ℕ) (p : PlaceValue) : Type 0 where
-  pub inside : LiesIn (8 * h.first) (8 * h.first + page_bytes * h.pages) p
+  pub inside : IsBetween (8 * h.first) (8 * h.first + page_bytes * h.pages) p
   pub each : (d : ℕ) → Covers p d → MayTake (get h.held) s d
 
 -- each doubleword of the place is held by s in the region

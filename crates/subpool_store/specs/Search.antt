@@ -59,8 +59,8 @@ pub record IsCandidate (test : ℕ → Bool) (first : ℕ) (want : WantValue) (q
   pub pass : AllPass test first q
 
 -- each candidate begins at this index or after it, or is no longer than best
-abbrev pub BehindBest : (ℕ → Bool) → ℕ → WantValue → Option PlaceValue → ℕ → Type 0
-BehindBest test first want best from = (q : PlaceValue) → IsCandidate test first want q → (8 * (first + from) ≤ q.addr) ⊎ Beats best q.len
+abbrev pub CandidatesAfterBest : (ℕ → Bool) → ℕ → WantValue → Option PlaceValue → ℕ → Type 0
+CandidatesAfterBest test first want best from = (q : PlaceValue) → IsCandidate test first want q → (8 * (first + from) ≤ q.addr) ⊎ Beats best q.len
 
 -- A place of a requested length is in the run and meets the request; none of them is longer.
 pub record IsLongestIn (run : PlaceValue) (want : WantValue) (p : PlaceValue) : Type 0 where

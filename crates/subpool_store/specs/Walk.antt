@@ -26,7 +26,7 @@ abbrev pub IsOwn : Entry → Type 0
 IsOwn entry = entry ≡ Own
 
 -- A pass is before a page whose entry it has read, or inside such a page of s, before the free runs in its queue.
-pub record Stands (m : MemoryState) (pages : List (Option ℕ)) (s at : ℕ) (entry : Entry) (queue : ℕ) : Type 0 where
+pub record IsPassing (m : MemoryState) (pages : List (Option ℕ)) (s at : ℕ) (entry : Entry) (queue : ℕ) : Type 0 where
   pub is : entry ≡ entry_of pages s (at / page_doublewords)
   pub page : IsOwn entry ⊎ (at % page_doublewords ≡ 0)
   pub cursor : IsOwn entry → IsCursor m (at / page_doublewords) at queue
@@ -57,7 +57,7 @@ pub record IsNextPart (m : MemoryState) (pages : List (Option ℕ)) (s from step
   pub within : part.end ≤ length m.held
   pub skipped : (i : ℕ) → from ≤ i → i < part.start → may_take m.held pages s i ≡ false
   pub passes : (i : ℕ) → part.start ≤ i → i < part.end → may_take m.held pages s i ≡ true
-  pub stands : Stands m pages s part.end part.entry part.queue
+  pub stands : IsPassing m pages s part.end part.entry part.queue
   pub counted : looked_at m pages s from + part.counted.steps ≡ looked_at m pages s part.end + steps
 
 -- The pass has joined a run up to its position.
@@ -65,7 +65,7 @@ pub record IsWalk (m : MemoryState) (pages : List (Option ℕ)) (s : ℕ) (w : W
   pub ordered : w.start ≤ w.end
   pub within : w.end ≤ length m.held
   pub passes : (i : ℕ) → w.start ≤ i → i < w.end → may_take m.held pages s i ≡ true
-  pub stands : Stands m pages s w.end w.entry w.queue
+  pub stands : IsPassing m pages s w.end w.entry w.queue
   pub counted : w.counted.steps ≡ looked_at m pages s w.end
 
 -- The first free run of a page from an index on extends from one byte of the page to another, and then the queue continues.

@@ -39,7 +39,7 @@ impl Model for Memory {
 }
 
 impl Memory {
-    ghost use Rattle.subpool_store.specs.LendsMemory.{LendsPart, LendsSecond};
+    ghost use Rattle.subpool_store.specs.BorrowsMemory.{BorrowsPart, BorrowsSecond};
 
     // Makes a number of blank pages.
     pub fn new(alloc: Global, pages: usize) -> Result<Memory, OutOfMemory>
@@ -237,7 +237,7 @@ impl Memory {
     // Borrows held bytes for writing.
     pub fn part_mut(&mut self, at: usize, n: usize) -> &mut [u8]
         requires { IsHeldPart self.old.held at n }
-        ensures* writes_back { sem 𝓛 (LendsPart self.entry at n result) }
+        ensures* writes_back { sem 𝓛 (BorrowsPart self.entry at n result) }
         ensures writes { (ws : List ℕ)
             → Writes self.old.bytes at ws (with_part self.old.bytes at ws) }
         ensures len { length result.now ≡ n }
@@ -252,7 +252,7 @@ impl Memory {
         requires apart { IsApart from to n }
         requires source { IsHeldPart self.old.held from n }
         requires target { IsHeldPart self.old.held to n }
-        ensures* writes_back { sem 𝓛 (LendsSecond self.entry to n result) }
+        ensures* writes_back { sem 𝓛 (BorrowsSecond self.entry to n result) }
         ensures writes { (ws : List ℕ)
             → Writes self.old.bytes to ws (with_part self.old.bytes to ws) }
         ensures len { (length result.0.now ≡ n) × (length result.1.now ≡ n) }

@@ -25,7 +25,7 @@ ghost use Rattle.subpool_store.specs.Region.{
 };
 ghost use Rattle.subpool_store.specs.Memory.{IsFilled, Stays};
 ghost use Rattle.subpool_store.specs.Search.{IsCounted};
-ghost use Rattle.subpool_store.specs.LendsRegion.{LendsRegion};
+ghost use Rattle.subpool_store.specs.BorrowsRegion.{BorrowsRegion};
 ghost use Rattle.subpool_store.specs.Sizes.{most_doublewords};
 
 use crate::dropping::drop_pages;
@@ -461,7 +461,7 @@ impl RegionStore {
     // Borrows the bytes of a place.
     pub fn part_mut(&mut self, place: Place) -> &mut [u8]
         requires { AllHeldIn self.old place }
-        ensures* writes_back { sem 𝓛 (LendsRegion self.entry place result) }
+        ensures* writes_back { sem 𝓛 (BorrowsRegion self.entry place result) }
         ensures len { length result.now ≡ place.len }
         ensures each { (k : ℕ) → k < place.len
             → get self.old.bytes (place.addr + k) ≡ Some (slice_index result.now k) }
@@ -477,7 +477,7 @@ impl RegionStore {
         requires target { AllHeldIn self.old to }
         requires len { from.len ≡ to.len }
         requires apart { (from.addr + from.len ≤ to.addr) ⊎ (to.addr + to.len ≤ from.addr) }
-        ensures* writes_back { sem 𝓛 (LendsRegion self.entry to result.1) }
+        ensures* writes_back { sem 𝓛 (BorrowsRegion self.entry to result.1) }
         ensures len { (length result.0.now ≡ from.len) × (length result.1.now ≡ to.len) }
         ensures source_bytes { (k : ℕ) → k < from.len
             → get self.old.bytes (from.addr + k) ≡ Some (slice_index result.0.now k) }

@@ -29,7 +29,7 @@ ghost use Rattle.mvs_model.specs.Want.{IsWant};
 ghost use Rattle.subpool_store.specs.Bound.{IsBound, page_entries};
 ghost use Rattle.subpool_store.specs.FreePages.{free_pages};
 ghost use Rattle.subpool_store.specs.Joined.{BestAbove, CountedAbove, Taken};
-ghost use Rattle.subpool_store.specs.LendsBytes.{LendsBytes};
+ghost use Rattle.subpool_store.specs.BorrowsBytes.{BorrowsBytes};
 ghost use Rattle.subpool_store.specs.Written.{Puts, written};
 
 use crate::region_store::RegionStore;
@@ -232,7 +232,7 @@ impl Store {
     }
 
     // Returns the place at a hinted address if it is as good as the one that was found, which it then replaces.
-    fn told_at(&self, subpool: SubpoolId, want: &Want, found: Place, told: Addr) -> Place
+    fn at_hint(&self, subpool: SubpoolId, want: &Want, found: Place, told: Addr) -> Place
         requires { Chosen self.now.storage.regions (holder self.now.storage) subpool want.now found }
         ensures chosen { Chosen self.now.storage.regions (holder self.now.storage) subpool want.now
             result }
@@ -266,7 +266,7 @@ impl Store {
         let _ = want.least();
         match told {
             None => found,
-            Some(told) => self.told_at(subpool, want, found, told),
+            Some(told) => self.at_hint(subpool, want, found, told),
         }
     }
 
@@ -480,7 +480,7 @@ impl Store {
     /// Borrows the bytes of a held place. What is written to them is stored, and nothing else changes.
     pub fn bytes_mut(&mut self, place: Place) -> &mut [u8]
         requires { AllHeld self.old.storage place }
-        ensures* writes_back { sem 𝓛 (LendsBytes self.entry place result) }
+        ensures* writes_back { sem 𝓛 (BorrowsBytes self.entry place result) }
 
         // The storage after the loan is over, if `w` was written to the result.
         ensures written { (w : List ℕ) → length w ≡ place.len
@@ -504,7 +504,7 @@ impl Store {
         requires from_below { from.addr < above_begins }
         requires to_below { to.addr < above_begins }
         requires apart { (from.addr + from.len ≤ to.addr) ⊎ (to.addr + to.len ≤ from.addr) }
-        ensures* writes_back { sem 𝓛 (LendsBytes self.entry to result.1) }
+        ensures* writes_back { sem 𝓛 (BorrowsBytes self.entry to result.1) }
         ensures written { (w : List ℕ) → length w ≡ to.len
             → Puts self.old.storage to w (written self.old.storage to w) }
         ensures len { (length result.0.now ≡ from.len) × (length result.1.now ≡ to.len) }
@@ -524,7 +524,7 @@ impl Store {
         requires from_above { above_begins ≤ from.addr }
         requires to_above { above_begins ≤ to.addr }
         requires apart { (from.addr + from.len ≤ to.addr) ⊎ (to.addr + to.len ≤ from.addr) }
-        ensures* writes_back { sem 𝓛 (LendsBytes self.entry to result.1) }
+        ensures* writes_back { sem 𝓛 (BorrowsBytes self.entry to result.1) }
         ensures written { (w : List ℕ) → length w ≡ to.len
             → Puts self.old.storage to w (written self.old.storage to w) }
         ensures len { (length result.0.now ≡ from.len) × (length result.1.now ≡ to.len) }
@@ -543,7 +543,7 @@ impl Store {
         requires len { from.len ≡ to.len }
         requires from_below { from.addr < above_begins }
         requires to_above { above_begins ≤ to.addr }
-        ensures* writes_back { sem 𝓛 (LendsBytes self.entry to result.1) }
+        ensures* writes_back { sem 𝓛 (BorrowsBytes self.entry to result.1) }
         ensures written { (w : List ℕ) → length w ≡ to.len
             → Puts self.old.storage to w (written self.old.storage to w) }
         ensures len { (length result.0.now ≡ from.len) × (length result.1.now ≡ to.len) }
@@ -562,7 +562,7 @@ impl Store {
         requires len { from.len ≡ to.len }
         requires from_above { above_begins ≤ from.addr }
         requires to_below { to.addr < above_begins }
-        ensures* writes_back { sem 𝓛 (LendsBytes self.entry to result.1) }
+        ensures* writes_back { sem 𝓛 (BorrowsBytes self.entry to result.1) }
         ensures written { (w : List ℕ) → length w ≡ to.len
             → Puts self.old.storage to w (written self.old.storage to w) }
         ensures len { (length result.0.now ≡ from.len) × (length result.1.now ≡ to.len) }
@@ -581,7 +581,7 @@ impl Store {
         requires target { AllHeld self.old.storage to }
         requires len { from.len ≡ to.len }
         requires apart { (from.addr + from.len ≤ to.addr) ⊎ (to.addr + to.len ≤ from.addr) }
-        ensures* writes_back { sem 𝓛 (LendsBytes self.entry to result.1) }
+        ensures* writes_back { sem 𝓛 (BorrowsBytes self.entry to result.1) }
 
         // The storage after the loan is over, if `w` was written to the second result.
         ensures written { (w : List ℕ) → length w ≡ to.len

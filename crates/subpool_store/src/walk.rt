@@ -8,7 +8,7 @@ ghost use Rattle.subpool_store.specs.Region.{IsOpened};
 ghost use Rattle.subpool_store.specs.Memory.{IsCursor};
 ghost use Rattle.subpool_store.specs.Search.{may_take, IsExact, IsNextRun, NoneFits};
 ghost use Rattle.subpool_store.specs.Sizes.{most_doublewords};
-ghost use Rattle.subpool_store.specs.Walk.{entry_of, IsInside, IsNextPart, IsWalk, Stands};
+ghost use Rattle.subpool_store.specs.Walk.{entry_of, IsInside, IsNextPart, IsWalk, IsPassing};
 
 use crate::counted::{Counted, Entry};
 use crate::memory::Memory;
@@ -44,7 +44,7 @@ pub struct Walk {
 fn queue_of(memory: &Memory, pages: &PageMap, subpool: SubpoolId, entry: Entry, page: usize) -> Head
     requires entry { entry ≡ entry_of pages.now subpool page }
     requires opened { IsOpened pages.now memory.now.bytes }
-    ensures { Stands memory.now pages.now subpool (page_doublewords * page) entry result }
+    ensures { IsPassing memory.now pages.now subpool (page_doublewords * page) entry result }
 {
     let _ = pages;
     let _ = subpool;
@@ -227,7 +227,7 @@ fn examine_run(
 }
 
 // Returns whether what begins at an index continues what ends at another one.
-fn goes_on(start: usize, end: usize) -> bool
+fn continues(start: usize, end: usize) -> bool
     ensures { IsTrue result ↔ start ≡ end }
 {
     start == end
@@ -411,7 +411,7 @@ impl Walk {
             self.entry = part.entry;
             self.queue = part.queue;
             self.counted = part.counted;
-            if !goes_on(part.start, run.end) {
+            if !continues(part.start, run.end) {
                 self.start = part.start;
                 if least <= run.end - run.start {
                     return Some(run);

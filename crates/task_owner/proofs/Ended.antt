@@ -10,7 +10,7 @@ use Rattle.mvs_model.specs.Name.{name_cmp}
 use Rattle.mvs_model.specs.Finite.{Keeps, kept, has}
 use Rattle.mvs_model.specs.Storage.{is_one_of}
 use Rattle.mvs_model.proofs.Elements.{one_of_contained, contained_one_of}
-use Rattle.mvs_model.specs.Owners.{goes, ends_with, Ends, IsFallen}
+use Rattle.mvs_model.specs.Owners.{is_among_ended, ends_with, Ends, AreDescendants}
 use Rattle.task_owner.specs.Tasks.{TasksValue, name_at, IsTask, name_of}
 use Rattle.task_owner.specs.Seats.{item_at, number_of, directory, IsSound, MothersActive}
 use Rattle.task_owner.specs.Family.{Falls, IsFreed, FreedBelow, EntriesStand, IsTrimmed, IsTrimmedBy, is_owner_active, has_owner, is_freed_below}
@@ -26,10 +26,10 @@ use Rattle.mvs_model.proofs.Tests.{kept_is}
 -- what the callers are told, and that the fields are sound
 pub record EndsAt (d : TasksValue) (t : Name) (names : List Name) (subpools : List ℕ) (next : List (Option Seat)) (left : List (Option Owned)) : Type 0 where
   pub sound : IsSound next left
-  pub fallen : IsFallen d.owners t names
+  pub fallen : AreDescendants d.owners t names
   pub ends : Ends d.owners t names (directory next left).owners
   pub freed : (s : ℕ) → Contains subpools s ↔ (ends_with d.owners t names s ≡ true)
-  pub identifiers : (k : ℕ) → name_at (directory next left) k ≡ kept (λ x. not (goes t names x)) (name_at d k)
+  pub identifiers : (k : ℕ) → name_at (directory next left) k ≡ kept (λ x. not (is_among_ended t names x)) (name_at d k)
 
 -- an owner that is kept is active
 kept_active : (now : Slab Seat) (o : Option Owned) (b : Bool) → b ≡ has (λ p. not (is_owner_active now p)) o → cond b None o ≡ kept (is_owner_active now) o
@@ -78,14 +78,14 @@ module _ (old now next : Slab Seat) (owned left : List (Option Owned)) (d : Task
   named : y.0.name ≡ name_of d id
   named = sym (name_is old.slots owned d key id e f sound y.0 y.1)
 
-  out : Keeps (item_at old.slots) (λ _ (x : Seat). not (goes y.0.name fallen x.name)) (item_at now.slots)
+  out : Keeps (item_at old.slots) (λ _ (x : Seat). not (is_among_ended y.0.name fallen x.name)) (item_at now.slots)
   out k = (falls y.0 y.1).kept k ∙ (λ i. kept (λ (x : Seat). not (goes_sorted y.0.name names fallen same x.name i)) (get old k))
 
   freed_is : (s : ℕ) → is_one_of freed s ≡ ends_with (directory old.slots owned).owners y.0.name fallen s
   freed_is s =
       listed s
       ∙ freed_test old.slots now.slots next.slots owned left y.0.name fallen sound out closed owner each s
-      ∙ ap (has (goes y.0.name fallen)) (sym (view-owner old.slots owned s))
+      ∙ ap (has (is_among_ended y.0.name fallen)) (sym (view-owner old.slots owned s))
 
   at_view : EndsAt (directory old.slots owned) y.0.name fallen freed next.slots left
   at_view = record {

@@ -13,7 +13,7 @@ use Rattle.slab.specs.Slab.{Slab}
 use Rattle.mvs_model.specs.declared.name.Name.{Name}
 use Rattle.mvs_model.specs.Name.{name_cmp, same_name}
 use Rattle.mvs_model.specs.Finite.{Keeps, kept}
-use Rattle.mvs_model.specs.Owners.{Task, goes, IsMother, Descends, subtask, further, IsFallen}
+use Rattle.mvs_model.specs.Owners.{Task, is_among_ended, IsMother, Descends, subtask, further, AreDescendants}
 use Rattle.mvs_model.proofs.Orders.{name_cmp_total, same_name_is, same_name_self}
 use Rattle.task_owner.specs.Seats.{item_at, seat_named, mother_of, task_of, directory, IsSound, MothersActive}
 use Rattle.task_owner.specs.Family.{Falls, Below, child, lower}
@@ -52,7 +52,7 @@ strictly : (xs : List Name) → IsSorted name_cmp xs → ((q : Name) → count_b
 strictly xs sorted once = subst (IsStrictlySortedBy name_cmp) (all_joined xs once) (IsStrictlySortedBy-dedup name_cmp_total (λ x y. refl) xs sorted)
 
 -- which names go does not depend on their order
-pub goes_sorted : (t : Name) (names fallen : List Name) → IsPermutation names fallen → (q : Name) → goes t names q ≡ goes t fallen q
+pub goes_sorted : (t : Name) (names fallen : List Name) → IsPermutation names fallen → (q : Name) → is_among_ended t names q ≡ is_among_ended t fallen q
 goes_sorted t names fallen p q = ap (λ b. same_name q t || b) (list_any-IsPermutation (same_name q) names fallen p)
 
 -- a subtask and her mother, at their keys
@@ -118,15 +118,15 @@ module _ (seats : List (Option Seat)) (owned : List (Option Owned)) (t : ℕ) (y
   pub not_itself : Descends (directory seats owned).owners y.name y.name → ⊥
   not_itself d = let h : sound.ranked.0 t < sound.ranked.0 t = higher y.name d t y at refl in omega arith
 
-  module _ (mid : List (Option Seat)) (names : List Name) (out : Keeps (item_at seats) (λ _ (x : Seat). not (goes y.name names x.name)) (item_at mid)) (closed : MothersActive mid) where
+  module _ (mid : List (Option Seat)) (names : List Name) (out : Keeps (item_at seats) (λ _ (x : Seat). not (is_among_ended y.name names x.name)) (item_at mid)) (closed : MothersActive mid) where
     -- a subtask of one that goes is listed
-    listed : (n q : Name) → goes y.name names n ≡ true → IsMother (directory seats owned).owners n q → Descends (directory seats owned).owners y.name q → list_any (same_name q) names ≡ true
+    listed : (n q : Name) → is_among_ended y.name names n ≡ true → IsMother (directory seats owned).owners n q → Descends (directory seats owned).owners y.name q → list_any (same_name q) names ≡ true
     listed n q g mother d = by (item_at mid r.key) refl where
       r : Attached seats n q
       r = attached n q mother
 
       mother_out : item_at mid r.mother_key ≡ None
-      mother_out = out r.mother_key ∙ ap (kept (λ (x : Seat). not (goes y.name names x.name))) r.mother_here ∙ ap (λ b. cond (not b) (Some r.mother_seat) None) (ap (goes y.name names) r.mother_name ∙ g)
+      mother_out = out r.mother_key ∙ ap (kept (λ (x : Seat). not (is_among_ended y.name names x.name))) r.mother_here ∙ ap (λ b. cond (not b) (Some r.mother_seat) None) (ap (is_among_ended y.name names) r.mother_name ∙ g)
 
       two : (same_name q y.name ≡ true) ⊎ (list_any (same_name q) names ≡ true) → list_any (same_name q) names ≡ true
       two (inl e) = absurd (not_itself (subst (Descends (directory seats owned).owners y.name) (same_name_is q y.name e) d))
@@ -134,10 +134,10 @@ module _ (seats : List (Option Seat)) (owned : List (Option Owned)) (t : ℕ) (y
 
       by : (o : Option Seat) → item_at mid r.key ≡ o → list_any (same_name q) names ≡ true
       by None e =
-          let lost : goes y.name names r.seat.name ≡ true = not-false (goes y.name names r.seat.name) (dropped_fails (λ (x : Seat). not (goes y.name names x.name)) r.seat (ap (kept (λ (x : Seat). not (goes y.name names x.name))) (sym r.here) ∙ sym (out r.key) ∙ e)) in
-          two (or_cases (same_name q y.name) (list_any (same_name q) names) (ap (goes y.name names) (sym r.name) ∙ lost))
+          let lost : is_among_ended y.name names r.seat.name ≡ true = not-false (is_among_ended y.name names r.seat.name) (dropped_fails (λ (x : Seat). not (is_among_ended y.name names x.name)) r.seat (ap (kept (λ (x : Seat). not (is_among_ended y.name names x.name))) (sym r.here) ∙ sym (out r.key) ∙ e)) in
+          two (or_cases (same_name q y.name) (list_any (same_name q) names) (ap (is_among_ended y.name names) (sym r.name) ∙ lost))
       by (Some x) e =
-          let was = kept_is (λ (z : Seat). not (goes y.name names z.name)) (item_at seats r.key) x (sym (out r.key) ∙ e) in
+          let was = kept_is (λ (z : Seat). not (is_among_ended y.name names z.name)) (item_at seats r.key) x (sym (out r.key) ∙ e) in
           let f : Some r.seat ≡ Some x = sym r.here ∙ was.0 in
           let same : r.seat ≡ x = cc in
           let z = of_some (item_at mid r.mother_key) (closed r.key r.mother_key x e (ap (λ (v : Seat). v.mother) (sym same) ∙ r.mother)) in
@@ -150,7 +150,7 @@ module _ (seats : List (Option Seat)) (owned : List (Option Owned)) (t : ℕ) (y
 
 -- the descendants, in byte order
 pub fallen_is : (old now : Slab Seat) (owned : List (Option Owned)) (t : ℕ) (y : Seat) (names fallen : List Name) → IsSound old.slots owned → item_at old.slots t ≡ Some y → Falls old t y.name names now → MothersActive now.slots
-    → IsSorted name_cmp fallen → IsPermutation names fallen → IsFallen (directory old.slots owned).owners y.name fallen
+    → IsSorted name_cmp fallen → IsPermutation names fallen → AreDescendants (directory old.slots owned).owners y.name fallen
 fallen_is old now owned t y names fallen sound at r closed sorted same = record {
   sorted = strictly fallen sorted (λ q. let e = sum_by-IsPermutation (λ x. cond (same_name q x) 1 0) names fallen same in subst (λ n. n ≤ 1) (sym e) (r.once q));
   descendants = λ q. (there q, back q);

@@ -9,7 +9,7 @@ use Rattle.slab.specs.Slab.{Slab, get, slab_len, Updates}
 use Rattle.mvs_model.specs.declared.name.Name.{Name}
 use Rattle.mvs_model.specs.Name.{same_name}
 use Rattle.mvs_model.specs.Finite.{kept}
-use Rattle.mvs_model.specs.Owners.{goes}
+use Rattle.mvs_model.specs.Owners.{is_among_ended}
 use Rattle.mvs_model.proofs.Orders.{same_name_is, same_name_self}
 use Rattle.task_owner.specs.Seats.{Distinct, MothersActive}
 use Rattle.task_owner.specs.Family.{Falls, Below, child, lower}
@@ -26,7 +26,7 @@ one_more false true c = refl
 one_more false false c = or_false c
 
 -- one more name
-goes_more : (t : Name) (names : List Name) (x q : Name) → goes t (names ++ x ∷ []) q ≡ (goes t names q || same_name q x)
+goes_more : (t : Name) (names : List Name) (x q : Name) → is_among_ended t (names ++ x ∷ []) q ≡ (is_among_ended t names q || same_name q x)
 goes_more t names x q = ap (λ b. same_name q t || b) (list_any-append (same_name q) names (x ∷ [])) ∙ one_more (same_name q t) (list_any (same_name q) names) (same_name q x)
 
 -- none passes where the list has none that does
@@ -62,46 +62,46 @@ module _ (old : Slab Seat) (t : ℕ) (first : Seat) (distinct : Distinct old.slo
     len = omega arith;
     capacity = capacity;
   }) where
-    kept_at : (k : ℕ) → (k ≡ t) ⊎ (k ≢ t) → get now k ≡ kept (λ y. not (goes first.name [] y.name)) (get old k)
+    kept_at : (k : ℕ) → (k ≡ t) ⊎ (k ≢ t) → get now k ≡ kept (λ y. not (is_among_ended first.name [] y.name)) (get old k)
     kept_at k (inl e) =
         ap (get now) e ∙ u.changed ∙ ap (λ b. cond (not (b || false)) (Some first) None) (sym (same_name_self first.name))
-        ∙ ap (kept (λ (y : Seat). not (goes first.name [] y.name))) (sym (ap (get old) e ∙ at))
+        ∙ ap (kept (λ (y : Seat). not (is_among_ended first.name [] y.name))) (sym (ap (get old) e ∙ at))
     kept_at k (inr d) = u.others k d ∙ by (get old k) refl where
-      by : (o : Option Seat) → get old k ≡ o → o ≡ kept (λ y. not (goes first.name [] y.name)) o
+      by : (o : Option Seat) → get old k ≡ o → o ≡ kept (λ y. not (is_among_ended first.name [] y.name)) o
       by None h = refl
       by (Some y) h = two (name_cases y.name first.name) where
-        two : ((same_name y.name first.name ≡ true) × (y.name ≡ first.name)) ⊎ ((same_name y.name first.name ≡ false) × (y.name ≢ first.name)) → Some y ≡ kept (λ z. not (goes first.name [] z.name)) (Some y)
+        two : ((same_name y.name first.name ≡ true) × (y.name ≡ first.name)) ⊎ ((same_name y.name first.name ≡ false) × (y.name ≢ first.name)) → Some y ≡ kept (λ z. not (is_among_ended first.name [] z.name)) (Some y)
         two (inl r) = absurd (d (distinct k t y first h at r.1))
         two (inr r) = ap (λ b. cond (not (b || false)) (Some y) None) (sym r.0)
 
   -- and then one whose mother has gone
   module _ (mothers : MothersActive old.slots) (now next : Slab Seat) (names : List Name) (key m : ℕ) (x : Seat) (r : Falls old t first.name names now) (here : get now key ≡ Some x) (mother : x.mother ≡ Some m)
       (gone : get now m ≡ None) (u : Updates now next key None) where
-    was : (get old key ≡ Some x) × (not (goes first.name names x.name) ≡ true)
-    was = kept_is (λ (y : Seat). not (goes first.name names y.name)) (get old key) x (sym (r.kept key) ∙ here)
+    was : (get old key ≡ Some x) × (not (is_among_ended first.name names x.name) ≡ true)
+    was = kept_is (λ (y : Seat). not (is_among_ended first.name names y.name)) (get old key) x (sym (r.kept key) ∙ here)
 
     absent : list_any (same_name x.name) names ≡ false
-    absent = (or_parts (same_name x.name first.name) (list_any (same_name x.name) names) (not-true (goes first.name names x.name) was.1)).1
+    absent = (or_parts (same_name x.name first.name) (list_any (same_name x.name) names) (not-true (is_among_ended first.name names x.name) was.1)).1
 
-    kept_more : (k : ℕ) → (k ≡ key) ⊎ (k ≢ key) → get next k ≡ kept (λ y. not (goes first.name (names ++ x.name ∷ []) y.name)) (get old k)
+    kept_more : (k : ℕ) → (k ≡ key) ⊎ (k ≢ key) → get next k ≡ kept (λ y. not (is_among_ended first.name (names ++ x.name ∷ []) y.name)) (get old k)
     kept_more k (inl e) =
         ap (get next) e ∙ u.changed
-        ∙ ap (λ b. cond (not b) (Some x) None) (sym (goes_more first.name names x.name x.name ∙ ap (λ b. goes first.name names x.name || b) (same_name_self x.name) ∙ or_right (goes first.name names x.name) true refl))
-        ∙ ap (kept (λ (y : Seat). not (goes first.name (names ++ x.name ∷ []) y.name))) (sym (ap (get old) e ∙ was.0))
-    kept_more k (inr d) = u.others k d ∙ r.kept k ∙ same_kept (λ (y : Seat). not (goes first.name names y.name)) (λ (y : Seat). not (goes first.name (names ++ x.name ∷ []) y.name)) (get old k) agree where
-      agree : (y : Seat) → get old k ≡ Some y → not (goes first.name names y.name) ≡ not (goes first.name (names ++ x.name ∷ []) y.name)
+        ∙ ap (λ b. cond (not b) (Some x) None) (sym (goes_more first.name names x.name x.name ∙ ap (λ b. is_among_ended first.name names x.name || b) (same_name_self x.name) ∙ or_right (is_among_ended first.name names x.name) true refl))
+        ∙ ap (kept (λ (y : Seat). not (is_among_ended first.name (names ++ x.name ∷ []) y.name))) (sym (ap (get old) e ∙ was.0))
+    kept_more k (inr d) = u.others k d ∙ r.kept k ∙ same_kept (λ (y : Seat). not (is_among_ended first.name names y.name)) (λ (y : Seat). not (is_among_ended first.name (names ++ x.name ∷ []) y.name)) (get old k) agree where
+      agree : (y : Seat) → get old k ≡ Some y → not (is_among_ended first.name names y.name) ≡ not (is_among_ended first.name (names ++ x.name ∷ []) y.name)
       agree y h = by (name_cases y.name x.name) where
-        by : ((same_name y.name x.name ≡ true) × (y.name ≡ x.name)) ⊎ ((same_name y.name x.name ≡ false) × (y.name ≢ x.name)) → not (goes first.name names y.name) ≡ not (goes first.name (names ++ x.name ∷ []) y.name)
+        by : ((same_name y.name x.name ≡ true) × (y.name ≡ x.name)) ⊎ ((same_name y.name x.name ≡ false) × (y.name ≢ x.name)) → not (is_among_ended first.name names y.name) ≡ not (is_among_ended first.name (names ++ x.name ∷ []) y.name)
         by (inl p) = absurd (d (distinct k key y x h was.0 p.1))
-        by (inr p) = ap not (sym (goes_more first.name names x.name y.name ∙ ap (λ b. goes first.name names y.name || b) p.0 ∙ or_false (goes first.name names y.name)))
+        by (inr p) = ap not (sym (goes_more first.name names x.name y.name ∙ ap (λ b. is_among_ended first.name names y.name || b) p.0 ∙ or_false (is_among_ended first.name names y.name)))
 
     below_here : Below old.slots t key
     below_here = by (or_cases (same_name z.0.name first.name) (list_any (same_name z.0.name) names) fell) where
       z : (z : Seat) × (get old m ≡ Some z)
       z = of_some (get old m) (mothers key m x was.0 mother)
 
-      fell : goes first.name names z.0.name ≡ true
-      fell = not-false (goes first.name names z.0.name) (dropped_fails (λ (y : Seat). not (goes first.name names y.name)) z.0 (ap (kept (λ (y : Seat). not (goes first.name names y.name))) (sym z.1) ∙ sym (r.kept m) ∙ gone))
+      fell : is_among_ended first.name names z.0.name ≡ true
+      fell = not-false (is_among_ended first.name names z.0.name) (dropped_fails (λ (y : Seat). not (is_among_ended first.name names y.name)) z.0 (ap (kept (λ (y : Seat). not (is_among_ended first.name names y.name))) (sym z.1) ∙ sym (r.kept m) ∙ gone))
 
       by : (same_name z.0.name first.name ≡ true) ⊎ (list_any (same_name z.0.name) names ≡ true) → Below old.slots t key
       by (inl p) =

@@ -4,7 +4,7 @@ use Rattle.std.proofs.lemmas.Bool.Decides.{nat_tests}
 use Rattle.mvs_model.specs.declared.name.Name.{Name}
 use Rattle.mvs_model.specs.Subpool.{is_subpool_number, is_step_number}
 use Rattle.mvs_model.specs.Owners.{Owners, Task, entry, job_step_task, keeper, subpool_meant}
-use Rattle.mvs_model.specs.Kept.{IsFirst}
+use Rattle.mvs_model.specs.Consistent.{IsFirst}
 use Rattle.mvs_model.proofs.Keepers.{first_of, first_some}
 use Rattle.task_owner.specs.Tasks.{TasksValue, name_at, IsTask, name_of}
 use Rattle.task_owner.specs.Seats.{item_at, number_of, mother_of, task_of, entry_of, directory, MayHave, IsSound}

@@ -6,7 +6,7 @@ use Rattle.std.specs.FinMap.{get}
 use Rattle.mvs_model.specs.declared.name.Name.{Name}
 use Rattle.mvs_model.specs.Owners.{Task, is_active, entry, IsMother, Descends, subtask, further}
 use Rattle.task_owner.specs.Tasks.{TasksValue}
-use Rattle.mvs_model.specs.Kept.{IsFirst, OwnersKept}
+use Rattle.mvs_model.specs.Consistent.{IsFirst, OwnersConsistent}
 use Rattle.task_owner.specs.Seats.{item_at, number_of, seat_named, mother_of, task_of, entry_of, owner_name, directory, MayHave, IsSound}
 use Rattle.task_owner.specs.declared.seat.Seat.{Seat}
 use Rattle.task_owner.specs.declared.seat.Owned.{Owned}
@@ -80,7 +80,7 @@ module _ (seats : List (Option Seat)) (owned : List (Option Owned)) (sound : IsS
   descends_active t x (subtask m) = ap is_some m.1
   descends_active t x (further d m) = ap is_some m.1
 
-  pub keeps : length owned ≡ 4098 → count_by is_some seats ≤ 32 → OwnersKept (directory seats owned).owners
+  pub keeps : length owned ≡ 4098 → count_by is_some seats ≤ 32 → OwnersConsistent (directory seats owned).owners
   keeps long few = record {
     few = subst (λ n. n ≤ 32) (sym (tasks_len seats owned sound)) few;
     mothers = λ t x h. mothers t x h;
@@ -138,5 +138,5 @@ module _ (seats : List (Option Seat)) (owned : List (Option Owned)) (sound : IsS
       by (inr l) = absurd (let f : None ≡ Some t = sym (ap (owner_name seats) (past_end owned s (omega (arith, long, l)))) ∙ h in cc)
 
 -- the same of the value of `Tasks`
-pub kept_at : (seats : List (Option Seat)) (owned : List (Option Owned)) (d : TasksValue) → directory seats owned ≡ d → IsSound seats owned → length owned ≡ 4098 → count_by is_some seats ≤ 32 → OwnersKept d.owners
-kept_at seats owned d e sound long few = subst (λ (v : TasksValue). OwnersKept v.owners) e (keeps seats owned sound long few)
+pub kept_at : (seats : List (Option Seat)) (owned : List (Option Owned)) (d : TasksValue) → directory seats owned ≡ d → IsSound seats owned → length owned ≡ 4098 → count_by is_some seats ≤ 32 → OwnersConsistent d.owners
+kept_at seats owned d e sound long few = subst (λ (v : TasksValue). OwnersConsistent v.owners) e (keeps seats owned sound long few)

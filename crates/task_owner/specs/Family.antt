@@ -5,7 +5,7 @@ use Rattle.slab.specs.Slab.{Slab, get, slab_len}
 use Rattle.mvs_model.specs.declared.name.Name.{Name}
 use Rattle.mvs_model.specs.Name.{same_name}
 use Rattle.mvs_model.specs.Finite.{Keeps, has, kept}
-use Rattle.mvs_model.specs.Owners.{goes}
+use Rattle.mvs_model.specs.Owners.{is_among_ended}
 use Rattle.mvs_model.specs.Storage.{is_one_of}
 use Rattle.task_owner.specs.Seats.{item_at, number_of}
 use Rattle.task_owner.specs.declared.seat.Seat.{Seat}
@@ -22,7 +22,7 @@ pub data Below (seats : List (Option Seat)) (t : ℕ) : ℕ → Type 0 where
 
 -- The task of this name, at t, and those of the names are out, and each of the names is that of one descendant.
 pub record Falls (old : Slab Seat) (t : ℕ) (name : Name) (names : List Name) (now : Slab Seat) : Type 0 where
-  pub kept : Keeps (get old) (λ _ x. not (goes name names x.name)) (get now)
+  pub kept : Keeps (get old) (λ _ x. not (is_among_ended name names x.name)) (get now)
   pub below : (q : Name) → list_any (same_name q) names ≡ true → (k : ℕ) × (x : Seat) × (get old k ≡ Some x) × (x.name ≡ q) × Below old.slots t k
   pub once : (q : Name) → count_by (same_name q) names ≤ 1
   pub len : slab_len now + length names + 1 ≡ slab_len old

@@ -7,9 +7,9 @@ ghost use Rattle.std.specs.Ordering.{nat_cmp};
 ghost use Rattle.std.specs.FinMap.{get, len};
 ghost use Rattle.mvs_model.specs.Finite.{has, kept};
 ghost use Rattle.mvs_model.specs.Gifts.{gives};
-ghost use Rattle.mvs_model.specs.Kept.{OwnersKept};
+ghost use Rattle.mvs_model.specs.Consistent.{OwnersConsistent};
 ghost use Rattle.mvs_model.specs.Numbers.{most_subpools, most_tasks, subpool_numbers, task_numbers};
-ghost use Rattle.mvs_model.specs.Owners.{entry, keeper, subpool_meant, is_active, has_subtask, owns, IsMother, IsSpare, Binds, IsFallen, goes, ends_with, Ends, Attach, gives_shared};
+ghost use Rattle.mvs_model.specs.Owners.{entry, keeper, subpool_meant, is_active, has_subtask, owns, IsMother, IsSpare, Binds, AreDescendants, is_among_ended, ends_with, Ends, Attach, gives_shared};
 ghost use Rattle.mvs_model.specs.Causes.{Passed, Refused, attach_causes};
 ghost use Rattle.mvs_model.specs.declared.name.Name.{Name as TheName};
 ghost use Rattle.mvs_model.specs.Start.{first_owners};
@@ -111,7 +111,7 @@ impl Tasks {
     pub fn find(&self, name: &Name) -> Option<TaskId>
         ensures active { is_some result ≡ is_active self.now.owners name.now }
         ensures named { IfSome result (λ id. name_at self.now id ≡ Some name.now) }
-        ensures kept { OwnersKept self.now.owners }
+        ensures kept { OwnersConsistent self.now.owners }
     {
         match find_key(&self.active, *name) {
             Some(key) => Some(TaskId { key }),
@@ -425,7 +425,7 @@ impl Tasks {
     /// (Assembler Services Guide, owning and sharing subpools).
     pub fn end(&mut self, t: TaskId) -> Gone
         requires { IsTask self.old t }
-        ensures fallen { IsFallen self.old.owners (name_of self.old t) result.fallen }
+        ensures fallen { AreDescendants self.old.owners (name_of self.old t) result.fallen }
         ensures ends { Ends self.old.owners (name_of self.old t) result.fallen self.new.owners }
         ensures freed { (s : ℕ)
             → Contains result.freed s
@@ -433,7 +433,7 @@ impl Tasks {
         ensures rising { IsStrictlySortedBy nat_cmp result.freed }
         ensures names { (id : ℕ)
             → name_at self.new id
-            ≡ kept (λ x. not (goes (name_of self.old t) result.fallen x))
+            ≡ kept (λ x. not (is_among_ended (name_of self.old t) result.fallen x))
             (name_at self.old id) }
     {
         let mut freed = SubpoolSet::empty();
@@ -450,7 +450,7 @@ impl Tasks {
     pub fn end_alone(&mut self, t: TaskId) -> SubpoolSet
         requires active { IsTask self.old t }
         requires alone { has_subtask self.old.owners (name_of self.old t) ≡ false }
-        ensures fallen { IsFallen self.old.owners (name_of self.old t) [] }
+        ensures fallen { AreDescendants self.old.owners (name_of self.old t) [] }
         ensures ends { Ends self.old.owners (name_of self.old t) [] self.new.owners }
         ensures freed { (s : ℕ)
             → Contains result s ↔ (ends_with self.old.owners (name_of self.old t) [] s ≡ true) }
@@ -466,7 +466,7 @@ impl Tasks {
         ensures label { MatchOption result (get self.now.owners.owner subpool ≡ None)
             (λ r. (get self.now.owners.owner subpool ≡ Some r.1)
             × (entry self.now.owners r.1 r.0 ≡ Some subpool)) }
-        ensures kept { OwnersKept self.now.owners }
+        ensures kept { OwnersConsistent self.now.owners }
     {
         match self.owned[subpool.get() as usize] {
             Some(owned) => Some((

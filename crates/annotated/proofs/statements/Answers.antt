@@ -1,6 +1,6 @@
 use Rattle.std.proofs.Common.{◌≡◌, ◌∷◌, ap, arith, refl, ◌∙◌, ◌++◌, [], map}
 use Rattle.mvs_model.specs.Lines.{ended_text, lines_of}
-use Rattle.annotated.specs.Asked.{statement_of}
+use Rattle.annotated.specs.ExpectedAnswers.{statement_of}
 use Rattle.annotated.proofs.Cutting.{first_line, next_of, some_left}
 use Rattle.annotated.proofs.Walking.{run_more}
 use Rattle.std.proofs.lemmas.Grind.{common_steps}

@@ -1,6 +1,6 @@
 use Rattle.std.proofs.Common.{◌≡◌, ◌++◌, length, map}
 use Rattle.mvs_model.specs.Lines.{ended_text, lines_of}
-use Rattle.annotated.specs.Asked.{statement_of}
+use Rattle.annotated.specs.ExpectedAnswers.{statement_of}
 use Rattle.annotated.proofs.statements.Given as goal
 
 abbrev pub invariant-lines : goal.invariant-lines

@@ -1,8 +1,8 @@
 use Rattle.std.proofs.Common.{[], ◌∷◌, refl}
 use Rattle.std.proofs.KnownBytes.{Keeps-refl}
 use Rattle.mvs_model.specs.Answers.{Region, Told}
-use Rattle.mvs_model.specs.Lent.{fallen_in}
-use Rattle.mvs_job.specs.Telling.{ended, lent_in}
+use Rattle.mvs_model.specs.FullAnswers.{ended_with_in}
+use Rattle.mvs_job.specs.LineEvents.{ended, full_answer_in}
 use Rattle.event_json.proofs.Written.{statement_lines, text_written}
 use Rattle.event_json.proofs.write_line.Goals as goal
 
@@ -13,11 +13,11 @@ pub returns-in-Ok-answer_line-clause-written : goal.returns-in-Ok-answer_line-cl
 returns-in-Ok-answer_line-clause-written g c =
     let n = c.args.line.now.number in
     let t = c.in-Answered.task in
-    let a = lent_in c.args.walk.now.step (fallen_in c.args.walk.now.reply) t c.in-Answered.answer in
+    let a = full_answer_in c.args.walk.now.step (ended_with_in c.args.walk.now.reply) t c.in-Answered.answer in
     let text = c.in-Ok-answer_line.text.items in
     rw (c.in-Answered.is)
     (text_written _ _ (Told n t a ∷ []) text (statement_lines n t a text c.in-Ok-answer_line.ensures) c.write_text-in-Ok-answer_line.result (rw (c.deref-in-Ok-answer_line.ensures.value) at c.write_text-in-Ok-answer_line.ensures.text.bytes) c.write_text-in-Ok-answer_line.ensures.memory)
 
 pub returns-in-Err-answer_line-clause-written : goal.returns-in-Err-answer_line-clause-written
 returns-in-Err-answer_line-clause-written g c =
-    rw (c.in-Answered.is) (([], c.args.line.now.number, c.in-Answered.task, lent_in c.args.walk.now.step (fallen_in c.args.walk.now.reply) c.in-Answered.task c.in-Answered.answer, refl), Keeps-refl _)
+    rw (c.in-Answered.is) (([], c.args.line.now.number, c.in-Answered.task, full_answer_in c.args.walk.now.step (ended_with_in c.args.walk.now.reply) c.in-Answered.task c.in-Answered.answer, refl), Keeps-refl _)

@@ -7,4 +7,4 @@ use Rattle.job_script.proofs.field_of.Goals as goal
 pub returns-in_default : goal.returns-in_default
 returns-in_default c =
     let rest = c.args.rest.now in
-    field_first c.behind_blanks.result.now c.behind_blanks.ensures.start ∙ ap (λ ws. unwrap_or (slice_get ws 0) []) c.behind_blanks.ensures.words ∙ sym (field_behind c.args.operation rest c.in_default.not-Return)
+    field_first c.skip_blanks.result.now c.skip_blanks.ensures.start ∙ ap (λ ws. unwrap_or (slice_get ws 0) []) c.skip_blanks.ensures.words ∙ sym (field_behind c.args.operation rest c.in_default.not-Return)

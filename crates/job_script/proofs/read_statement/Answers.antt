@@ -2,7 +2,7 @@ use Rattle.std.proofs.Common.{◌≡◌, sym, subst, ◌∙◌, true}
 use Rattle.mvs_model.specs.Reading.{is_name, operands_in}
 use Rattle.job_script.specs.Operations.{operation_text}
 use Rattle.job_script.specs.Rowed.{FormReading, as_field}
-use Rattle.job_script.specs.Said.{filled}
+use Rattle.job_script.specs.LineMeaning.{filled}
 use Rattle.job_script.specs.Stated.{is_in_place, field_of}
 use Rattle.job_script.proofs.Stating.{split_line, unknown_operation, statement_read}
 use Rattle.job_script.proofs.read_statement.Goals as goal

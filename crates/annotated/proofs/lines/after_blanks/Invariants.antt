@@ -1,5 +1,5 @@
 use Rattle.std.proofs.Common.{◌≡◌, drop}
-use Rattle.annotated.specs.Asked.{after_blanks}
+use Rattle.annotated.specs.ExpectedAnswers.{after_blanks}
 use Rattle.annotated.proofs.lines.after_blanks.Given as goal
 
 abbrev pub invariant-loop-i : goal.invariant-loop-i

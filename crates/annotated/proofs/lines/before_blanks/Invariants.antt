@@ -1,5 +1,5 @@
 use Rattle.std.proofs.Common.{◌≡◌, ◌≤◌, length, reverse, take}
-use Rattle.annotated.specs.Asked.{after_blanks}
+use Rattle.annotated.specs.ExpectedAnswers.{after_blanks}
 use Rattle.annotated.proofs.lines.before_blanks.Given as goal
 
 abbrev pub invariant-blanks : goal.invariant-blanks

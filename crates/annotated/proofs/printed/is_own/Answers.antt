@@ -1,7 +1,7 @@
 use Rattle.std.proofs.Common.{◌≡◌, ◌==◌, ◌&&◌, ap, false, is_some, sym, true, refl, ◌∙◌}
 use Rattle.std.specs.List.{after_first}
 use Rattle.mvs_model.specs.Lines.{lines_of}
-use Rattle.annotated.specs.Asked.{begins_with, numbered}
+use Rattle.annotated.specs.ExpectedAnswers.{begins_with, numbered}
 use Rattle.annotated.proofs.Cutting.{next_of}
 use Rattle.annotated.proofs.Walking.{own_numbered, own_otherwise, some_mapped}
 use Rattle.annotated.proofs.printed.is_own.Goals as goal

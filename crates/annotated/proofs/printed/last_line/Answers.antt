@@ -1,5 +1,5 @@
 use Rattle.std.proofs.Common.{◌∙◌, ap, refl, sym}
-use Rattle.annotated.specs.Asked.{last_or}
+use Rattle.annotated.specs.ExpectedAnswers.{last_or}
 use Rattle.annotated.proofs.Cutting.{first_line, next_of, some_left}
 use Rattle.annotated.proofs.printed.last_line.Goals as goal
 

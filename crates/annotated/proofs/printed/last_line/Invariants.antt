@@ -1,6 +1,6 @@
 use Rattle.std.proofs.Common.{◌≡◌, codes, length}
 use Rattle.mvs_model.specs.Lines.{lines_of}
-use Rattle.annotated.specs.Asked.{last_or}
+use Rattle.annotated.specs.ExpectedAnswers.{last_or}
 use Rattle.annotated.proofs.printed.last_line.Given as goal
 
 abbrev pub invariant-lines : goal.invariant-lines

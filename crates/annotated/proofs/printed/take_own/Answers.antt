@@ -1,6 +1,6 @@
 use Rattle.std.proofs.Common.{◌≡◌, ◌∷◌, ap, true, refl, sym, ◌∙◌}
 use Rattle.mvs_model.specs.Lines.{lines_of}
-use Rattle.annotated.specs.Asked.{is_own}
+use Rattle.annotated.specs.ExpectedAnswers.{is_own}
 use Rattle.annotated.proofs.Cutting.{first_line, next_of}
 use Rattle.annotated.proofs.Walking.{some_of, take_after, take_step, with_text}
 use Rattle.annotated.proofs.printed.take_own.Goals as goal

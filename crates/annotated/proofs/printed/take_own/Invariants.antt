@@ -1,6 +1,6 @@
 use Rattle.std.proofs.Common.{◌≡◌, length}
 use Rattle.mvs_model.specs.Lines.{lines_of}
-use Rattle.annotated.specs.Asked.{after_own, joined, own_texts}
+use Rattle.annotated.specs.ExpectedAnswers.{after_own, joined, own_texts}
 use Rattle.annotated.proofs.printed.take_own.Given as goal
 
 abbrev pub invariant-own : goal.invariant-own

@@ -1,6 +1,6 @@
 use Rattle.std.proofs.Common.{◌≡◌, ◌+◌, ◌-◌, ◌<◌, ◌^◌, length}
 use Rattle.mvs_model.specs.Lines.{lines_of}
-use Rattle.annotated.specs.Asked.{asked}
+use Rattle.annotated.specs.ExpectedAnswers.{expected_answers}
 use Rattle.annotated.specs.Reports.{total}
 use Rattle.annotated.proofs.Walking.{counted}
 use Rattle.annotated.proofs.report.count.Given as goal
@@ -9,8 +9,8 @@ abbrev pub invariant-answers : goal.invariant-answers
 invariant-answers l = record {
   room : l.answers.number + length l.answers.script.now < 2 ^ 32;
   few : total l.counts < l.answers.number;
-  same : counted l.counts (asked l.answers.number (lines_of l.answers.script.now) (lines_of l.answers.printed.now))
-      ≡ counted l.initial.counts (asked l.initial.answers.number (lines_of l.initial.answers.script.now) (lines_of l.initial.answers.printed.now));
+  same : counted l.counts (expected_answers l.answers.number (lines_of l.answers.script.now) (lines_of l.answers.printed.now))
+      ≡ counted l.initial.counts (expected_answers l.initial.answers.number (lines_of l.initial.answers.script.now) (lines_of l.initial.answers.printed.now));
 }
 
 abbrev pub decreases-answers : goal.decreases-answers

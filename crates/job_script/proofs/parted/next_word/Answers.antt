@@ -7,10 +7,10 @@ use Rattle.job_script.proofs.parted.next_word.Goals as goal
 pub returns-in-None : goal.returns-in-None
 returns-in-None c =
     let parts = rw c.in-None.is at c.parted.ensures.parts in
-    let first = first_word c.behind_blanks.result.now c.parted.result.0.now [] c.behind_blanks.ensures.start c.parted.ensures.before parts in
+    let first = first_word c.skip_blanks.result.now c.parted.result.0.now [] c.skip_blanks.ensures.start c.parted.ensures.before parts in
     record {
-      word = first.0 ∙ ap (λ ws. unwrap_or (slice_get ws 0) []) c.behind_blanks.ensures.words;
-      rest = first.1 ∙ ap (drop 1) c.behind_blanks.ensures.words;
+      word = first.0 ∙ ap (λ ws. unwrap_or (slice_get ws 0) []) c.skip_blanks.ensures.words;
+      rest = first.1 ∙ ap (drop 1) c.skip_blanks.ensures.words;
       end = (c.args.text.now, sym (append-nil c.args.text.now));
     }
 
@@ -18,10 +18,10 @@ pub returns-in-Some : goal.returns-in-Some
 returns-in-Some c =
     let parts = rw c.in-Some.is at c.parted.ensures.parts in
     let after = rw c.in-Some.is at c.parted.ensures.after in
-    let first = first_word c.behind_blanks.result.now c.parted.result.0.now _ c.behind_blanks.ensures.start c.parted.ensures.before parts in
+    let first = first_word c.skip_blanks.result.now c.parted.result.0.now _ c.skip_blanks.ensures.start c.parted.ensures.before parts in
     record {
-      word = first.0 ∙ ap (λ ws. unwrap_or (slice_get ws 0) []) c.behind_blanks.ensures.words;
-      rest = first.1 ∙ ap (drop 1) c.behind_blanks.ensures.words;
-      end = end_of_end c.args.text.now c.behind_blanks.result.now c.in-Some.rest.now c.behind_blanks.ensures.end
-          (subst (IsEnd c.behind_blanks.result.now) (sym after.1) (after_ends (λ b. b == 32) c.behind_blanks.result.now));
+      word = first.0 ∙ ap (λ ws. unwrap_or (slice_get ws 0) []) c.skip_blanks.ensures.words;
+      rest = first.1 ∙ ap (drop 1) c.skip_blanks.ensures.words;
+      end = end_of_end c.args.text.now c.skip_blanks.result.now c.in-Some.rest.now c.skip_blanks.ensures.end
+          (subst (IsEnd c.skip_blanks.result.now) (sym after.1) (after_ends (λ b. b == 32) c.skip_blanks.result.now));
     }

@@ -8,4 +8,4 @@ pub returns : goal.returns
 returns c =
     let short : nat_lt 255 (length c.args.line.now) ≡ false = le-ltb 255 (length c.args.line.now) c.if-line-gt-LONGEST.false in
     let task = c.in_ok-task in
-    whole_line c.read_behind.result c.args.line.now task.task.now task.rest.now c.name.result c.read_behind.new.read short task.ensures c.name.ensures c.read_behind.ensures
+    whole_line c.read_after_task.result c.args.line.now task.task.now task.rest.now c.name.result c.read_after_task.new.read short task.ensures c.name.ensures c.read_after_task.ensures

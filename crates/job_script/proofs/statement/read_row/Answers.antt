@@ -4,7 +4,7 @@ use Rattle.mvs_model.specs.Reading.{operands_in, first_of, operand_checks, with_
 use Rattle.job_script.specs.Given.{field_now}
 use Rattle.job_script.specs.Kinds.{fault_in}
 use Rattle.job_script.specs.Rows.{row_at}
-use Rattle.job_script.specs.Said.{filled}
+use Rattle.job_script.specs.LineMeaning.{filled}
 use Rattle.job_script.proofs.Rowing.{row_not_taken, row_lacks, row_said, none_conflict}
 use Rattle.job_script.proofs.statement.read_row.Goals as goal
 

@@ -7,7 +7,7 @@ use Rattle.job_script.specs.Operations.{operation_text}
 use Rattle.job_script.specs.Parted.{field_in}
 use Rattle.job_script.specs.Rowed.{FormReading}
 use Rattle.job_script.specs.Rows.{row_at}
-use Rattle.job_script.specs.Said.{filled}
+use Rattle.job_script.specs.LineMeaning.{filled}
 use Rattle.job_script.proofs.Rowing.{form_parts, form_there, form_unknown, form_known, behind_one}
 use Rattle.job_script.proofs.FormTexts.{form_plain, form_keyed}
 use Rattle.job_script.proofs.statement.read_with_form.Goals as goal

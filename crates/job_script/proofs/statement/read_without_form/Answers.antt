@@ -5,7 +5,7 @@ use Rattle.job_script.specs.Operations.{operation_text}
 use Rattle.job_script.specs.Parted.{field_in}
 use Rattle.job_script.specs.Rowed.{RowReading, as_field}
 use Rattle.job_script.specs.Rows.{row_at}
-use Rattle.job_script.specs.Said.{filled}
+use Rattle.job_script.specs.LineMeaning.{filled}
 use Rattle.job_script.proofs.Rowing.{none_missing, row_alone, behind_none, formless, form_known}
 use Rattle.job_script.proofs.statement.read_without_form.Goals as goal
 

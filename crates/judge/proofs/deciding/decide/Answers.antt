@@ -2,7 +2,7 @@ use Rattle.std.proofs.Common.{[], ◌∷◌, ◌+◌, drop, refl, subst, sym, ta
 use Rattle.mvs_model.specs.Lines.{lines_of}
 use Rattle.judge.specs.Judging.{IsOpen}
 use Rattle.judge.specs.Deciding.{IsServed}
-use Rattle.judge.proofs.Asked.{open_other}
+use Rattle.judge.proofs.GrantQuestion.{open_other}
 use Rattle.judge.proofs.Decided.{closed_asked, decides_before}
 use Rattle.judge.proofs.deciding.decide.Goals as goal
 
@@ -18,6 +18,6 @@ returns-in_ok-served-in-Closed-clause-decided c =
       l ∷ [],
       c.line_end-end.ensures.lines,
       e.served,
-      decides_before (l ∷ []) _ c.args.left.now c.args.walk.now s.text.items s.goes_on s.passes c.decide_line.new.walk e.decided,
+      decides_before (l ∷ []) _ c.args.left.now c.args.walk.now s.text.items s.continues s.passes c.decide_line.new.walk e.decided,
       λ on. closed_asked c.args.walk.now c.decide_line.new.walk l s.text.items _ c.in-Closed.ensures (subst (λ b. IsServed (l ∷ []) c.args.walk.now s.text.items b c.decide_line.new.walk) on e.served),
     )

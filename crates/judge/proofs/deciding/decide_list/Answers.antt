@@ -2,7 +2,7 @@ use Rattle.std.proofs.Common.{false, ◌≡◌, ◌++◌, ◌+◌, ap, drop, len
 use Rattle.mvs_model.proofs.Tests.{false_true}
 use Rattle.mvs_model.specs.Lines.{lines_of}
 use Rattle.mvs_model.specs.Texts.{answer_text, printing}
-use Rattle.mvs_job.specs.Telling.{events_told}
+use Rattle.mvs_job.specs.LineEvents.{events_of_line}
 use Rattle.judge.specs.Deciding.{ReadsEach, no_bytes}
 use Rattle.judge.proofs.Decided.{in_bounds}
 use Rattle.judge.proofs.ListLines.{list_decides, list_opens, list_refuses, list_served}
@@ -10,24 +10,24 @@ use Rattle.judge.proofs.deciding.decide_list.Goals as goal
 
 pub returns-clause-served : goal.returns-clause-served
 returns-clause-served c =
-    let same = c.in_ok-printed.ensures.printed ∙ ap (λ x. x ++ printing (events_told c.args.walk.now.number c.print_next.new.walk c.in_ok-printed.printed.told)) c.new.ensures.items in
+    let same = c.in_ok-printed.ensures.printed ∙ ap (λ x. x ++ printing (events_of_line c.args.walk.now.number c.print_next.new.walk c.in_ok-printed.printed.told)) c.new.ensures.items in
     list_served c.as_slice.result.now c.args.walk.now c.print_next.new.walk c.args.line.now c.in_ok-printed.printed.told c.args.listed.now.task c.args.listed.now.areas c.in_ok-printed.ensures.served c.requires.list c.requires.bounds c.in_ok-printed.printed.text.items same c.print_next.ensures.number
 
 pub returns-clause-opens : goal.returns-clause-opens
 returns-clause-opens c = λ differs begins.
-    let same = c.in_ok-printed.ensures.printed ∙ ap (λ x. x ++ printing (events_told c.args.walk.now.number c.print_next.new.walk c.in_ok-printed.printed.told)) c.new.ensures.items in
+    let same = c.in_ok-printed.ensures.printed ∙ ap (λ x. x ++ printing (events_of_line c.args.walk.now.number c.print_next.new.walk c.in_ok-printed.printed.told)) c.new.ensures.items in
     list_opens c.as_slice.result.now c.args.walk.now c.print_next.new.walk c.args.line.now c.in_ok-printed.printed.told c.args.listed.now.task c.args.listed.now.areas c.in_ok-printed.ensures.served c.requires.list c.requires.bounds c.in_ok-printed.printed.text.items same
     (lines_of c.args.behind.now) c.args.left.now c.requires.questions (λ rest e. false_true (sym differs ∙ c.begins-passes.ensures.no rest (e ∙ ap (λ x. x ++ rest) (sym c.as_slice-2.ensures.value)))) begins
 
 pub returns-clause-refuses : goal.returns-clause-refuses
 returns-clause-refuses c = λ differs none.
-    let same = c.in_ok-printed.ensures.printed ∙ ap (λ x. x ++ printing (events_told c.args.walk.now.number c.print_next.new.walk c.in_ok-printed.printed.told)) c.new.ensures.items in
+    let same = c.in_ok-printed.ensures.printed ∙ ap (λ x. x ++ printing (events_of_line c.args.walk.now.number c.print_next.new.walk c.in_ok-printed.printed.told)) c.new.ensures.items in
     list_refuses c.as_slice.result.now c.args.walk.now c.print_next.new.walk c.args.line.now c.in_ok-printed.printed.told c.args.listed.now.task c.args.listed.now.areas c.in_ok-printed.ensures.served c.requires.list c.requires.bounds c.in_ok-printed.printed.text.items same
     (lines_of c.args.behind.now) c.args.left.now c.requires.questions (λ rest e. false_true (sym differs ∙ c.begins-passes.ensures.no rest (e ∙ ap (λ x. x ++ rest) (sym c.as_slice-2.ensures.value)))) none
 
 pub returns-clause-decided : goal.returns-clause-decided
 returns-clause-decided c = λ passes.
-    let same = c.in_ok-printed.ensures.printed ∙ ap (λ x. x ++ printing (events_told c.args.walk.now.number c.print_next.new.walk c.in_ok-printed.printed.told)) c.new.ensures.items in
+    let same = c.in_ok-printed.ensures.printed ∙ ap (λ x. x ++ printing (events_of_line c.args.walk.now.number c.print_next.new.walk c.in_ok-printed.printed.told)) c.new.ensures.items in
     let task = c.args.listed.now.task in
     let areas = c.args.listed.now.areas in
     list_decides c.as_slice.result.now c.args.walk.now c.print_next.new.walk c.args.line.now c.in_ok-printed.printed.told task areas c.in_ok-printed.ensures.served c.requires.list c.requires.bounds c.in_ok-printed.printed.text.items same

@@ -31,14 +31,14 @@ returns-then-not-follows c =
     followed_same c.args.script.now c.args.output.now c.decide.new.walk _ f.at _ f.text.items _ f.passes _ f.ended _ f.open_line p.0 p.1 p.2 p.3 (p.4 ∙ c.number-line_number.ensures)
     (follows_no_more c.args.script.now c.args.output.now _ _ c.in-Some.decided.served.text.items c.lines.at c.lines.done c.in-Some.decided.taken c.lines.walk c.decide.new.walk (take_rest c.args.script.now c.lines.at) (take_rest c.args.output.now c.lines.done) c.lines.invariant.follows
     c.within-behind.result c.within-behind.ensures.rest c.within-behind.ensures.most (let t = n.2 in omega (arith, t, behind, c.lines.invariant.number))
-    c.in-Some.decided.served.goes_on c.in-Some.decided.served.passes c.in-Some.decided.is_open (sym c.follows-follows.ensures ∙ c.if-not-follows.true) d)
+    c.in-Some.decided.served.continues c.in-Some.decided.served.passes c.in-Some.decided.is_open (sym c.follows-follows.ensures ∙ c.if-not-follows.true) d)
 
 pub lines-preserved : goal.lines-preserved
 lines-preserved c =
     let d = some_decided _ _ _ c.in-Some.decided c.in-Some.is c.in_ok-decided.ensures.decided in
     let n = some_decided _ _ _ c.in-Some.decided c.in-Some.is c.in_ok-decided.ensures.taken in
     let f = follows_next c.args.script.now c.args.output.now _ _ c.in-Some.decided.served.text.items c.lines.at c.lines.done c.in-Some.decided.taken c.lines.walk c.decide.new.walk (take_rest c.args.script.now c.lines.at) (take_rest c.args.output.now c.lines.done) c.lines.invariant.follows
-    c.in-Some.decided.served.goes_on c.in-Some.decided.served.passes c.in-Some.decided.is_open (sym c.follows-follows.ensures ∙ c.if-not-follows.false) d in
+    c.in-Some.decided.served.continues c.in-Some.decided.served.passes c.in-Some.decided.is_open (sym c.follows-follows.ensures ∙ c.if-not-follows.false) d in
     let len : length c.as_slice.result.now ≡ length c.in-Some.decided.served.text.items = ap length c.as_slice.ensures.value in
     record {
       follows = subst (λ n. Follows c.args.script.now c.args.output.now (c.lines.at + c.in-Some.decided.taken) (c.lines.done + n) c.decide.new.walk) (sym len) f.0;

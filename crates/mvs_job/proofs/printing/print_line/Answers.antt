@@ -1,5 +1,5 @@
 use Rattle.mvs_model.specs.Answers.{Region, Told}
-use Rattle.mvs_job.specs.Telling.{ended}
+use Rattle.mvs_job.specs.LineEvents.{ended}
 use Rattle.mvs_job.proofs.Serving.{then_printed}
 use Rattle.mvs_job.proofs.printing.print_line.Goals as goal
 

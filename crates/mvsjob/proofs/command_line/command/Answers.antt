@@ -1,6 +1,6 @@
 use Rattle.std.proofs.Common.{◌≡◌, ◌∙◌, ap, codes}
 use Rattle.clap.specs.Words.{app_of, with_rule}
-use Rattle.mvsjob.specs.CommandLine.{AreParsers, Parsers, answers_app, checking_app, command, judging_app, random_app, rule_app, telling_app, value_rule}
+use Rattle.mvsjob.specs.CommandLine.{AreParsers, Parsers, answers_app, checking_app, command, judging_app, random_app, rule_app, output_app, value_rule}
 use Rattle.mvsjob.proofs.Assigning.{if_ok}
 use Rattle.mvsjob.proofs.command_line.command.Goals as goal
 
@@ -14,7 +14,7 @@ returns c =
     let random = c.in_ok-random.ensures ∙ ap random_app (c.in_ok-judged.ensures ∙ ap judging_app (c.in_ok-answered.ensures ∙ ap answers_app reported)) in
     let profiled = c.in_ok-profiled.ensures in
     let whole = profiled.2 ∙ ap (λ a. with_rule a (value_rule (codes "profile") profiled.0)) random in
-    let telling = c.in_ok-telling.ensures ∙ ap telling_app whole in
+    let telling = c.in_ok-telling.ensures ∙ ap output_app whole in
     let color = c.in_ok-colored.ensures in
     let colored = color.2 ∙ ap (λ a. with_rule a (value_rule (codes "color") color.0)) telling in
     let code = c.in_ok-coded.ensures in

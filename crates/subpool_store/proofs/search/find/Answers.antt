@@ -1,7 +1,7 @@
 use Rattle.std.proofs.Common.{◌≡◌, ◌≤◌, length, ◌∙◌, None, refl, sym, subst}
 use Rattle.mvs_model.specs.Place.{PlaceValue}
 use Rattle.subpool_store.specs.Walk.{looked_at}
-use Rattle.subpool_store.specs.Search.{may_take, BehindBest, Beats, IsCandidate}
+use Rattle.subpool_store.specs.Search.{may_take, CandidatesAfterBest, Beats, IsCandidate}
 use Rattle.subpool_store.proofs.Begun.{counted_some, counted_within, least_length}
 use Rattle.subpool_store.proofs.Scan.{best_anywhere, best_behind, best_found, best_of_all}
 use Rattle.subpool_store.proofs.search.find.Goals as goal
@@ -11,7 +11,7 @@ runs-init c =
     let test = may_take c.args.memory.now.held c.args.pages.now c.args.subpool in record {
       walk = c.new-walk.ensures.walk;
       found = tt;
-      behind = subst (BehindBest test c.args.first c.args.want.now None) (sym c.new-walk.ensures.start) (best_anywhere test c.args.first c.args.want.now c.only_length-only.ensures.wanted.some);
+      behind = subst (CandidatesAfterBest test c.args.first c.args.want.now None) (sym c.new-walk.ensures.start) (best_anywhere test c.args.first c.args.want.now c.only_length-only.ensures.wanted.some);
     }
 
 pub runs-preserved : goal.runs-preserved

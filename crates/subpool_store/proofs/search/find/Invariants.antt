@@ -1,5 +1,5 @@
 use Rattle.std.proofs.Common.{◌-◌, IfSome, length}
-use Rattle.subpool_store.specs.Search.{may_take, IsCandidate, BehindBest}
+use Rattle.subpool_store.specs.Search.{may_take, IsCandidate, CandidatesAfterBest}
 use Rattle.subpool_store.specs.Walk.{IsWalk}
 use Rattle.subpool_store.proofs.search.find.Given as goal
 
@@ -7,7 +7,7 @@ abbrev pub invariant-runs : goal.invariant-runs
 invariant-runs l = record {
   walk : IsWalk l.memory l.pages l.subpool l.walk;
   found : IfSome l.best (IsCandidate (may_take l.memory.held l.pages l.subpool) l.first l.want);
-  behind : BehindBest (may_take l.memory.held l.pages l.subpool) l.first l.want l.best l.walk.start;
+  behind : CandidatesAfterBest (may_take l.memory.held l.pages l.subpool) l.first l.want l.best l.walk.start;
 }
 
 abbrev pub decreases-runs : goal.decreases-runs

@@ -2,7 +2,7 @@ use Rattle.std.proofs.Common.{◌≡◌, ◌∙◌, ◌+◌, ◌*◌, ◌/◌, �
 use Rattle.std.proofs.lemmas.Bool.{eq-eqb}
 use Rattle.page_map.specs.Owners.{is_usable, owner_of}
 use Rattle.subpool_store.specs.Memory.{IsCursor}
-use Rattle.subpool_store.specs.Walk.{Stands, entry_of}
+use Rattle.subpool_store.specs.Walk.{IsPassing, entry_of}
 use Rattle.subpool_store.proofs.Begun.{ending_counted, free_passes, inside_counted}
 use Rattle.subpool_store.proofs.Entries.{own_entry}
 use Rattle.subpool_store.proofs.Passed.{held_fails}
@@ -46,6 +46,6 @@ returns c =
       passes = λ i after before.
           let here : i / 512 ≡ from / 512 = omega (arith, after, before, run.after, run.within) in
           free_passes m.held pages s i (omega (arith, before, ends, low, sizes)) (run.free i after before) (ap (λ p. is_usable s (owner_of pages p)) here ∙ ap (is_usable s) c.requires.own ∙ eq-eqb s s refl);
-      stands = subst (λ at. Stands m pages s at c.entry-entry.result c.queue_of.result) ends c.queue_of.ensures;
+      stands = subst (λ at. IsPassing m pages s at c.entry-entry.result c.queue_of.result) ends c.queue_of.ensures;
       counted = ending_counted m pages s from start end low c.requires.own c.requires.fresh run c.args.counted.steps c.entry-entry.new.self.steps c.requires.some (omega (arith, ends)) c.entry-entry.ensures.counted;
     }

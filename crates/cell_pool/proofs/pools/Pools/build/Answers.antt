@@ -13,7 +13,7 @@ use Rattle.mvs_model.proofs.PoolPut.{put_here}
 use Rattle.cell_pool.specs.Layout.{head_length}
 use Rattle.cell_pool.specs.Roots.{pools_of}
 use Rattle.cell_pool.proofs.Only.{nobody}
-use Rattle.cell_pool.proofs.Telling.{first_behind}
+use Rattle.cell_pool.proofs.Telling.{is_first_after}
 use Rattle.mvs_model.specs.declared.want.Side.{Side}
 use Rattle.cell_pool.proofs.Pooled.{is_fresh, has_room, in_use, too_many, no_room}
 use Rattle.cell_pool.proofs.Built.{built, built_agrees, built_counted, fill_is, lays_is, no_root}
@@ -88,7 +88,7 @@ returns-clause-told c a e q chosen first =
     let st = c.args.store.now.storage in
     let now = c.args.plan.now in
     let told = subst (λ (plan : Plan). (q : PlaceValue) → c.args.told ≡ Some (q.addr + head_length plan.primary) → Chosen st.regions (holder st) c.args.subpool (part_want plan.cell_size plan.primary plan.side) q → Some c.in-Some.place ≡ Some q) c.plan.view_is c.in-Some.ensures.told in
-    let here : Some c.in-Some.place ≡ Some q = told q (e ∙ ap Some (first ∙ first_behind (new_pool c.args.subpool now) now.primary _ _ q chosen)) chosen in
+    let here : Some c.in-Some.place ≡ Some q = told q (e ∙ ap Some (first ∙ is_first_after (new_pool c.args.subpool now) now.primary _ _ q chosen)) chosen in
     let same : c.in-Some.place ≡ q = cc in
     let put = subst (λ (plan : Plan). get (pools_of c.insert.new.self c.lay_out.new.store.storage) c.args.name.now ≡ Some (with_part (new_pool c.args.subpool plan) plan.primary c.in-Some.place)) c.plan.view_is
     (put_here (state_of st nobody (pools_of c.args.self.now st)) (state_of c.lay_out.new.store.storage nobody (pools_of c.insert.new.self c.lay_out.new.store.storage)) c.args.name.now _ (built_there c nobody nobody).pools) in

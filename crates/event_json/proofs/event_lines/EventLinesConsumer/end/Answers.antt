@@ -1,4 +1,4 @@
-use Rattle.mvs_job.specs.Telling.{ended}
+use Rattle.mvs_job.specs.LineEvents.{ended}
 use Rattle.mvs_job.specs.declared.consumer.End.TheVariants as end
 use Rattle.event_json.specs.Lines.{step_end}
 use Rattle.event_json.proofs.Written.{accepts_end, ended_lines}

@@ -1,45 +1,45 @@
 use Rattle.std.proofs.Common.{◌≡◌, Ok, Err, Result, inl, inr, subst, sym}
 use Rattle.mvs_job.specs.declared.printing.Stop.{Stop}
 use Rattle.mvs_job.specs.declared.printing.Stop.TheVariants.{Memory, Write}
-use Rattle.mvs_job.specs.declared.walk.LineTold.{LineTold}
+use Rattle.mvs_job.specs.declared.walk.LineEvent.{LineEvent}
 use Rattle.mvs_job.specs.Serving.{RunsLine}
-use Rattle.mvs_job.specs.Explaining.{behind_said}
+use Rattle.mvs_job.specs.Explaining.{explanation_text}
 use Rattle.mvs_job.specs.Naming.{KeepsLines}
-use Rattle.mvs_job.specs.Telling.{events_told}
+use Rattle.mvs_job.specs.LineEvents.{events_of_line}
 use Rattle.mvs_job.proofs.Behind.{stands_behind}
-use Rattle.mvs_job.proofs.apart.Explainer.serve.Goals.{in-Ok-print_behind, in-Err-print_behind}
+use Rattle.mvs_job.proofs.apart.Explainer.serve.Goals.{in-Ok-print_explanation, in-Err-print_explanation}
 use Rattle.mvs_job.proofs.apart.Explainer.serve.Goals as goal
 
 pub returns : goal.returns
-returns g c = elim c.match-print_behind.branch [
-  | in-Ok-print_behind w ↦
+returns g c = elim c.match-print_explanation.branch [
+  | in-Ok-print_explanation w ↦
       let set = c.self.inside.explained.lines in
-      let p = w.in-Ok-print_behind.ensures.printed c.args.walk.now.number in
+      let p = w.in-Ok-print_explanation.ensures.printed c.args.walk.now.number in
       rw (w.result-is, ← c.self.view_is) (record {
         told = c.in-Ok.ensures.ran.0;
         printed = c.in-Ok.ensures.ran.1;
-        behind = stands_behind _ _ c.args.walk.now set c.args.line.now c.tell.new.walk c.in-Ok.told (behind_said c.tell.new.self (events_told c.args.walk.now.number c.tell.new.walk c.in-Ok.told) c.tell.new.walk.step) p.bytes c.in-Ok.ensures.behind;
-        lines = subst (λ later. KeepsLines c.args.walk.now set c.args.line.now c.tell.new.walk c.in-Ok.told later) (sym c.print_behind.ensures.lines) c.in-Ok.ensures.lines;
-        lent = c.in-Ok.ensures.lent;
+        behind = stands_behind _ _ c.args.walk.now set c.args.line.now c.tell.new.walk c.in-Ok.told (explanation_text c.tell.new.self (events_of_line c.args.walk.now.number c.tell.new.walk c.in-Ok.told) c.tell.new.walk.step) p.bytes c.in-Ok.ensures.behind;
+        lines = subst (λ later. KeepsLines c.args.walk.now set c.args.line.now c.tell.new.walk c.in-Ok.told later) (sym c.print_explanation.ensures.lines) c.in-Ok.ensures.lines;
+        full_answer = c.in-Ok.ensures.full_answer;
         number = c.in-Ok.ensures.number;
         memory = λ e. absurd (is_ok Memory e);
         write = λ e. absurd (is_ok Write e);
       })
-  | in-Err-print_behind w ↦ rw (w.result-is) (record {
+  | in-Err-print_explanation w ↦ rw (w.result-is) (record {
     told = tt;
     printed = tt;
     behind = tt;
     lines = tt;
-    lent = tt;
+    full_answer = tt;
     number = c.in-Ok.ensures.number;
     memory = λ e. absurd (is_write e);
-    write = λ e. inr (w.in-Err-print_behind.ensures.printed c.args.walk.now.number).err;
+    write = λ e. inr (w.in-Err-print_explanation.ensures.printed c.args.walk.now.number).err;
   })
 ] where
-  is_write : (◌≡◌ {A = Result LineTold Stop} (Err Write) (Err Memory)) → ⊥
+  is_write : (◌≡◌ {A = Result LineEvent Stop} (Err Write) (Err Memory)) → ⊥
   is_write e = cc
 
-  is_ok : (stop : Stop) → (◌≡◌ {A = Result LineTold Stop} (Ok c.in-Ok.told) (Err stop)) → ⊥
+  is_ok : (stop : Stop) → (◌≡◌ {A = Result LineEvent Stop} (Ok c.in-Ok.told) (Err stop)) → ⊥
   is_ok stop e = cc
 
 -- where the line itself stopped

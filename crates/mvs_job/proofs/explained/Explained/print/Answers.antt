@@ -19,4 +19,4 @@ returns-in-Faulted-clause-printed g c = rw (told_faulted c.args.self.now c.args.
 pub returns-clause-printed : goal.returns-clause-printed
 returns-clause-printed g c =
     rw (told_behind c.args.self.now c.args.number c.args.walk.now c.args.told.now c.in_default.not-Faulted)
-    (both_written g.W.Write.contents c.args.writer.now c.print_line.new.writer c.print_behind.new.writer c.in_ok-print_line.field-0 c.print_behind.result _ _ c.in_ok-print_line.ensures (c.print_behind.ensures.printed c.args.number))
+    (both_written g.W.Write.contents c.args.writer.now c.print_line.new.writer c.print_explanation.new.writer c.in_ok-print_line.field-0 c.print_explanation.result _ _ c.in_ok-print_line.ensures (c.print_explanation.ensures.printed c.args.number))

@@ -1,8 +1,8 @@
 use Rattle.std.proofs.Common.{[], refl, subst, sym, ◌∙◌, ap}
 use Rattle.mvs_job.specs.declared.explained.Explained.{Explained}
-use Rattle.mvs_job.specs.Explaining.{IsBehind, behind_said}
-use Rattle.mvs_job.specs.Granting.{IsReadIn, tells_grant}
-use Rattle.mvs_job.specs.Telling.{events_told}
+use Rattle.mvs_job.specs.Explaining.{IsExplanationText, explanation_text}
+use Rattle.mvs_job.specs.Granting.{IsReadIn, reports_grant}
+use Rattle.mvs_job.specs.LineEvents.{events_of_line}
 use Rattle.mvs_job.specs.Why.{OfNext, line_reason}
 use Rattle.request_forms.specs.Taking.{Takes}
 use Rattle.mvs_job.proofs.Kept.{keeps_lines, stops_naming}
@@ -33,10 +33,10 @@ returns-in-Ok-keep-clause-behind c =
     let mid = c.look_at.new.self in
     let after = c.observed_line.new.observer in
     let x = c.keep.new.self in
-    let events = events_told w.number w' c.in-Ok.told in
+    let events = events_of_line w.number w' c.in-Ok.told in
     let tells = told_by (Takes []) w w' line c.in-Ok.told c.in-Ok.ensures.told in
     let look = looking_begun w.step set c.begin.new.self line mid c.begin.ensures c.look_at.ensures.looking in
-    subst (λ (y : Explained). IsBehind w.step set line events w'.step (behind_said y events w'.step)) (kept_same set line mid after x.lines x (line_reason w'.step after.why.read after.why.reason c.in-Ok.told) c.keep.ensures.why c.keep.ensures.naming c.keep.ensures.reason refl)
+    subst (λ (y : Explained). IsExplanationText w.step set line events w'.step (explanation_text y events w'.step)) (kept_same set line mid after x.lines x (line_reason w'.step after.why.read after.why.reason c.in-Ok.told) c.keep.ensures.why c.keep.ensures.naming c.keep.ensures.reason refl)
     ((kept_behind set line mid after x.lines w w' look c.in-Ok.told tells c.in-Ok.ensures.observed).0)
 
 pub returns-in-Ok-keep-clause-reason : goal.returns-in-Ok-keep-clause-reason
@@ -49,7 +49,7 @@ returns-in-Ok-keep-clause-reason c =
     let after = c.observed_line.new.observer in
     let tells = told_by (Takes []) w w' line c.in-Ok.told c.in-Ok.ensures.told in
     let look = looking_begun w.step set c.begin.new.self line mid c.begin.ensures c.look_at.ensures.looking in
-    subst (λ r. OfNext w.step line (events_told w.number w' c.in-Ok.told) r) (sym c.keep.ensures.reason) ((kept_behind set line mid after c.keep.new.self.lines w w' look c.in-Ok.told tells c.in-Ok.ensures.observed).1)
+    subst (λ r. OfNext w.step line (events_of_line w.number w' c.in-Ok.told) r) (sym c.keep.ensures.reason) ((kept_behind set line mid after c.keep.new.self.lines w w' look c.in-Ok.told tells c.in-Ok.ensures.observed).1)
 
 pub returns-in-Err-keep-clause-told : goal.returns-in-Err-keep-clause-told
 returns-in-Err-keep-clause-told c =
@@ -59,5 +59,5 @@ returns-in-Err-keep-clause-told c =
     let tells = told_by (Takes []) w w' c.args.line.now c.in-Ok.told c.in-Ok.ensures.told in
     let stays = line_keeps w.step w' c.args.line.now c.look_at.new.self after c.in-Ok.told c.in-Ok.ensures.observed in
     let lacks = c.in-Err-keep.ensures.err in
-    let grant = ap (λ n. tells_grant (events_told n w' c.in-Ok.told)) (sym c.number-number.ensures) ∙ lacks.1 in
+    let grant = ap (λ n. reports_grant (events_of_line n w' c.in-Ok.told)) (sym c.number-number.ensures) ∙ lacks.1 in
     stops_naming w w' c.args.line.now after.why.read (subst (IsReadIn w.step c.args.line.now) (sym stays.0) c.look_at.ensures.looking.read) c.in-Ok.told tells lacks.0 grant

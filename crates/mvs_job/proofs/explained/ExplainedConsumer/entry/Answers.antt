@@ -1,11 +1,11 @@
 use Rattle.std.proofs.Common.{subst, sym, ◌∙◌, ap}
 use Rattle.std.proofs.KnownBytes.{Keeps-refl}
 use Rattle.mvs_job.specs.Explained.{set_by_entries}
-use Rattle.mvs_job.specs.Explaining.{told_text}
+use Rattle.mvs_job.specs.Explaining.{text_of_event}
 use Rattle.mvs_job.specs.Granting.{IsReadIn}
 use Rattle.mvs_job.specs.Looking.{IsLooking}
-use Rattle.mvs_job.specs.Naming.{set_behind}
-use Rattle.mvs_job.specs.Telling.{events_told}
+use Rattle.mvs_job.specs.Naming.{names_after}
+use Rattle.mvs_job.specs.LineEvents.{events_of_line}
 use Rattle.mvs_job.proofs.Behind.{line_keeps}
 use Rattle.mvs_job.proofs.ExplainedLine.{explained_text, needs_names, set_next}
 use Rattle.mvs_job.proofs.Serving.{err_of}
@@ -36,8 +36,8 @@ returns-in-Ok-print-clause-accepted g c first mid history e is seen observed kno
     let read_in = subst (IsReadIn e.before line) (sym stays.0) seen.read in
     let look = subst (λ set. IsLooking e.before set line mid) known seen in
     let may = explained_text n line w e (set_by_entries history) mid after x look c.keep.ensures.why c.keep.ensures.naming t c.keep.ensures.reason is observed in
-    let set = ap (λ s. set_behind n s after.why.read (events_told n w t)) (stays.1 ∙ known) ∙ set_next n line w e history after.why.read read_in t is in
-    ((told_text x n w t, may, c.in-Ok-print.ensures.printed.bytes), c.print.ensures.lines ∙ c.in-Ok.ensures.lines ∙ set)
+    let set = ap (λ s. names_after n s after.why.read (events_of_line n w t)) (stays.1 ∙ known) ∙ set_next n line w e history after.why.read read_in t is in
+    ((text_of_event x n w t, may, c.in-Ok-print.ensures.printed.bytes), c.print.ensures.lines ∙ c.in-Ok.ensures.lines ∙ set)
 
 pub returns-in-Err-clause-accepted : goal.returns-in-Err-clause-accepted
 returns-in-Err-clause-accepted g c first mid history e is seen observed known =
@@ -51,4 +51,4 @@ returns-in-Err-clause-accepted g c first mid history e is seen observed known =
     let read_in = subst (IsReadIn e.before line) (sym stays.0) seen.read in
     let look = subst (λ set. IsLooking e.before set line mid) known seen in
     let may = explained_text n line w e (set_by_entries history) mid after x look c.keep.ensures.why c.keep.ensures.naming t c.keep.ensures.reason is observed in
-    ((told_text x n w t, may, c.in-Err.ensures.printed.bytes), tt)
+    ((text_of_event x n w t, may, c.in-Err.ensures.printed.bytes), tt)

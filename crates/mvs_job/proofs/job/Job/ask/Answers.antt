@@ -4,12 +4,12 @@ use Rattle.mvs_model.specs.Answers.{Answer}
 use Rattle.mvs_model.specs.Job.{JobValue}
 use Rattle.mvs_model.specs.Memory.{SetsName}
 use Rattle.mvs_model.specs.Resolving.{all_set, names_set, places_in, resolved}
-use Rattle.mvs_model.specs.Lent.{fallen_in, lent}
+use Rattle.mvs_model.specs.FullAnswers.{ended_with_in, full_answer}
 use Rattle.mvs_model.specs.Runs.{Asks, Makes}
 use Rattle.mvs_model.specs.Steps.{Step}
 use Rattle.request_forms.specs.Taking.{Takes}
 use Rattle.mvs_job.specs.Observing.{Fails, Passes}
-use Rattle.mvs_job.specs.Telling.{Replies}
+use Rattle.mvs_job.specs.LineEvents.{Replies}
 use Rattle.mvs_job.proofs.Serving.{made, made_by, err_of}
 use Rattle.mvs_job.proofs.Observed.{heard_said, unheard}
 use Rattle.mvs_job.proofs.Resolved.{areas_fit, answer_same, answer_lent}
@@ -60,11 +60,11 @@ returns-clause-reply g c =
     let resolves = ap (λ (j : JobValue). resolved j.names a) (sym c.self.view_is) ∙ c.in-Some.ensures in
     let m = made_by (Replies reply) old t a r reply new step refl names (ap (λ (j : JobValue). j.abended) view ∙ rest.2) (ap (λ (j : JobValue). j.former) view ∙ rest.1) in
     let told = c.answer_of.ensures.answer st t ∙ answer_same old.state t a r reply st step in
-    subst (λ o. MatchOption o (reply ≡ c.args.reply.now) (λ asked. Makes (Replies reply) old t a asked (lent st (fallen_in reply) t c.answer_of.result) new)) (sym resolves)
+    subst (λ o. MatchOption o (reply ≡ c.args.reply.now) (λ asked. Makes (Replies reply) old t a asked (full_answer st (ended_with_in reply) t c.answer_of.result) new)) (sym resolves)
     (subst (λ answer. Makes (Replies reply) old t a r answer new) (sym told) m)
 
-pub returns-clause-lent : goal.returns-clause-lent
-returns-clause-lent g c =
+pub returns-clause-full_answer : goal.returns-clause-full_answer
+returns-clause-full_answer g c =
     let step = subst (λ x. Step c.args.self.now.state c.args.task.now c.resolve.new.request c.settle_or_do.new.reply x) (ap (λ (j : JobValue). j.state) (sym c.self-2.view_is)) c.settle_or_do.ensures.step in
     answer_lent c.args.self.now.state c.args.task.now c.resolve.new.request c.settle_or_do.new.reply c.self-2.inside.step.state c.answer_of.result step c.answer_of.ensures.shown
 
@@ -78,7 +78,7 @@ returns-clause-observed g c =
     let reply = c.settle_or_do.new.reply in
     let st = c.self-2.inside.step.state in
     let resolves = ap (λ (j : JobValue). resolved j.names a) (sym c.self.view_is) ∙ c.in-Some.ensures in
-    subst (λ o. MatchOption o (c.settle_or_do.new.observer ≡ c.args.observer.now) (λ asked. Passes c.args.observer.now old t asked (lent st (fallen_in reply) t c.answer_of.result) c.settle_or_do.new.observer ⊎ Fails g.O.Observer.heard c.args.observer.now old t asked (lent st (fallen_in reply) t c.answer_of.result) c.settle_or_do.new.observer)) (sym resolves)
+    subst (λ o. MatchOption o (c.settle_or_do.new.observer ≡ c.args.observer.now) (λ asked. Passes c.args.observer.now old t asked (full_answer st (ended_with_in reply) t c.answer_of.result) c.settle_or_do.new.observer ⊎ Fails g.O.Observer.heard c.args.observer.now old t asked (full_answer st (ended_with_in reply) t c.answer_of.result) c.settle_or_do.new.observer)) (sym resolves)
     (subst (λ (y : Answer). Passes c.args.observer.now old t r y c.settle_or_do.new.observer ⊎ Fails g.O.Observer.heard c.args.observer.now old t r y c.settle_or_do.new.observer) (sym (c.answer_of.ensures.answer st t))
     (heard_said g.O.Observer.heard c.args.observer.now c.settle_or_do.new.observer old t a r reply c.settle_or_do.new.self.state st c.requires.active c.settle_or_do.ensures.observed))
 

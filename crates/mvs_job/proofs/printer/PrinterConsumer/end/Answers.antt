@@ -1,4 +1,4 @@
-use Rattle.mvs_job.specs.Telling.{closing, ended}
+use Rattle.mvs_job.specs.LineEvents.{closing, ended}
 use Rattle.mvs_job.specs.declared.consumer.End.TheVariants as end
 use Rattle.mvs_job.proofs.Printed.{prints_end}
 use Rattle.mvs_job.proofs.printer.PrinterConsumer.end.Goals as goal

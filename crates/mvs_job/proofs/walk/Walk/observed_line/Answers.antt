@@ -1,8 +1,8 @@
 use Rattle.std.proofs.Common.{Ok, Some, refl, sym, ap, subst, ◌∙◌, []}
 use Rattle.mvs_model.specs.Memory.{TakesMemory}
 use Rattle.mvs_model.specs.declared.line.Line.TheVariants as line
-use Rattle.job_script.specs.Said.{filled}
-use Rattle.mvs_job.specs.Telling.{WalkValue}
+use Rattle.job_script.specs.LineMeaning.{filled}
+use Rattle.mvs_job.specs.LineEvents.{WalkValue}
 use Rattle.request_forms.specs.Taking.{Takes}
 use Rattle.mvs_job.proofs.Serving.{first_is, said_so, told_answered, stops_at_request}
 use Rattle.mvs_job.proofs.walk.Walk.observed_line.Goals as goal
@@ -33,5 +33,5 @@ returns-clause-observed g c =
     let said = said_so c.is_none.result _ c.args.line.now read (line.Statement c.in-Statement.task c.in-Statement.statement) (first_is c.self.inside.job c.is_none.result c.is_none.ensures) c.read_line.ensures.reading (ap (filled c.read_line.new.read) c.in-Ok.is ∙ ap (λ x. Ok x) c.in-Statement.is) in
     rw (← c.self.view_is) (c.in-Statement.statement, c.in-Some-job.job, c.serve-served.new.self, said, c.in-Some-job.is, refl, c.in-Ok-served.ensures.observed)
 
-pub returns-clause-lent : goal.returns-clause-lent
-returns-clause-lent g c = (c.serve-served.new.self, refl, c.in-Ok-served.ensures.lent)
+pub returns-clause-full_answer : goal.returns-clause-full_answer
+returns-clause-full_answer g c = (c.serve-served.new.self, refl, c.in-Ok-served.ensures.full_answer)

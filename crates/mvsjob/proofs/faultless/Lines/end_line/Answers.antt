@@ -7,7 +7,7 @@ returns-in-Ok-clause-passed g c = passed_whole c.args.self.now.first c.args.self
 pub returns-in-Ok-clause-first : goal.returns-in-Ok-clause-first
 returns-in-Ok-clause-first g c =
     let said = rw (c.bytes.ensures) at c.in-Ok.ensures.reading in
-    behind_whole c.args.self.now.first _ c.args.self.now.line c.read_line.new.read said (c.says_nothing.ensures _ _ said)
+    behind_whole c.args.self.now.first _ c.args.self.now.line c.read_line.new.read said (c.is_blank_or_comment.ensures _ _ said)
 
 pub returns-in-Err-clause-passed : goal.returns-in-Err-clause-passed
 returns-in-Err-clause-passed g c = passed_none c.args.self.now.first c.args.self.now.line c.clear.new.self c.args.self.now.given c.in-Err.fault (rw (c.bytes.ensures) at c.in-Err.ensures.reading) c.requires

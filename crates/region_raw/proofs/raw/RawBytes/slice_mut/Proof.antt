@@ -1,13 +1,13 @@
 -- `slice_mut` lends a run of bytes to write. Assumes `Logic`.
 use Rattle.region_raw.proofs.Walks.{◌≡◌, ℕ, ◌+◌, List, [], ◌∷◌, length, refl, sym, ◌∙◌, arith, w64, MutBor, proved, full_share, SProp, id⊢, never, emp, GName, ftrue, fat, flft, named, Val, fact, fact_i, tables, ‵, raw, ◌⊛◌, some, later, at_ret, ◌$◌, ◌∵◌, !, qed, by, move, keep, use1, split, split3, join, fsplit, fsplit3, fjoin, flt_l, pick, await, rewrite, suffices, frame, group, whole, sub, agg, enter, of_opd, bin, stop, fld, no_more, and_then, first, blocks, exec, returns, alloc_all, pass_all, free_all, look_at, get, get_in, sets, sets_last, take_at, give_at, env, Array, u8, usize, yes, no, follows, layout, uint_vals, uint_Tells, owns, Ptr, in_a_block, MutRef, mut_vals, mut_Tells, plain, mut_ref_to, MutSlice, slice_val, nothing, opens, heard, Stays, walk_of, stay_dropped, Goes-dropped, Goes-spent_ref, ends_at}
 use Rattle.region_raw.specs.Rows.{IsRun, run}
-use Rattle.region_raw.specs.LendsRaw.{with_run}
+use Rattle.region_raw.specs.BorrowsRaw.{with_run}
 use Rattle.region_raw.specs.Ownership.{owned}
 use Rattle.region_raw.specs.contracts.raw.RawBytes.slice_mut as f
 use Rattle.region_raw.proofs.Runs.{length-run}
 use Rattle.region_raw.proofs.Starts.{StartRow, word, word_tells, good}
 use Rattle.region_raw.proofs.LendTwo.{BytesRow}
-use Rattle.region_raw.proofs.LendOne.{Lent, lends}
+use Rattle.region_raw.proofs.LendOne.{Lent, has_long_data}
 use Rattle.region_raw.proofs.raw.RawBytes.slice_mut.Statement.{statement}
 use Rattle.region_raw.proofs.raw.RawBytes.slice_mut.Code as code
 
@@ -41,11 +41,11 @@ slice_mut_spec 𝓤 𝓛 𝓜 𝓡 wired =
     let v : Val = slice_val (b, i + o) n in
     let is : slice_val (b, o + i) (length xs) ≡ v = (λ k. slice_val (b, sym at_i k) (long k)) in
     move ! (3 ∷ 4 ∷ 5 ∷ 0 ∷ 1 ∷ 2 ∷ []) $ group ! 6 $
-    use1 𝓛 (later (some (λ (δ : GName). raw (Ends δ)))) (lends 𝓛 κ q rb ro γ d us b o i n xs e filled.0 small filled.1 long (BytesRow.coded.code d) (BytesRow.coded.code d)) $ await ! tt $ pick ! (λ δ.
-    let lent : MutBor (List ℕ) = record { ref_ptr = (b, o + i); ghost_name = δ; now = xs } in
-    use1 𝓛 (‵ ((MutSlice (named 0) κ u8).own_val lent (slice_val (b, o + i) (length xs) ∷ [])) ⊛ (‵ (flft κ q) ⊛ ‵ (follows BytesRow (Array u8 0) γ δ (with_run d i n)))) (id⊢ 𝓤 _) $ split3 ! $
-    rewrite ! 0 (λ (w : Val). ‵ ((MutSlice (named 0) κ u8).own_val lent (w ∷ []))) is refl $
+    use1 𝓛 (later (some (λ (δ : GName). raw (Ends δ)))) (has_long_data 𝓛 κ q rb ro γ d us b o i n xs e filled.0 small filled.1 long (BytesRow.coded.code d) (BytesRow.coded.code d)) $ await ! tt $ pick ! (λ δ.
+    let full_answer : MutBor (List ℕ) = record { ref_ptr = (b, o + i); ghost_name = δ; now = xs } in
+    use1 𝓛 (‵ ((MutSlice (named 0) κ u8).own_val full_answer (slice_val (b, o + i) (length xs) ∷ [])) ⊛ (‵ (flft κ q) ⊛ ‵ (follows BytesRow (Array u8 0) γ δ (with_run d i n)))) (id⊢ 𝓤 _) $ split3 ! $
+    rewrite ! 0 (λ (w : Val). ‵ ((MutSlice (named 0) κ u8).own_val full_answer (w ∷ []))) is refl $
     returns ! (look_at ! 0 refl) $ free_all ! refl $ keep ! (0 ∷ 1 ∷ 2 ∷ []) $
-    suffices ! _ (ends_at 𝓛 f.ended stayed c y v lent (tt, (tt, (tt, (tt, tt)))) (tt, (tt, (tt, (tt, tt))))) $
+    suffices ! _ (ends_at 𝓛 f.ended stayed c y v full_answer (tt, (tt, (tt, (tt, tt)))) (tt, (tt, (tt, (tt, tt))))) $
     nothing ! $ nothing ! $ fjoin ! $ nothing ! $ fjoin ! $ nothing ! $ fjoin ! $ nothing ! $ fjoin ! $ join ! $ nothing ! $ move ! (2 ∷ 0 ∷ []) $ join ! $ join ! $ frame ! $ frame ! $
     by ! (fact_i 𝓤 (xs ≡ xs) (emp 𝓤) refl)))))))))

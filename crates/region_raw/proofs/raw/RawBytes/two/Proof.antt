@@ -1,10 +1,10 @@
 -- `two` lends a run of bytes to read and another to write. Assumes `Logic`.
 use Rattle.region_raw.proofs.Walks.{◌≡◌, ℕ, ◌+◌, List, [], ◌∷◌, length, refl, sym, ◌∙◌, arith, w64, MutBor, proved, full_share, SProp, id⊢, never, emp, Lft, GName, ftrue, fat, flft, named, Val, vstruct, vcons, vnil, fact, fact_i, tables, ‵, raw, ◌⊛◌, some, later, at_ret, ◌$◌, ◌∵◌, !, qed, by, move, keep, use1, split, split3, join, fsplit, fsplit3, fjoin, fpack, feq_i, flt_l, pick, await, rewrite, suffices, frame, group, whole, sub, agg, enter, of_opd, bin, stop, fld, no_more, and_then, first, blocks, exec, returns, alloc_all, pass_all, free_all, look_at, get, get_in, sets, sets_last, take_at, give_at, env, Array, u8, usize, yes, no, follows, layout, uint_vals, uint_Tells, RattleType, Valss, owns, Ptr, in_a_block, Bor, MutRef, mut_vals, mut_Tells, plain, mut_ref_to, MutSlice, ShrSlice, slice_val, nothing, opens, heard, shape, within, tuple_type, Stays, walk_of, says, stay_dropped, Goes-dropped, Goes-spent_ref, ends_at}
 use Rattle.region_raw.specs.Rows.{IsApart, IsRun, run}
-use Rattle.region_raw.specs.LendsRaw.{with_run}
+use Rattle.region_raw.specs.BorrowsRaw.{with_run}
 use Rattle.region_raw.specs.Ownership.{owned}
 use Rattle.region_raw.specs.contracts.raw.RawBytes.two as f
-use Rattle.region_raw.proofs.LendTwo.{BytesRow, Lent, lends}
+use Rattle.region_raw.proofs.LendTwo.{BytesRow, Lent, has_long_data}
 use Rattle.region_raw.proofs.Runs.{length-run}
 use Rattle.region_raw.proofs.Starts.{StartRow, word, word_tells, good}
 use Rattle.region_raw.proofs.raw.RawBytes.two.Statement.{statement}
@@ -49,7 +49,7 @@ two_spec 𝓤 𝓛 𝓜 𝓡 wired =
     let first : Bor (List ℕ) = record { ref_ptr = (b, o + i); now = xs } in
     let v : Val = vstruct (vcons (slice_val (b, i + o) n) (vcons (slice_val (b, j + o) n) vnil)) in
     move ! (3 ∷ 4 ∷ 5 ∷ 0 ∷ 1 ∷ 2 ∷ []) $ group ! 6 $
-    use1 𝓛 (later (some (λ (δ : GName). raw (Ends δ)))) (lends 𝓛 κ q rb ro γ d us b o i j n xs ys e apart source.0 target.0 small source.1 target.1 long_x long_y (BytesRow.coded.code d) (BytesRow.coded.code d)) $ await ! tt $ pick ! (λ δ.
+    use1 𝓛 (later (some (λ (δ : GName). raw (Ends δ)))) (has_long_data 𝓛 κ q rb ro γ d us b o i j n xs ys e apart source.0 target.0 small source.1 target.1 long_x long_y (BytesRow.coded.code d) (BytesRow.coded.code d)) $ await ! tt $ pick ! (λ δ.
     let second : MutBor (List ℕ) = record { ref_ptr = (b, o + j); ghost_name = δ; now = ys } in
     use1 𝓛 (‵ ((ShrSlice (named 0) κ u8).own_val first (slice_val (b, o + i) (length xs) ∷ [])) ⊛ (‵ ((MutSlice (named 0) κ u8).own_val second (slice_val (b, o + j) (length ys) ∷ [])) ⊛ (‵ (flft κ q) ⊛ ‵ (follows BytesRow (Array u8 0) γ δ (with_run d j n))))) (id⊢ 𝓤 _) $ split3 ! $
     nothing ! $ move ! (2 ∷ 0 ∷ []) $ fjoin ! $ move ! (1 ∷ 0 ∷ []) $ fjoin ! $

@@ -2,7 +2,7 @@ use Rattle.std.proofs.Common.{◌≡◌, sym, ◌∙◌, ap, subst, refl}
 use Rattle.std.specs.Prelude.{ℕ, IfSome, MatchOption, Some}
 use Rattle.mvs_model.specs.Want.{WantValue}
 use Rattle.mvs_model.specs.Changes.{GrantTo, ShortOf}
-use Rattle.mvs_model.specs.Determined.{TakesTold}
+use Rattle.mvs_model.specs.Determined.{FollowsHint}
 use Rattle.mvs_model.specs.Owners.{keeper}
 use Rattle.request_forms.specs.Machine.{machine_state}
 use Rattle.task_owner.specs.Tasks.{name_of}
@@ -54,7 +54,7 @@ returns-in-Some-clause-told c = rw (← c.self.view_is) (
     let wanted = want_seen st (name_of c.self.inside.tasks c.args.t) _ c.args.form c.args.ask.now _ _ _ _ _ refl c.residence.ensures c.loc.ensures c.side.ensures c.form_side.ensures c.want-want.ensures.want in
     let has = sym c.subpool.ensures ∙ c.in-Some.is in
     let t = keeper o (name_of c.self.inside.tasks c.args.t) c.args.number in
-    subst (λ (w : WantValue). IfSome c.obtain.result (λ p. (a : ℕ) → c.args.told ≡ Some a → TakesTold st t c.args.number w a p)) wanted
+    subst (λ (w : WantValue). IfSome c.obtain.result (λ p. (a : ℕ) → c.args.told ≡ Some a → FollowsHint st t c.args.number w a p)) wanted
     (area_takes c.self.inside.pools c.self.inside.store.storage o t c.args.number c.in-Some.subpool c.want-want.result c.args.told c.obtain.result c.self.invariant (its_subpool o t c.args.number c.in-Some.subpool has) c.obtain.ensures.told))
 
 pub returns-in-Some-obtain-clause-told : goal.returns-in-Some-obtain-clause-told
@@ -64,5 +64,5 @@ returns-in-Some-obtain-clause-told c = rw (← c.self.view_is) (
     let wanted = want_seen st (name_of c.self.inside.tasks c.args.t) _ c.args.form c.args.ask.now _ _ _ _ _ refl c.residence.ensures c.loc.ensures c.side.ensures c.form_side.ensures c.want-want.ensures.want in
     let none = sym c.subpool.ensures ∙ c.in-None.is in
     let t = keeper o (name_of c.self.inside.tasks c.args.t) c.args.number in
-    subst (λ (w : WantValue). (a : ℕ) → c.args.told ≡ Some a → TakesTold st t c.args.number w a c.in-Some-obtain.place) wanted
+    subst (λ (w : WantValue). (a : ℕ) → c.args.told ≡ Some a → FollowsHint st t c.args.number w a c.in-Some-obtain.place) wanted
     (area_takes c.self.inside.pools c.self.inside.store.storage o t c.args.number c.spare-subpool.result c.want-want.result c.args.told (Some c.in-Some-obtain.place) c.self.invariant (new_subpool o t c.args.number c.spare-subpool.result none c.spare-subpool.ensures) c.in-Some-obtain.ensures.told))

@@ -1,5 +1,5 @@
 use Rattle.std.proofs.Common.{false, true, ◌≡◌, ◌≤◌, ◌*◌, ◌+◌, length, refl, arith}
-use Rattle.mvs_model.specs.Storage.{LiesIn}
+use Rattle.mvs_model.specs.Storage.{IsBetween}
 use Rattle.subpool_store.specs.Region.{value_at}
 use Rattle.subpool_store.proofs.Methods.{held_inside, holds_cells, cells_held}
 use Rattle.subpool_store.proofs.region_store.RegionStore.holds.Goals as goal
@@ -9,7 +9,7 @@ returns-then-get-self c =
     let s = c.self.inside in (
       λ no. absurd (let e : false ≡ true = no in cc),
       λ held.
-          let inside : LiesIn (8 * s.first) (8 * s.first + 8 * length s.memory.held) c.args.place = held_inside s.first s.memory.held s.pages (value_at s.memory.bytes) c.args.self.now c.self.invariant.0 c.self.view_is c.args.subpool c.args.place _ _ c.requires.whole c.requires.some refl refl held in
+          let inside : IsBetween (8 * s.first) (8 * s.first + 8 * length s.memory.held) c.args.place = held_inside s.first s.memory.held s.pages (value_at s.memory.bytes) c.args.self.now c.self.invariant.0 c.self.view_is c.args.subpool c.args.place _ _ c.requires.whole c.requires.some refl refl held in
           absurd (omega arith),
     )
 
@@ -19,7 +19,7 @@ returns-then-pages-run c =
     let sizes : length s.memory.held ≡ 512 * length s.pages = c.self.invariant.0.exact.sizes in (
       λ no. absurd (let e : false ≡ true = no in cc),
       λ held.
-          let inside : LiesIn (8 * s.first) (8 * s.first + 8 * length s.memory.held) c.args.place = held_inside s.first s.memory.held s.pages (value_at s.memory.bytes) c.args.self.now c.self.invariant.0 c.self.view_is c.args.subpool c.args.place _ _ c.requires.whole c.requires.some refl refl held in
+          let inside : IsBetween (8 * s.first) (8 * s.first + 8 * length s.memory.held) c.args.place = held_inside s.first s.memory.held s.pages (value_at s.memory.bytes) c.args.self.now c.self.invariant.0 c.self.view_is c.args.subpool c.args.place _ _ c.requires.whole c.requires.some refl refl held in
           absurd (omega arith),
     )
 

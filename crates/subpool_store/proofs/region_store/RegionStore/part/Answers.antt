@@ -1,6 +1,6 @@
 use Rattle.std.proofs.Common.{◌≡◌, ◌-◌, ◌+◌, ◌*◌, length, sym, ap, ◌∙◌, arith}
 use Rattle.std.specs.Prelude.{unwrap_or}
-use Rattle.mvs_model.specs.Storage.{LiesIn}
+use Rattle.mvs_model.specs.Storage.{IsBetween}
 use Rattle.subpool_store.specs.Region.{value_at}
 use Rattle.subpool_store.proofs.Methods.{all_inside, part_bytes}
 use Rattle.subpool_store.proofs.Parts.{part_of_held}
@@ -9,7 +9,7 @@ use Rattle.subpool_store.proofs.region_store.RegionStore.part.Goals as goal
 pub overflow_sub-from : goal.overflow_sub-from
 overflow_sub-from c =
     let s = c.self.inside in
-    let inside : LiesIn (8 * s.first) (8 * s.first + 8 * length s.memory.held) c.args.place = all_inside s.first s.memory.held s.pages (value_at s.memory.bytes) c.args.self.now c.self.view_is c.args.place (omega arith) c.requires in
+    let inside : IsBetween (8 * s.first) (8 * s.first + 8 * length s.memory.held) c.args.place = all_inside s.first s.memory.held s.pages (value_at s.memory.bytes) c.args.self.now c.self.view_is c.args.place (omega arith) c.requires in
     omega arith
 
 pub part-requires : goal.part-requires

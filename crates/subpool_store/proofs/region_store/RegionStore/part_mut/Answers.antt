@@ -1,6 +1,6 @@
 use Rattle.std.proofs.Common.{take, ◌≡◌, ◌-◌, ◌+◌, ◌*◌, length, refl, sym, ap, ◌∙◌, arith}
 use Rattle.std.specs.Prelude.{unwrap_or}
-use Rattle.mvs_model.specs.Storage.{LiesIn}
+use Rattle.mvs_model.specs.Storage.{IsBetween}
 use Rattle.region_raw.specs.Pages.{with_part}
 use Rattle.subpool_store.specs.Region.{value_at}
 use Rattle.subpool_store.specs.Written.{region_written}
@@ -13,7 +13,7 @@ use Rattle.subpool_store.proofs.region_store.RegionStore.part_mut.Goals as goal
 pub overflow_sub-from : goal.overflow_sub-from
 overflow_sub-from c =
     let s = c.self.inside in
-    let inside : LiesIn (8 * s.first) (8 * s.first + 8 * length s.memory.held) c.args.place = all_inside s.first s.memory.held s.pages (value_at s.memory.bytes) c.args.self.now c.self.view_is c.args.place (omega arith) c.requires in
+    let inside : IsBetween (8 * s.first) (8 * s.first + 8 * length s.memory.held) c.args.place = all_inside s.first s.memory.held s.pages (value_at s.memory.bytes) c.args.self.now c.self.view_is c.args.place (omega arith) c.requires in
     omega arith
 
 pub part_mut-requires : goal.part_mut-requires
@@ -31,7 +31,7 @@ returns c =
     let s = c.self.inside in let from = c.get.result - 8 * s.first in let n = c.len-len.result in
     let long : n ≡ c.args.place.len = omega arith in
     let at : c.get.result - 8 * s.first ≡ c.args.place.addr - 8 * s.first = omega arith in
-    let inside : LiesIn (8 * s.first) (8 * s.first + 8 * length s.memory.held) c.args.place = all_inside s.first s.memory.held s.pages (value_at s.memory.bytes) c.args.self.now c.self.view_is c.args.place (omega arith) c.requires in (
+    let inside : IsBetween (8 * s.first) (8 * s.first + 8 * length s.memory.held) c.args.place = all_inside s.first s.memory.held s.pages (value_at s.memory.bytes) c.args.self.now c.self.view_is c.args.place (omega arith) c.requires in (
       (
         refl,
         λ w. lends_region s.first s.memory.held s.pages (value_at s.memory.bytes) (value_at (with_part s.memory.bytes from (take n w))) c.self.invariant.0 c.args.place.addr from inside.0 at (take n w)

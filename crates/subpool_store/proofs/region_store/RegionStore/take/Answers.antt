@@ -1,5 +1,5 @@
 use Rattle.std.proofs.Common.{◌≡◌, ◌+◌, ◌*◌, length, ap, arith}
-use Rattle.mvs_model.specs.Storage.{LiesIn}
+use Rattle.mvs_model.specs.Storage.{IsBetween}
 use Rattle.std.specs.Prelude.{unwrap_or}
 use Rattle.subpool_store.specs.Region.{value_at}
 use Rattle.subpool_store.proofs.Methods.{region_sound, open_free, open_inside, open_usable, take_region, take_changes}
@@ -14,7 +14,7 @@ pub take_run-requires-clause-within : goal.take_run-requires-clause-within
 take_run-requires-clause-within c =
     let s = c.self.inside in
     let sizes : length s.memory.held ≡ 512 * length s.pages = c.self.invariant.0.exact.sizes in
-    let inside : LiesIn (8 * s.first) (8 * s.first + 8 * length s.memory.held) c.args.place = open_inside s.first s.memory.held s.pages (value_at s.memory.bytes) c.args.self.now c.self.invariant.0 c.self.view_is c.args.subpool c.args.place _ _ c.requires.whole c.requires.some c.run_of-run.ensures.start c.run_of-run.ensures.end c.requires.open in
+    let inside : IsBetween (8 * s.first) (8 * s.first + 8 * length s.memory.held) c.args.place = open_inside s.first s.memory.held s.pages (value_at s.memory.bytes) c.args.self.now c.self.invariant.0 c.self.view_is c.args.subpool c.args.place _ _ c.requires.whole c.requires.some c.run_of-run.ensures.start c.run_of-run.ensures.end c.requires.open in
     omega (arith, c.run_of-run.ensures.start, c.run_of-run.ensures.end, c.requires.whole.0, c.requires.whole.1)
 
 pub take_run-requires-clause-free : goal.take_run-requires-clause-free

@@ -1,6 +1,6 @@
 use Rattle.std.proofs.Common.{take, ◌≡◌, ◌-◌, ◌+◌, ◌*◌, length, refl, sym, ap, ◌∙◌, inl, inr, arith}
 use Rattle.std.specs.Prelude.{unwrap_or}
-use Rattle.mvs_model.specs.Storage.{LiesIn}
+use Rattle.mvs_model.specs.Storage.{IsBetween}
 use Rattle.region_raw.specs.Pages.{with_part}
 use Rattle.subpool_store.specs.Region.{value_at}
 use Rattle.subpool_store.specs.Written.{region_written}
@@ -13,13 +13,13 @@ use Rattle.subpool_store.proofs.region_store.RegionStore.two.Goals as goal
 pub overflow_sub-source : goal.overflow_sub-source
 overflow_sub-source c =
     let s = c.self.inside in
-    let inside : LiesIn (8 * s.first) (8 * s.first + 8 * length s.memory.held) c.args.from = all_inside s.first s.memory.held s.pages (value_at s.memory.bytes) c.args.self.now c.self.view_is c.args.from (omega arith) c.requires.source in
+    let inside : IsBetween (8 * s.first) (8 * s.first + 8 * length s.memory.held) c.args.from = all_inside s.first s.memory.held s.pages (value_at s.memory.bytes) c.args.self.now c.self.view_is c.args.from (omega arith) c.requires.source in
     omega arith
 
 pub overflow_sub-target : goal.overflow_sub-target
 overflow_sub-target c =
     let s = c.self.inside in
-    let inside : LiesIn (8 * s.first) (8 * s.first + 8 * length s.memory.held) c.args.to = all_inside s.first s.memory.held s.pages (value_at s.memory.bytes) c.args.self.now c.self.view_is c.args.to (omega arith) c.requires.target in
+    let inside : IsBetween (8 * s.first) (8 * s.first + 8 * length s.memory.held) c.args.to = all_inside s.first s.memory.held s.pages (value_at s.memory.bytes) c.args.self.now c.self.view_is c.args.to (omega arith) c.requires.target in
     omega arith
 
 pub two_parts-requires-clause-source : goal.two_parts-requires-clause-source
@@ -35,8 +35,8 @@ two_parts-requires-clause-target c =
 pub two_parts-requires-clause-apart : goal.two_parts-requires-clause-apart
 two_parts-requires-clause-apart c =
     let s = c.self.inside in
-    let source : LiesIn (8 * s.first) (8 * s.first + 8 * length s.memory.held) c.args.from = all_inside s.first s.memory.held s.pages (value_at s.memory.bytes) c.args.self.now c.self.view_is c.args.from (omega arith) c.requires.source in
-    let target : LiesIn (8 * s.first) (8 * s.first + 8 * length s.memory.held) c.args.to = all_inside s.first s.memory.held s.pages (value_at s.memory.bytes) c.args.self.now c.self.view_is c.args.to (omega arith) c.requires.target in
+    let source : IsBetween (8 * s.first) (8 * s.first + 8 * length s.memory.held) c.args.from = all_inside s.first s.memory.held s.pages (value_at s.memory.bytes) c.args.self.now c.self.view_is c.args.from (omega arith) c.requires.source in
+    let target : IsBetween (8 * s.first) (8 * s.first + 8 * length s.memory.held) c.args.to = all_inside s.first s.memory.held s.pages (value_at s.memory.bytes) c.args.self.now c.self.view_is c.args.to (omega arith) c.requires.target in
     elim c.requires.apart [ inl le ↦ inl (omega (arith, le)) | inr le ↦ inr (omega (arith, le)) ]
 
 pub invariant_of-self-lent : goal.invariant_of-self-lent
@@ -50,7 +50,7 @@ returns c =
     let long : n ≡ c.args.to.len = omega (arith, c.requires.len) in
     let from_is : from ≡ c.args.from.addr - 8 * s.first = omega arith in
     let to_is : to ≡ c.args.to.addr - 8 * s.first = omega arith in
-    let target : LiesIn (8 * s.first) (8 * s.first + 8 * length s.memory.held) c.args.to = all_inside s.first s.memory.held s.pages (value_at s.memory.bytes) c.args.self.now c.self.view_is c.args.to (omega arith) c.requires.target in (
+    let target : IsBetween (8 * s.first) (8 * s.first + 8 * length s.memory.held) c.args.to = all_inside s.first s.memory.held s.pages (value_at s.memory.bytes) c.args.self.now c.self.view_is c.args.to (omega arith) c.requires.target in (
       (
         refl,
         λ w. lends_region s.first s.memory.held s.pages (value_at s.memory.bytes) (value_at (with_part s.memory.bytes to (take n w))) c.self.invariant.0 c.args.to.addr to target.0 to_is (take n w)

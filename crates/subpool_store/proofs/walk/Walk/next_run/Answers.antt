@@ -14,7 +14,7 @@ returns-then-least-run-clause-run c =
       before = c.examine-part.ensures.part.after;
       skipped = fits_join test c.args.least c.args.self.now.start c.parts.self.start self.start c.parts.invariant.none c.examine-part.ensures.none;
       passes = c.examine-part.ensures.walk.passes;
-      stops = skipped self.end (omega arith) (begins_behind part.start self.end (λ is. both_ways _ c.if-not-goes_on.true (c.goes_on.ensures.1 (omega (arith, is)))) c.examine-part.ensures.part.after);
+      stops = skipped self.end (omega arith) (begins_behind part.start self.end (λ is. both_ways _ c.if-not-continues.true (c.continues.ensures.1 (omega (arith, is)))) c.examine-part.ensures.part.after);
       rest = fits_skip test c.args.least self.end self.end part.start c.requires.least (fits_none test c.args.least self.end) skipped;
     }
 
@@ -22,7 +22,7 @@ pub parts-preserved-else-least-run : goal.parts-preserved-else-least-run
 parts-preserved-else-least-run c =
     let test = may_take c.args.memory.now.held c.args.pages.now c.args.subpool in let self = c.examine-part.new.self in let part = c.examine-part.result in
     let skipped = c.examine-part.ensures.part.skipped in
-    let past : self.end < part.start = begins_behind part.start self.end (λ is. both_ways _ c.if-not-goes_on.true (c.goes_on.ensures.1 (omega (arith, is)))) c.examine-part.ensures.part.after in
+    let past : self.end < part.start = begins_behind part.start self.end (λ is. both_ways _ c.if-not-continues.true (c.continues.ensures.1 (omega (arith, is)))) c.examine-part.ensures.part.after in
     let before = fits_join test c.args.least c.args.self.now.start c.parts.self.start self.start c.parts.invariant.none c.examine-part.ensures.none in
     let short : self.end < self.start + c.args.least = omega (arith, c.if-least-run.false, c.examine-part.ensures.walk.ordered) in record {
       walk = record {
@@ -39,7 +39,7 @@ parts-preserved-else-least-run c =
 pub parts-preserved : goal.parts-preserved
 parts-preserved c =
     let test = may_take c.args.memory.now.held c.args.pages.now c.args.subpool in let self = c.examine-part.new.self in let part = c.examine-part.result in let next = c.examine-part.ensures.part in
-    let same = c.goes_on.ensures.0 c.if-not-goes_on.false in
+    let same = c.continues.ensures.0 c.if-not-continues.false in
     let on : part.start ≡ self.end = omega (arith, same) in record {
       walk = record {
         ordered = let low = c.examine-part.ensures.walk.ordered in omega (arith, low, next.farther);

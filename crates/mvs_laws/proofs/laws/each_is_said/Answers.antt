@@ -1,5 +1,0 @@
-use Rattle.mvs_model.proofs.Spellings as spellings
-use Rattle.mvs_laws.proofs.laws.each_is_said.Goals as goal
-
-pub returns : goal.returns
-returns c = spellings.each_is_said

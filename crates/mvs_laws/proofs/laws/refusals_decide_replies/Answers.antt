@@ -1,0 +1,5 @@
+use Rattle.mvs_laws.proofs.Refusals as lemmas
+use Rattle.mvs_laws.proofs.laws.refusals_decide_replies.Goals as goal
+
+pub returns : goal.returns
+returns c = lemmas.refusals_decide_replies

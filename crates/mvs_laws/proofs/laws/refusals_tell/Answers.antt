@@ -1,5 +1,0 @@
-use Rattle.mvs_laws.proofs.Refusals as lemmas
-use Rattle.mvs_laws.proofs.laws.refusals_tell.Goals as goal
-
-pub returns : goal.returns
-returns c = lemmas.refusals_tell

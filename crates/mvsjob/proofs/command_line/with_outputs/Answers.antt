@@ -1,0 +1,12 @@
+use Rattle.std.proofs.Common.{◌≡◌, ◌∙◌, ap, codes}
+use Rattle.clap.specs.Words.{app_of, with_rule}
+use Rattle.mvsjob.specs.CommandLine.{flag_rule, output_app}
+use Rattle.mvsjob.proofs.Assigning.{if_ok}
+use Rattle.mvsjob.proofs.command_line.with_outputs.Goals as goal
+
+pub returns : goal.returns
+returns c =
+    let printing = c.in_ok-printing.ensures ∙ ap (λ a. with_rule a (flag_rule (codes "json"))) c.in_ok-explaining.ensures in
+    let paging = c.in_ok-paging.ensures ∙ ap (λ a. with_rule a (flag_rule (codes "page"))) printing in
+    let strict = c.in_ok-strict.ensures ∙ ap (λ a. with_rule a (flag_rule (codes "strict"))) paging in
+    if_ok c.with_flag-5.result _ (λ new. app_of new ≡ output_app (app_of c.args.command)) c.with_flag-5.ensures (λ new made. made ∙ ap (λ a. with_rule a (flag_rule (codes "interactive"))) strict)

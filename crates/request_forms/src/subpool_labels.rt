@@ -1,0 +1,71 @@
+//! Properties of a step that are reported after a granted request: the free pages, and the subpools of tasks.
+
+ghost use Rattle.std.specs.Prelude.{◌≡◌, None, Some, MatchOption};
+ghost use Rattle.std.specs.FinMap.{get};
+ghost use Rattle.mvs_model.specs.Newest.{IsNewest};
+ghost use Rattle.mvs_model.specs.Pools.{Pool};
+ghost use Rattle.request_forms.specs.SubpoolLabels.{free_above, free_below, label_had, label_meant};
+
+use crate::machine::Machine;
+use mvs_model::name::Name;
+use mvs_model::report::Newest;
+use mvs_model::subpool::SubNo;
+
+/// How many pages of each region hold nothing.
+#[derive(Clone, Copy, Debug, PartialEq, Eq)]
+pub struct FreePages {
+    pub below: u16,
+    pub above: u16,
+}
+
+impl Machine {
+    /// How many pages of each region hold nothing.
+    pub fn free_pages(&self) -> FreePages
+        ensures below { result.below ≡ free_below self.now.state }
+        ensures above { result.above ≡ free_above self.now.state }
+    {
+        FreePages {
+            below: self.store.free_below() as u16,
+            above: self.store.free_above() as u16,
+        }
+    }
+
+    /// The subpool that an active task means by a number that a program may name: the number under which its owner has it, and
+    /// the owner.
+    pub fn label_meant(&self, name: &Name, number: u8) -> Option<(SubNo, Name)>
+        ensures { result ≡ label_meant self.now.state.owners name.now number }
+    {
+        let Some(number) = SubNo::new(number) else {
+            return None;
+        };
+        let Some(t) = self.tasks.find(name) else {
+            return None;
+        };
+        let Some(subpool) = self.tasks.subpool(t, number) else {
+            return None;
+        };
+        self.tasks.label(subpool)
+    }
+
+    /// How many parts the pool of this name has, and which was put to it last. None where no pool has the name.
+    pub fn newest(&self, pool: &Name) -> Option<Newest>
+        ensures { MatchOption result (get self.now.state.pools pool.now ≡ None)
+            (λ newest. (kept : Pool) × (get self.now.state.pools pool.now ≡ Some kept)
+            × IsNewest kept newest) }
+    {
+        self.pools.newest(&self.store, pool)
+    }
+
+    /// Returns the subpool that an active task has for a number: its owner's number for it, and the owner.
+    pub fn label_had(&self, name: &Name, number: SubNo) -> Option<(SubNo, Name)>
+        ensures { result ≡ label_had self.now.state.owners name.now number }
+    {
+        let Some(t) = self.tasks.find(name) else {
+            return None;
+        };
+        let Some(subpool) = self.tasks.entry(t, number) else {
+            return None;
+        };
+        self.tasks.label(subpool)
+    }
+}
