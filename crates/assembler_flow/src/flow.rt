@@ -1,8 +1,8 @@
 //! How a program continues after a statement.
 
 use crate::layout::Layout;
-use crate::operations::{Operation, operation_of};
-use assembler_statements::Statement;
+use crate::operations::{BranchKind, operation_of};
+use assembler_statements::SourceStatement;
 use assembler_symbols::{Symbols, is_symbol, number_of, register_of};
 use std::alloc::{AllocError, Global};
 
@@ -60,7 +60,7 @@ struct Branch<'a> {
     alloc: Global,
     symbols: &'a Symbols,
     layout: &'a Layout,
-    statement: &'a Statement,
+    statement: &'a SourceStatement,
 }
 
 // The register of an address that is nothing but an offset and a register, as `4(,14)` or `0(14)`.
@@ -167,17 +167,17 @@ impl<'a> Branch<'a> {
             None => "",
         };
         match operation_of(&self.statement.operation) {
-            Operation::Branch { is_conditional } => self.to_place(last, is_conditional),
-            Operation::BranchRegister { is_conditional } => self.to_register(last, is_conditional),
-            Operation::Masked => self.masked(false),
-            Operation::MaskedRegister => self.masked(true),
-            Operation::Call => Ok(self.call(self.operand(1), self.register(self.operand(0))?)),
-            Operation::CallRegister => self.call_register(),
-            Operation::CallMacro => Ok(self.call(self.operand(0), Some(RETURN_ADDRESS))),
-            Operation::Return => Ok(Flow::Return),
-            Operation::Abend => Ok(Flow::End),
-            Operation::Svc if self.is_exit()? => Ok(Flow::End),
-            Operation::Svc | Operation::Other => Ok(Flow::On),
+            BranchKind::Branch { is_conditional } => self.to_place(last, is_conditional),
+            BranchKind::BranchRegister { is_conditional } => self.to_register(last, is_conditional),
+            BranchKind::Masked => self.masked(false),
+            BranchKind::MaskedRegister => self.masked(true),
+            BranchKind::Call => Ok(self.call(self.operand(1), self.register(self.operand(0))?)),
+            BranchKind::CallRegister => self.call_register(),
+            BranchKind::CallMacro => Ok(self.call(self.operand(0), Some(RETURN_ADDRESS))),
+            BranchKind::Return => Ok(Flow::Return),
+            BranchKind::Abend => Ok(Flow::End),
+            BranchKind::Svc if self.is_exit()? => Ok(Flow::End),
+            BranchKind::Svc | BranchKind::Other => Ok(Flow::On),
         }
     }
 }
@@ -188,7 +188,7 @@ pub fn flow_of<'a>(
     symbols: &'a Symbols,
     layout: &'a Layout,
     place: usize,
-    statement: &'a Statement,
+    statement: &'a SourceStatement,
 ) -> Result<Flow<'a>, AllocError> {
     if let Some(flow) = layout.structured(place) {
         return Ok(flow);

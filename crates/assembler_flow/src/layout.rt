@@ -2,7 +2,7 @@
 
 use crate::flow::{Flow, Target};
 use crate::structures::{Structured, structures_of};
-use assembler_statements::Statement;
+use assembler_statements::SourceStatement;
 use std::alloc::{AllocError, Global};
 use std::collections::BTreeMap;
 
@@ -19,7 +19,7 @@ pub struct Layout {
 }
 
 /// Returns whether a section of instructions begins.
-pub fn begins_section(statement: &Statement) -> bool {
+pub fn begins_section(statement: &SourceStatement) -> bool {
     matches!(statement.operation.as_str(), "CSECT" | "RSECT" | "START")
 }
 
@@ -35,7 +35,7 @@ impl Layout {
     }
 
     // Takes the statement at a place.
-    fn take(&mut self, place: usize, statement: &Statement) -> Result<(), AllocError> {
+    fn take(&mut self, place: usize, statement: &SourceStatement) -> Result<(), AllocError> {
         if begins_section(statement) {
             self.starts.push(place)?;
         }
@@ -51,7 +51,7 @@ impl Layout {
     }
 
     /// Returns the layout of a source. It fails if memory is exhausted.
-    pub fn find(alloc: Global, statements: &[Statement]) -> Result<Layout, AllocError> {
+    pub fn find(alloc: Global, statements: &[SourceStatement]) -> Result<Layout, AllocError> {
         let mut layout = Layout::new(alloc);
         for (place, statement) in statements.iter().enumerate() {
             layout.take(place, statement)?;

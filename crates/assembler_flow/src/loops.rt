@@ -2,7 +2,7 @@
 
 use crate::flow::{Flow, Target, flow_of};
 use crate::layout::Layout;
-use assembler_statements::Statement;
+use assembler_statements::SourceStatement;
 use assembler_symbols::Symbols;
 use assembler_values::macro_of;
 use std::alloc::{AllocError, Global};
@@ -42,7 +42,7 @@ struct Search<'a> {
 }
 
 // Returns whether a statement is a request, or calls a routine.
-fn may_request(statement: &Statement, flow: Flow<'_>) -> bool {
+fn may_request(statement: &SourceStatement, flow: Flow<'_>) -> bool {
     match flow {
         Flow::Call { .. } | Flow::CallRegister { .. } => true,
         Flow::On
@@ -81,7 +81,7 @@ impl<'a> Search<'a> {
     fn take(
         &mut self,
         place: usize,
-        statement: &Statement,
+        statement: &SourceStatement,
         flow: Flow<'_>,
     ) -> Result<(), AllocError> {
         self.found.counts.push(self.count)?;
@@ -167,7 +167,7 @@ impl Loops {
         alloc: Global,
         symbols: &'a Symbols,
         layout: &'a Layout,
-        statements: &'a [Statement],
+        statements: &'a [SourceStatement],
     ) -> Result<Loops, AllocError> {
         let mut search = Search {
             alloc,

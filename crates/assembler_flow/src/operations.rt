@@ -2,7 +2,7 @@
 
 /// What the operation of a branch is.
 #[derive(Clone, Copy, PartialEq, Eq)]
-pub enum Operation {
+pub enum BranchKind {
     /// It jumps to the place that is its last operand.
     Branch { is_conditional: bool },
     /// It jumps to the address in the register that is its last operand.
@@ -27,21 +27,21 @@ pub enum Operation {
 }
 
 // Operations by what they are.
-const OPERATIONS: &[(Operation, &[&str])] = &[
+const OPERATIONS: &[(BranchKind, &[&str])] = &[
     (
-        Operation::Branch {
+        BranchKind::Branch {
             is_conditional: false,
         },
         &["B", "J", "BRU", "BRUL", "JLU"],
     ),
     (
-        Operation::BranchRegister {
+        BranchKind::BranchRegister {
             is_conditional: false,
         },
         &["BR"],
     ),
     (
-        Operation::Branch {
+        BranchKind::Branch {
             is_conditional: true,
         },
         &[
@@ -49,17 +49,17 @@ const OPERATIONS: &[(Operation, &[&str])] = &[
             "JXLE", "BXHG", "BXLEG",
         ],
     ),
-    (Operation::Masked, &["BC", "BRC", "BRCL", "JC", "JLC"]),
-    (Operation::MaskedRegister, &["BCR"]),
+    (BranchKind::Masked, &["BC", "BRC", "BRCL", "JC", "JLC"]),
+    (BranchKind::MaskedRegister, &["BCR"]),
     (
-        Operation::Call,
+        BranchKind::Call,
         &["BAL", "BAS", "BRAS", "JAS", "BRASL", "JASL"],
     ),
-    (Operation::CallRegister, &["BALR", "BASR"]),
-    (Operation::CallMacro, &["CALL"]),
-    (Operation::Return, &["PR", "RETURN"]),
-    (Operation::Abend, &["ABEND"]),
-    (Operation::Svc, &["SVC"]),
+    (BranchKind::CallRegister, &["BALR", "BASR"]),
+    (BranchKind::CallMacro, &["CALL"]),
+    (BranchKind::Return, &["PR", "RETURN"]),
+    (BranchKind::Abend, &["ABEND"]),
+    (BranchKind::Svc, &["SVC"]),
 ];
 
 // What follows the B, BR, J or JL of a conditional branch.
@@ -98,21 +98,21 @@ fn is_conditional_register(operation: &str) -> bool {
 }
 
 /// Returns what an operation is.
-pub fn operation_of(name: &str) -> Operation {
+pub fn operation_of(name: &str) -> BranchKind {
     for (operation, names) in OPERATIONS {
         if names.contains(&name) {
             return *operation;
         }
     }
     if is_conditional(name) {
-        return Operation::Branch {
+        return BranchKind::Branch {
             is_conditional: true,
         };
     }
     if is_conditional_register(name) {
-        return Operation::BranchRegister {
+        return BranchKind::BranchRegister {
             is_conditional: true,
         };
     }
-    Operation::Other
+    BranchKind::Other
 }

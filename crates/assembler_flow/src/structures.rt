@@ -1,6 +1,6 @@
 //! The macros of structured programs: IF, ELSEIF, ELSE, ENDIF, DO, DOEXIT, ASMLEAVE and ENDDO.
 
-use assembler_statements::Statement;
+use assembler_statements::SourceStatement;
 use std::alloc::{AllocError, Global};
 use std::collections::BTreeMap;
 
@@ -23,7 +23,7 @@ struct Group {
 
 // What was read of a source, from its last statement back.
 #[derive(Drop)]
-struct Reading {
+struct StructureReading {
     groups: Vec<Group>,
     ends_of_loops: Vec<usize>,
     found: BTreeMap<usize, Structured>,
@@ -38,9 +38,9 @@ fn leaving(end: usize, operation: &'static str, is_conditional: bool) -> Structu
     }
 }
 
-impl Reading {
-    fn new(alloc: Global) -> Reading {
-        Reading {
+impl StructureReading {
+    fn new(alloc: Global) -> StructureReading {
+        StructureReading {
             groups: Vec::new(alloc),
             ends_of_loops: Vec::new(alloc),
             found: BTreeMap::new(alloc),
@@ -117,9 +117,9 @@ impl Reading {
 /// Returns the target of each structured macro of a source, by its place. It fails if memory is exhausted.
 pub fn structures_of(
     alloc: Global,
-    statements: &[Statement],
+    statements: &[SourceStatement],
 ) -> Result<BTreeMap<usize, Structured>, AllocError> {
-    let mut reading = Reading::new(alloc);
+    let mut reading = StructureReading::new(alloc);
     for (place, statement) in statements.iter().enumerate().rev() {
         reading.take(place, &statement.operation)?;
     }

@@ -5,6 +5,6 @@ mod names;
 mod operands;
 mod reason;
 
-pub use crate::names::{Names, NoName, put_name};
-pub use crate::operands::{Keys, Operands};
-pub use crate::reason::{Reason, Unsaid, Why};
+pub use crate::names::{NoName, SymbolNames, put_name};
+pub use crate::operands::{Keys, MacroOperands};
+pub use crate::reason::{OpenCause, OpenReason, Unsaid};

@@ -10,45 +10,45 @@ const LONGEST: usize = 8;
 
 /// The numbers with some count of digits that a name may end in.
 #[derive(Clone, Copy)]
-struct Numbers {
+struct NameNumbers {
     digits: usize,
     least: u32,
     end: u32,
 }
 
 /// All numbers that a name may end in. The plain name counts as the first.
-const NUMBERS: [Numbers; 7] = [
-    Numbers {
+const NUMBERS: [NameNumbers; 7] = [
+    NameNumbers {
         digits: 1,
         least: 2,
         end: 10,
     },
-    Numbers {
+    NameNumbers {
         digits: 2,
         least: 10,
         end: 100,
     },
-    Numbers {
+    NameNumbers {
         digits: 3,
         least: 100,
         end: 1_000,
     },
-    Numbers {
+    NameNumbers {
         digits: 4,
         least: 1_000,
         end: 10_000,
     },
-    Numbers {
+    NameNumbers {
         digits: 5,
         least: 10_000,
         end: 100_000,
     },
-    Numbers {
+    NameNumbers {
         digits: 6,
         least: 100_000,
         end: 1_000_000,
     },
-    Numbers {
+    NameNumbers {
         digits: 7,
         least: 1_000_000,
         end: 10_000_000,
@@ -82,7 +82,7 @@ impl<T: Drop> From<AllocFailed<T>> for NoName {
 
 /// The names that symbols were given.
 #[derive(Drop)]
-pub struct Names {
+pub struct SymbolNames {
     alloc: Global,
     of: BTreeMap<String, String>,
     used: BTreeSet<String>,
@@ -111,10 +111,10 @@ fn shortened(alloc: Global, symbol: &str, most: usize) -> Result<String, AllocEr
     Ok(name)
 }
 
-impl Names {
+impl SymbolNames {
     /// Returns the names where no symbol has one yet.
-    pub fn new(alloc: Global) -> Names {
-        Names {
+    pub fn new(alloc: Global) -> SymbolNames {
+        SymbolNames {
             alloc,
             of: BTreeMap::new(alloc),
             used: BTreeSet::new(alloc),
@@ -124,7 +124,11 @@ impl Names {
     }
 
     // Finds an unused name that ends in one of these numbers; None if all are in use.
-    fn numbered(&mut self, symbol: &str, numbers: Numbers) -> Result<Option<String>, AllocError> {
+    fn numbered(
+        &mut self,
+        symbol: &str,
+        numbers: NameNumbers,
+    ) -> Result<Option<String>, AllocError> {
         let front = shortened(self.alloc, symbol, LONGEST.saturating_sub(numbers.digits))?;
         let key = format!(in self.alloc; "{front} {}", numbers.digits)?;
         let first = match self.next.get(key.as_str()) {
@@ -220,7 +224,7 @@ impl Names {
 
 /// Appends a keyword with the name of a symbol. It fails if no name is left.
 pub fn put_name(
-    names: &mut Names,
+    names: &mut SymbolNames,
     text: &mut String,
     key: &str,
     symbol: &str,

@@ -1,13 +1,13 @@
 //! The operands of a macro, by their keys.
 
-use crate::reason::{Unsaid, Why};
-use assembler_statements::Statement;
+use crate::reason::{OpenCause, Unsaid};
+use assembler_statements::SourceStatement;
 use std::alloc::{AllocError, Global};
 use std::collections::BTreeMap;
 
 /// The operands of a macro: those without a key, and those with one.
 #[derive(Drop)]
-pub struct Operands {
+pub struct MacroOperands {
     alloc: Global,
     positional: Vec<String>,
     keyed: BTreeMap<String, String>,
@@ -30,10 +30,10 @@ fn keyed(operand: &str) -> Option<(&str, &str)> {
     }
 }
 
-impl Operands {
+impl MacroOperands {
     /// Returns no operands.
-    pub fn new(alloc: Global) -> Operands {
-        Operands {
+    pub fn new(alloc: Global) -> MacroOperands {
+        MacroOperands {
             alloc,
             positional: Vec::new(alloc),
             keyed: BTreeMap::new(alloc),
@@ -54,7 +54,7 @@ impl Operands {
     }
 
     /// Puts the operands of a statement over those that there are. An operand without a value is none. It fails if memory is exhausted.
-    pub fn put(&mut self, statement: &Statement) -> Result<(), AllocError> {
+    pub fn put(&mut self, statement: &SourceStatement) -> Result<(), AllocError> {
         let mut place = 0usize;
         for operand in statement.operands.iter() {
             match keyed(operand) {
@@ -85,7 +85,7 @@ impl Operands {
     pub fn required(&self, key: &str) -> Result<&str, Unsaid> {
         match self.get(key) {
             Some(value) => Ok(value),
-            None => Err(Unsaid::of(self.alloc, Why::Missing, key)),
+            None => Err(Unsaid::of(self.alloc, OpenCause::Missing, key)),
         }
     }
 
@@ -101,12 +101,12 @@ impl Operands {
     pub fn check(&self, keys: &Keys) -> Result<(), Unsaid> {
         for (key, value) in self.keyed.iter() {
             if keys.authorized.contains(&key.as_str()) {
-                return Err(Unsaid::of_operand(self.alloc, Why::Authorized, key, value));
+                return Err(Unsaid::of_operand(self.alloc, OpenCause::Authorized, key, value));
             }
         }
         for (key, value) in self.keyed.iter() {
             if !keys.said.contains(&key.as_str()) && !keys.left.contains(&key.as_str()) {
-                return Err(Unsaid::of_operand(self.alloc, Why::NotModelled, key, value));
+                return Err(Unsaid::of_operand(self.alloc, OpenCause::NotModelled, key, value));
             }
         }
         Ok(())

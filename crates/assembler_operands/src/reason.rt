@@ -7,7 +7,7 @@ use thiserror::Error;
 
 /// What is wrong with a request, or with an operand of it.
 #[derive(Clone, Copy, Debug)]
-pub enum Why {
+pub enum OpenCause {
     /// What a register holds is no number, or no address that a request has left.
     Register,
     /// A value is no plain number.
@@ -34,36 +34,36 @@ pub enum Why {
 
 /// Why a request cannot be said, and what it is about.
 #[derive(Debug, Drop)]
-pub struct Reason {
-    why: Why,
+pub struct OpenReason {
+    why: OpenCause,
     of: String,
 }
 
-impl Why {
+impl OpenCause {
     // Returns the text after what it is about.
     fn text(self) -> &'static str {
         match self {
-            Why::Register | Why::Choice => "",
-            Why::NoNumber => ": no plain number",
-            Why::NoWord => ": no name of a word",
-            Why::NoList => ": no plain list",
-            Why::Authorized => ": of authorized programs",
-            Why::NotModelled => ": not modelled",
-            Why::AboveTheBar => "storage above the bar is not modelled",
-            Why::NoListForm => ": no list form has this label",
-            Why::NoForm => ": no form of the script",
-            Why::Missing => " is missing",
-            Why::NoName => "no name is left for a symbol",
+            OpenCause::Register | OpenCause::Choice => "",
+            OpenCause::NoNumber => ": no plain number",
+            OpenCause::NoWord => ": no name of a word",
+            OpenCause::NoList => ": no plain list",
+            OpenCause::Authorized => ": of authorized programs",
+            OpenCause::NotModelled => ": not modelled",
+            OpenCause::AboveTheBar => "storage above the bar is not modelled",
+            OpenCause::NoListForm => ": no list form has this label",
+            OpenCause::NoForm => ": no form of the script",
+            OpenCause::Missing => " is missing",
+            OpenCause::NoName => "no name is left for a symbol",
         }
     }
 
     // Returns whether the text is all.
     fn is_whole(self) -> bool {
-        matches!(self, Why::AboveTheBar | Why::NoName)
+        matches!(self, OpenCause::AboveTheBar | OpenCause::NoName)
     }
 }
 
-impl fmt::Display for Reason {
+impl fmt::Display for OpenReason {
     fn fmt<W: fmt::Write>(&self, f: &mut fmt::Formatter<W>) -> fmt::Result {
         if !self.why.is_whole() {
             f.write_str(&self.of)?;
@@ -72,26 +72,26 @@ impl fmt::Display for Reason {
     }
 }
 
-impl Reason {
+impl OpenReason {
     /// Returns a reason that is about nothing.
-    pub fn alone(alloc: Global, why: Why) -> Reason {
-        Reason {
+    pub fn alone(alloc: Global, why: OpenCause) -> OpenReason {
+        OpenReason {
             why,
             of: String::new(alloc),
         }
     }
 
     /// Returns what the reader has to choose.
-    pub fn choice(of: String) -> Reason {
-        Reason {
-            why: Why::Choice,
+    pub fn choice(of: String) -> OpenReason {
+        OpenReason {
+            why: OpenCause::Choice,
             of,
         }
     }
 
     // Returns a reason that is about a text.
-    fn new(alloc: Global, why: Why, of: &str) -> Result<Reason, AllocError> {
-        Ok(Reason {
+    fn new(alloc: Global, why: OpenCause, of: &str) -> Result<OpenReason, AllocError> {
+        Ok(OpenReason {
             why,
             of: String::from_str(alloc, of)?,
         })
@@ -102,7 +102,7 @@ impl Reason {
 #[derive(Debug, Drop, Error)]
 pub enum Unsaid {
     #[error("{0}")]
-    For(Reason),
+    For(OpenReason),
     #[error("no name is left for a symbol")]
     NoName,
     #[error("out of memory")]
@@ -132,17 +132,17 @@ impl From<AllocError> for Unsaid {
 
 impl Unsaid {
     /// Returns a reason that is about a text, or `Memory` if memory is exhausted.
-    pub fn of(alloc: Global, why: Why, of: &str) -> Unsaid {
-        match Reason::new(alloc, why, of) {
+    pub fn of(alloc: Global, why: OpenCause, of: &str) -> Unsaid {
+        match OpenReason::new(alloc, why, of) {
             Ok(reason) => Unsaid::For(reason),
             Err(_) => Unsaid::Memory,
         }
     }
 
     /// Returns a reason that is about an operand, or `Memory` if memory is exhausted.
-    pub fn of_operand(alloc: Global, why: Why, key: &str, text: &str) -> Unsaid {
+    pub fn of_operand(alloc: Global, why: OpenCause, key: &str, text: &str) -> Unsaid {
         match format!(in alloc; "{key}={text}") {
-            Ok(of) => Unsaid::For(Reason { why, of }),
+            Ok(of) => Unsaid::For(OpenReason { why, of }),
             Err(_) => Unsaid::Memory,
         }
     }
@@ -150,8 +150,8 @@ impl Unsaid {
     /// Returns a reason that is about an operand in a register, with what the register holds, or `Memory` if memory is exhausted.
     pub fn of_register(alloc: Global, key: &str, text: &str, register: u8, held: &str) -> Unsaid {
         match format!(in alloc; "{key}={text}: R{register} {held}") {
-            Ok(of) => Unsaid::For(Reason {
-                why: Why::Register,
+            Ok(of) => Unsaid::For(OpenReason {
+                why: OpenCause::Register,
                 of,
             }),
             Err(_) => Unsaid::Memory,

@@ -1,7 +1,7 @@
 //! Requests that touch bytes, and WHERE.
 
 use crate::cards::ProgramFault;
-use crate::step::{Entry, Writing};
+use crate::step::{StepEntry, Writing};
 use mvs_model::line::{Location, Written};
 use mvs_model::name::Name;
 use std::alloc::{AllocError, Global};
@@ -21,7 +21,7 @@ fn hexadecimal(alloc: Global, bytes: &[u8]) -> Result<String, AllocError> {
 }
 
 impl<W: Write> Writing<W> {
-    fn put(&mut self, entry: &Entry, to: &Location, bytes: &[u8]) -> Result<(), ProgramFault> {
+    fn put(&mut self, entry: &StepEntry, to: &Location, bytes: &[u8]) -> Result<(), ProgramFault> {
         let alloc = self.cards.alloc();
         let label = format!(in alloc; "X{}", entry.number)?;
         self.locate(2, to)?;
@@ -71,7 +71,7 @@ impl<W: Write> Writing<W> {
     }
 
     /// A request that touches bytes.
-    pub fn of_bytes(&mut self, entry: &Entry, written: &Written) -> Result<(), ProgramFault> {
+    pub fn of_bytes(&mut self, entry: &StepEntry, written: &Written) -> Result<(), ProgramFault> {
         match written {
             Written::Put { to, bytes } => self.put(entry, to, bytes.as_slice()),
             Written::Show { from, len } => self.show(from, len.get()),

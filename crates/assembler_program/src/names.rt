@@ -47,16 +47,16 @@ impl Table {
 
 /// The names of a step, and where the programs of its tasks reside.
 #[derive(Drop)]
-pub struct Names {
+pub struct StepNames {
     pub tasks: Table,
     pub areas: Table,
     pub pools: Table,
     residences: Vec<(Name, Residence)>,
 }
 
-impl Names {
-    pub fn new(alloc: Global) -> Names {
-        Names {
+impl StepNames {
+    pub fn new(alloc: Global) -> StepNames {
+        StepNames {
             tasks: Table::new(alloc),
             areas: Table::new(alloc),
             pools: Table::new(alloc),

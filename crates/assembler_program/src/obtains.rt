@@ -1,11 +1,11 @@
 //! Requests for storage.
 
 use crate::cards::ProgramFault;
-use crate::step::{Entry, Writing};
+use crate::step::{StepEntry, Writing};
 use mvs_model::bounded::Exponent;
 use mvs_model::code::Form;
 use mvs_model::codes::is_conditional;
-use mvs_model::line::{Names, Written};
+use mvs_model::line::{StepNames, Written};
 use mvs_model::name::Name;
 use mvs_model::request::Lengths;
 use mvs_model::want::{Ask, Loc, Residence, Side};
@@ -94,7 +94,13 @@ fn takes_location(form: Form) -> bool {
 
 impl<W: Write> Writing<W> {
     // What follows the lengths of a request.
-    fn rest(&self, entry: &Entry, form: Form, number: u8, ask: &Ask) -> Result<String, AllocError> {
+    fn rest(
+        &self,
+        entry: &StepEntry,
+        form: Form,
+        number: u8,
+        ask: &Ask,
+    ) -> Result<String, AllocError> {
         let alloc = self.cards.alloc();
         let want = ask.want(Side::Below);
         let boundaries = Boundaries {
@@ -121,7 +127,7 @@ impl<W: Write> Writing<W> {
     // A request whose area comes in register 1, and its length in register 0 where it is variable.
     fn obtain_in_register(
         &mut self,
-        entry: &Entry,
+        entry: &StepEntry,
         form: Form,
         lengths: &str,
         rest: &str,
@@ -142,7 +148,7 @@ impl<W: Write> Writing<W> {
     // A request whose area comes in words.
     fn obtain_in_words(
         &mut self,
-        entry: &Entry,
+        entry: &StepEntry,
         form: Form,
         length: Option<u32>,
         rest: &str,
@@ -169,7 +175,7 @@ impl<W: Write> Writing<W> {
     // A request for one area of a length.
     fn obtain_fixed(
         &mut self,
-        entry: &Entry,
+        entry: &StepEntry,
         form: Form,
         ask: &Ask,
         rest: &str,
@@ -191,7 +197,7 @@ impl<W: Write> Writing<W> {
     // A request for one area of some length.
     fn obtain_variable(
         &mut self,
-        entry: &Entry,
+        entry: &StepEntry,
         form: Form,
         ask: &Ask,
         rest: &str,
@@ -214,7 +220,7 @@ impl<W: Write> Writing<W> {
     // A request for one area of some length that comes in words: loads the address in register 1 and the length in register 0.
     fn obtain_some_in_words(
         &mut self,
-        entry: &Entry,
+        entry: &StepEntry,
         form: Form,
         rest: &str,
     ) -> Result<(), ProgramFault> {
@@ -224,7 +230,7 @@ impl<W: Write> Writing<W> {
     }
 
     // The least and the greatest length of a request, with their label.
-    fn put_bounds(&mut self, entry: &Entry, ask: &Ask) -> Result<(), ProgramFault> {
+    fn put_bounds(&mut self, entry: &StepEntry, ask: &Ask) -> Result<(), ProgramFault> {
         let alloc = self.cards.alloc();
         let label = format!(in alloc; "X{}", entry.number)?;
         let bounds = format!(in alloc; "F'{}',F'{}'", ask.least(), ask.most())?;
@@ -234,11 +240,11 @@ impl<W: Write> Writing<W> {
     // A request for a list of areas.
     fn obtain_list(
         &mut self,
-        entry: &Entry,
+        entry: &StepEntry,
         form: Form,
         rest: &str,
         lengths: &Lengths,
-        areas: &Names,
+        areas: &StepNames,
     ) -> Result<(), ProgramFault> {
         self.obtain_in_words(entry, form, None, rest)?;
         let mut offset = 0u32;
@@ -267,7 +273,7 @@ impl<W: Write> Writing<W> {
     }
 
     /// A request for one area or for a list of them.
-    pub fn obtain(&mut self, entry: &Entry, written: &Written) -> Result<(), ProgramFault> {
+    pub fn obtain(&mut self, entry: &StepEntry, written: &Written) -> Result<(), ProgramFault> {
         match written {
             Written::Obtain {
                 form,

@@ -2,7 +2,7 @@
 
 use crate::cards::ProgramFault;
 use crate::obtains::location;
-use crate::step::{Entry, Writing};
+use crate::step::{StepEntry, Writing};
 use mvs_model::line::{Location, Written};
 use mvs_model::name::Name;
 use mvs_model::want::Loc;
@@ -10,7 +10,7 @@ use std::io::Write;
 
 /// The parts of a pool that is to be built.
 #[derive(Clone, Copy)]
-struct Plan {
+struct PoolPlan {
     number: u8,
     size: u32,
     primary: u32,
@@ -29,10 +29,15 @@ impl<W: Write> Writing<W> {
         self.cards.code("L", "4,4(,5)")
     }
 
-    fn build(&mut self, entry: &Entry, pool: &Name, plan: &Plan) -> Result<(), ProgramFault> {
+    fn build(
+        &mut self,
+        entry: &StepEntry,
+        pool: &Name,
+        plan: &PoolPlan,
+    ) -> Result<(), ProgramFault> {
         let alloc = self.cards.alloc();
         let label = self.pool(pool)?;
-        let Plan {
+        let PoolPlan {
             number,
             size,
             primary,
@@ -81,7 +86,7 @@ impl<W: Write> Writing<W> {
     }
 
     /// A request of a pool.
-    pub fn of_pool(&mut self, entry: &Entry, written: &Written) -> Result<(), ProgramFault> {
+    pub fn of_pool(&mut self, entry: &StepEntry, written: &Written) -> Result<(), ProgramFault> {
         match written {
             Written::Build {
                 pool,
@@ -91,7 +96,7 @@ impl<W: Write> Writing<W> {
                 secondary,
                 loc,
             } => {
-                let plan = Plan {
+                let plan = PoolPlan {
                     number: *number,
                     size: size.get(),
                     primary: primary.get(),

@@ -1,8 +1,8 @@
 //! The programs of a script: a job with a step for each step of the script.
 
 use crate::cards::{Cards, ProgramFault};
-use crate::names::{Names, text_of};
-use crate::step::{Entry, Writing, is_written};
+use crate::names::{StepNames, text_of};
+use crate::step::{StepEntry, Writing, is_written};
 use crate::texts::{DRIVER, JOB, LAYOUTS, TASK};
 use job_script::read_line;
 use mvs_model::line::{Fault, Line, Statement, Written};
@@ -12,8 +12,8 @@ use std::io::Write;
 
 // What a script is read to: the statements of the step that was begun last.
 #[derive(Drop)]
-struct Reading {
-    entries: Vec<Entry>,
+struct ProgramReading {
+    entries: Vec<StepEntry>,
     steps: u32,
 }
 
@@ -31,7 +31,7 @@ fn is_of_storage(line: &str) -> bool {
 }
 
 // Puts the tasks of a step into its names, in byte order.
-fn name_tasks(names: &mut Names, entries: &[Entry]) -> Result<(), AllocError> {
+fn name_tasks(names: &mut StepNames, entries: &[StepEntry]) -> Result<(), AllocError> {
     for entry in entries {
         names.tasks.number(&entry.task)?;
         if let Statement::Request(Written::Attach { name, .. }) = &entry.statement {
@@ -44,7 +44,7 @@ fn name_tasks(names: &mut Names, entries: &[Entry]) -> Result<(), AllocError> {
 
 impl<W: Write> Writing<W> {
     // What the first line of the step prints, and which slot is that of its task.
-    fn put_region(&mut self, entry: &Entry) -> Result<(), ProgramFault> {
+    fn put_region(&mut self, entry: &StepEntry) -> Result<(), ProgramFault> {
         let Statement::Region {
             below,
             above,
@@ -70,7 +70,7 @@ impl<W: Write> Writing<W> {
     }
 
     // The line of a statement, as the first task looks it up.
-    fn put_line(&mut self, entry: &Entry) -> Result<(), ProgramFault> {
+    fn put_line(&mut self, entry: &StepEntry) -> Result<(), ProgramFault> {
         let alloc = self.cards.alloc();
         let task = self.task(&entry.task)?;
         let number = format!(in alloc; "{}", entry.number)?;
@@ -88,7 +88,7 @@ impl<W: Write> Writing<W> {
     }
 
     // The lines of a step, but for reports.
-    fn put_lines(&mut self, entries: &[Entry]) -> Result<(), ProgramFault> {
+    fn put_lines(&mut self, entries: &[StepEntry]) -> Result<(), ProgramFault> {
         self.cards.statement("LINES", "DS", "0F")?;
         for (place, entry) in entries.iter().enumerate() {
             if place == 0 || is_written(&entry.statement) {
@@ -141,7 +141,7 @@ impl<W: Write> Writing<W> {
     }
 
     // The program of a step.
-    fn put_step(&mut self, entries: &[Entry]) -> Result<(), ProgramFault> {
+    fn put_step(&mut self, entries: &[StepEntry]) -> Result<(), ProgramFault> {
         name_tasks(&mut self.names, entries)?;
         self.cards.cards(DRIVER)?;
         if let Some(region) = entries.first() {
@@ -168,7 +168,7 @@ impl<W: Write> Writing<W> {
 fn end_step<W: Write + Drop>(
     alloc: Global,
     writing: &mut Writing<W>,
-    read: &mut Reading,
+    read: &mut ProgramReading,
 ) -> Result<(), ProgramFault> {
     if read.entries.is_empty() {
         return Ok(());
@@ -178,7 +178,7 @@ fn end_step<W: Write + Drop>(
     let cards = &mut writing.cards;
     cards.card(&format!(in alloc; "//S{step} EXEC ASMACLG")?)?;
     cards.card("//C.SYSIN DD *")?;
-    writing.names = Names::new(alloc);
+    writing.names = StepNames::new(alloc);
     writing.put_step(&read.entries)?;
     writing.cards.card("/*")?;
     read.entries.clear();
@@ -191,14 +191,14 @@ fn entry_of(
     line: &str,
     number: u32,
     is_first: bool,
-) -> Result<Result<Option<Entry>, Fault>, AllocError> {
+) -> Result<Result<Option<StepEntry>, Fault>, AllocError> {
     let mut read = Line::Nothing;
     if let Err(fault) = read_line(line.as_bytes(), is_first, &mut read) {
         return Ok(Err(fault));
     }
     match read {
         Line::Nothing => Ok(Ok(None)),
-        Line::Statement(task, statement) => Ok(Ok(Some(Entry {
+        Line::Statement(task, statement) => Ok(Ok(Some(StepEntry {
             number,
             task,
             text: String::from_str(alloc, statement_text(line))?,
@@ -217,9 +217,9 @@ pub fn write_program<W: Write + Drop>(
 ) -> Result<bool, ProgramFault> {
     let mut writing = Writing {
         cards: Cards::new(alloc, writer),
-        names: Names::new(alloc),
+        names: StepNames::new(alloc),
     };
-    let mut read = Reading {
+    let mut read = ProgramReading {
         entries: Vec::new(alloc),
         steps: 0,
     };

@@ -2,7 +2,7 @@
 
 use crate::cards::ProgramFault;
 use crate::obtains::word_for;
-use crate::step::{Entry, Writing};
+use crate::step::{StepEntry, Writing};
 use mvs_model::code::Form;
 use mvs_model::codes::is_conditional;
 use mvs_model::line::{Location, Locations, Written};
@@ -14,7 +14,7 @@ impl<W: Write> Writing<W> {
     // A release of one area.
     fn release_area(
         &mut self,
-        entry: &Entry,
+        entry: &StepEntry,
         form: Form,
         number: u8,
         location: &Location,
@@ -67,7 +67,7 @@ impl<W: Write> Writing<W> {
     // A release of a list of areas.
     fn release_list(
         &mut self,
-        entry: &Entry,
+        entry: &StepEntry,
         form: Form,
         number: u8,
         locations: &Locations,
@@ -103,7 +103,12 @@ impl<W: Write> Writing<W> {
     }
 
     // A release of a whole subpool.
-    fn release_whole(&mut self, entry: &Entry, form: Form, number: u8) -> Result<(), ProgramFault> {
+    fn release_whole(
+        &mut self,
+        entry: &StepEntry,
+        form: Form,
+        number: u8,
+    ) -> Result<(), ProgramFault> {
         let alloc = self.cards.alloc();
         if entry.is_storage {
             let condition = if is_conditional(form) { "YES" } else { "NO" };
@@ -119,7 +124,7 @@ impl<W: Write> Writing<W> {
     }
 
     /// A release, of which kind ever.
-    pub fn release(&mut self, entry: &Entry, written: &Written) -> Result<(), ProgramFault> {
+    pub fn release(&mut self, entry: &StepEntry, written: &Written) -> Result<(), ProgramFault> {
         match written {
             Written::Release {
                 form,

@@ -1,7 +1,7 @@
 //! The statements of a step, and how one is written as a routine.
 
 use crate::cards::{Cards, ProgramFault};
-use crate::names::{Names, text_of};
+use crate::names::{StepNames, text_of};
 use mvs_model::line::{Location, Statement, Written};
 use mvs_model::name::Name;
 use std::alloc::AllocError;
@@ -9,7 +9,7 @@ use std::io::Write;
 
 /// A statement of a script: its line, its task, and what it says.
 #[derive(Drop)]
-pub struct Entry {
+pub struct StepEntry {
     pub number: u32,
     pub task: Name,
     pub text: String,
@@ -27,7 +27,7 @@ pub fn is_written(statement: &Statement) -> bool {
 #[derive(Drop)]
 pub struct Writing<W> {
     pub cards: Cards<W>,
-    pub names: Names,
+    pub names: StepNames,
 }
 
 impl<W: Write> Writing<W> {
@@ -111,7 +111,7 @@ impl<W: Write> Writing<W> {
     }
 
     // What a request is written as.
-    fn request(&mut self, entry: &Entry, written: &Written) -> Result<(), ProgramFault> {
+    fn request(&mut self, entry: &StepEntry, written: &Written) -> Result<(), ProgramFault> {
         match written {
             Written::Obtain { .. } | Written::ObtainList { .. } => self.obtain(entry, written),
             Written::Release { .. }
@@ -132,7 +132,7 @@ impl<W: Write> Writing<W> {
     }
 
     // Writes the beginning of a routine: a comment, its label and its base register.
-    fn begin_routine(&mut self, entry: &Entry) -> Result<(), ProgramFault> {
+    fn begin_routine(&mut self, entry: &StepEntry) -> Result<(), ProgramFault> {
         let alloc = self.cards.alloc();
         let number = entry.number;
         let task = text_of(&entry.task);
@@ -151,7 +151,7 @@ impl<W: Write> Writing<W> {
     }
 
     // Writes that a statement has no routine.
-    fn no_routine(&mut self, entry: &Entry) -> Result<(), ProgramFault> {
+    fn no_routine(&mut self, entry: &StepEntry) -> Result<(), ProgramFault> {
         let number = entry.number;
         let task = text_of(&entry.task);
         let text = entry.text.as_str();
@@ -160,7 +160,7 @@ impl<W: Write> Writing<W> {
     }
 
     /// Writes the routine of a statement; of a report, that there is none.
-    pub fn routine(&mut self, entry: &Entry) -> Result<(), ProgramFault> {
+    pub fn routine(&mut self, entry: &StepEntry) -> Result<(), ProgramFault> {
         match &entry.statement {
             Statement::Request(written) => {
                 self.begin_routine(entry)?;

@@ -1,7 +1,7 @@
 //! Requests that begin and end tasks.
 
 use crate::cards::ProgramFault;
-use crate::step::{Entry, Writing};
+use crate::step::{StepEntry, Writing};
 use mvs_model::gifts::Gifts;
 use mvs_model::line::Written;
 use mvs_model::name::Name;
@@ -41,7 +41,7 @@ impl<W: Write> Writing<W> {
     // The operand of ATTACH for some numbers: one as it is, several by a list.
     fn presents(
         &self,
-        entry: &Entry,
+        entry: &StepEntry,
         numbers: &[u8],
         letter: &str,
         key: &str,
@@ -57,7 +57,7 @@ impl<W: Write> Writing<W> {
     // The list of some numbers, if they are several.
     fn put_list(
         &mut self,
-        entry: &Entry,
+        entry: &StepEntry,
         numbers: &[u8],
         letter: &str,
     ) -> Result<(), ProgramFault> {
@@ -71,7 +71,12 @@ impl<W: Write> Writing<W> {
         self.cards.statement("", "DS", "0H")
     }
 
-    fn attach(&mut self, entry: &Entry, name: &Name, gifts: &Gifts) -> Result<(), ProgramFault> {
+    fn attach(
+        &mut self,
+        entry: &StepEntry,
+        name: &Name,
+        gifts: &Gifts,
+    ) -> Result<(), ProgramFault> {
         let alloc = self.cards.alloc();
         let task = self.task(name)?;
         let given = numbers(alloc, gifts, true)?;
@@ -110,7 +115,7 @@ impl<W: Write> Writing<W> {
     }
 
     /// A request that begins or ends a task.
-    pub fn of_task(&mut self, entry: &Entry, written: &Written) -> Result<(), ProgramFault> {
+    pub fn of_task(&mut self, entry: &StepEntry, written: &Written) -> Result<(), ProgramFault> {
         match written {
             Written::Attach {
                 name,

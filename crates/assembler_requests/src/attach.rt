@@ -1,7 +1,7 @@
 //! ATTACH and ATTACHX.
 
-use crate::request::Request;
-use assembler_operands::{Keys, Names, NoName, Unsaid, Why};
+use crate::request::MacroRequest;
+use assembler_operands::{Keys, NoName, OpenCause, SymbolNames, Unsaid};
 use assembler_symbols::is_symbol;
 use std::alloc::{AllocError, Global};
 use std::collections::BTreeSet;
@@ -50,18 +50,18 @@ pub struct Attached {
 
 /// The names that were given, and the programs that have been attached, the first one among them.
 #[derive(Drop)]
-pub struct Given {
-    pub names: Names,
+pub struct GivenNames {
+    pub names: SymbolNames,
     attached: BTreeSet<String>,
 }
 
-impl Given {
+impl GivenNames {
     /// Returns what is given where the first program begins. It fails if memory is exhausted.
-    pub fn new(alloc: Global, first: &str) -> Result<Given, AllocError> {
+    pub fn new(alloc: Global, first: &str) -> Result<GivenNames, AllocError> {
         let mut attached = BTreeSet::new(alloc);
         attached.insert(String::from_str(alloc, first)?)?;
-        Ok(Given {
-            names: Names::new(alloc),
+        Ok(GivenNames {
+            names: SymbolNames::new(alloc),
             attached,
         })
     }
@@ -86,7 +86,7 @@ fn put_bytes(text: &mut String, key: &str, numbers: &[u8]) -> Result<(), AllocEr
     write!(text, ")")
 }
 
-impl<'a> Request<'a> {
+impl<'a> MacroRequest<'a> {
     // Returns the name that is at a symbol, if it is one of a program.
     fn name_at(self, symbol: &str) -> Option<&'a str> {
         let name = self
@@ -104,7 +104,7 @@ impl<'a> Request<'a> {
         let symbol = self.known.symbol_at(key, address)?;
         match self.name_at(symbol) {
             Some(name) => Ok(name),
-            None => Err(self.refusal(Why::NoWord, key, address)),
+            None => Err(self.refusal(OpenCause::NoWord, key, address)),
         }
     }
 
@@ -114,14 +114,14 @@ impl<'a> Request<'a> {
             if is_symbol(name) {
                 return Ok(name);
             }
-            return Err(self.refusal(Why::NoWord, "EP", name));
+            return Err(self.refusal(OpenCause::NoWord, "EP", name));
         }
         for key in ["EPLOC", "DE"] {
             if let Some(address) = self.operands.get(key) {
                 return self.program_at(key, address);
             }
         }
-        Err(Unsaid::of(self.known.alloc, Why::Missing, "EP"))
+        Err(Unsaid::of(self.known.alloc, OpenCause::Missing, "EP"))
     }
 
     // Appends the subpools of a list, if the key is written.
@@ -142,7 +142,7 @@ impl<'a> Request<'a> {
     }
 
     /// Converts ATTACH and ATTACHX to a statement, and returns the task that is attached.
-    pub fn attach(self, given: &mut Given, text: &mut String) -> Result<Attached, Unsaid> {
+    pub fn attach(self, given: &mut GivenNames, text: &mut String) -> Result<Attached, Unsaid> {
         self.operands.check(&KEYS)?;
         let program = self.program()?;
         let mut rest = String::new(self.known.alloc);

@@ -1,9 +1,9 @@
 //! Converts a request, whichever macro it is.
 
-use crate::attach::{Attached, Given};
-use crate::request::Request;
-use assembler_operands::{Operands, Reason, Unsaid, Why};
-use assembler_values::{Comes, Known, Macro};
+use crate::attach::{Attached, GivenNames};
+use crate::request::MacroRequest;
+use assembler_operands::{MacroOperands, OpenCause, OpenReason, Unsaid};
+use assembler_values::{Comes, KnownValues, Macro};
 
 /// What a request is converted to.
 #[derive(Drop)]
@@ -17,7 +17,7 @@ pub struct Converted {
 }
 
 // Converts ATTACH.
-fn convert_attach(request: Request<'_>, given: &mut Given) -> Result<Converted, Unsaid> {
+fn convert_attach(request: MacroRequest<'_>, given: &mut GivenNames) -> Result<Converted, Unsaid> {
     let mut text = String::new(request.known.alloc);
     let attached = Some(request.attach(given, &mut text)?);
     Ok(Converted {
@@ -29,12 +29,12 @@ fn convert_attach(request: Request<'_>, given: &mut Given) -> Result<Converted, 
 
 /// Converts a request with its operands to a statement, or returns why it cannot.
 pub fn convert(
-    known: Known<'_>,
-    given: &mut Given,
-    operands: &Operands,
+    known: KnownValues<'_>,
+    given: &mut GivenNames,
+    operands: &MacroOperands,
     asked: Macro,
 ) -> Result<Converted, Unsaid> {
-    let request = Request { known, operands };
+    let request = MacroRequest { known, operands };
     let mut text = String::new(known.alloc);
     let comes = match asked {
         Macro::Getmain => Some(request.getmain(&mut given.names, &mut text)?),
@@ -46,7 +46,7 @@ pub fn convert(
         Macro::Cpool => request.cpool(&mut given.names, &mut text)?,
         Macro::Attach => return convert_attach(request, given),
         Macro::Beyond => {
-            return Err(Unsaid::For(Reason::alone(known.alloc, Why::AboveTheBar)));
+            return Err(Unsaid::For(OpenReason::alone(known.alloc, OpenCause::AboveTheBar)));
         }
     };
     Ok(Converted {

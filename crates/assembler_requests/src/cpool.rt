@@ -1,7 +1,7 @@
 //! CPOOL.
 
-use crate::request::Request;
-use assembler_operands::{Keys, Names, Unsaid, put_name};
+use crate::request::MacroRequest;
+use assembler_operands::{Keys, SymbolNames, Unsaid, put_name};
 use assembler_values::{Comes, put_number};
 use std::fmt::Write;
 
@@ -11,7 +11,7 @@ const KEYS: Keys = Keys {
     authorized: &["TCB", "OWNER"],
 };
 
-impl Request<'_> {
+impl MacroRequest<'_> {
     // Appends the counts and the size of the cells, and where they are.
     fn put_cells(self, text: &mut String) -> Result<(), Unsaid> {
         let size = self.number("CSIZE")?;
@@ -23,7 +23,7 @@ impl Request<'_> {
     }
 
     // Converts CPOOL BUILD, and returns where it leaves the identifier.
-    fn build(self, names: &mut Names, text: &mut String) -> Result<Comes, Unsaid> {
+    fn build(self, names: &mut SymbolNames, text: &mut String) -> Result<Comes, Unsaid> {
         let mut rest = String::new(self.known.alloc);
         self.put_cells(&mut rest)?;
         let comes = self.comes("CPID", "(0)", "POOL")?;
@@ -33,12 +33,12 @@ impl Request<'_> {
     }
 
     // Appends the name of the pool.
-    fn put_pool(self, names: &mut Names, text: &mut String) -> Result<(), Unsaid> {
+    fn put_pool(self, names: &mut SymbolNames, text: &mut String) -> Result<(), Unsaid> {
         Ok(put_name(names, text, "CPID", self.area("CPID")?)?)
     }
 
     // Converts CPOOL GET, and returns where it leaves the address of a cell.
-    fn get(self, names: &mut Names, text: &mut String) -> Result<Comes, Unsaid> {
+    fn get(self, names: &mut SymbolNames, text: &mut String) -> Result<Comes, Unsaid> {
         let form = self.operands.at(1);
         if !["", "C", "COND", "U", "UNCOND"].contains(&form) {
             return Err(self.no_form(form));
@@ -53,7 +53,7 @@ impl Request<'_> {
     }
 
     // Converts CPOOL FREE.
-    fn free(self, names: &mut Names, text: &mut String) -> Result<(), Unsaid> {
+    fn free(self, names: &mut SymbolNames, text: &mut String) -> Result<(), Unsaid> {
         self.put_pool(names, text)?;
         Ok(put_name(names, text, "CELL", self.area_or("CELL", "(1)")?)?)
     }
@@ -61,7 +61,7 @@ impl Request<'_> {
     // Converts a request that leaves nothing.
     fn free_or_delete(
         self,
-        names: &mut Names,
+        names: &mut SymbolNames,
         text: &mut String,
         form: &str,
     ) -> Result<(), Unsaid> {
@@ -73,7 +73,11 @@ impl Request<'_> {
     }
 
     /// Converts CPOOL to a statement, and returns where it leaves an identifier or an address.
-    pub fn cpool(self, names: &mut Names, text: &mut String) -> Result<Option<Comes>, Unsaid> {
+    pub fn cpool(
+        self,
+        names: &mut SymbolNames,
+        text: &mut String,
+    ) -> Result<Option<Comes>, Unsaid> {
         self.operands.check(&KEYS)?;
         let form = self.operands.at(0);
         write!(text, "CPOOL {form}")?;

@@ -1,7 +1,7 @@
 //! GETMAIN.
 
-use crate::request::Request;
-use assembler_operands::{Keys, Names, NoName, Unsaid, Why, put_name};
+use crate::request::MacroRequest;
+use assembler_operands::{Keys, NoName, OpenCause, SymbolNames, Unsaid, put_name};
 use assembler_values::{Comes, put_number, put_numbers};
 use std::fmt::Write;
 
@@ -46,7 +46,7 @@ fn asks_of(form: &str) -> Option<Asks> {
 
 /// Appends the names of the areas whose addresses are in the words of a list. It fails if no name is left.
 pub fn put_list_names(
-    names: &mut Names,
+    names: &mut SymbolNames,
     text: &mut String,
     symbol: &str,
     count: usize,
@@ -62,7 +62,7 @@ pub fn put_list_names(
 
 // Appends the lengths and the name of an area of some length.
 fn put_some(
-    names: &mut Names,
+    names: &mut SymbolNames,
     text: &mut String,
     lengths: (u32, u32),
     symbol: &str,
@@ -72,7 +72,7 @@ fn put_some(
     put_name(names, text, "A", symbol)
 }
 
-impl<'a> Request<'a> {
+impl<'a> MacroRequest<'a> {
     // Appends what is written after the lengths and the names.
     fn put_rest(self, text: &mut String) -> Result<(), Unsaid> {
         self.put_subpool(text)?;
@@ -81,7 +81,7 @@ impl<'a> Request<'a> {
     }
 
     // Converts a request for an area whose address comes in register 1.
-    fn get_in_register(self, names: &mut Names, text: &mut String) -> Result<Comes, Unsaid> {
+    fn get_in_register(self, names: &mut SymbolNames, text: &mut String) -> Result<Comes, Unsaid> {
         put_number(text, "LV", self.number("LV")?)?;
         let symbol = self.known.symbol_for(1, "AREA")?;
         put_name(names, text, "A", &symbol)?;
@@ -97,12 +97,16 @@ impl<'a> Request<'a> {
         let lengths = self.operands.required("LV")?;
         match self.known.pair("LV", lengths)? {
             Some(pair) => Ok(pair),
-            None => Err(self.refusal(Why::NoNumber, "LV", lengths)),
+            None => Err(self.refusal(OpenCause::NoNumber, "LV", lengths)),
         }
     }
 
     // Converts a request for an area of some length whose address comes in register 1.
-    fn get_some_in_register(self, names: &mut Names, text: &mut String) -> Result<Comes, Unsaid> {
+    fn get_some_in_register(
+        self,
+        names: &mut SymbolNames,
+        text: &mut String,
+    ) -> Result<Comes, Unsaid> {
         let lengths = self.lengths()?;
         let symbol = self.known.symbol_for(1, "AREA")?;
         put_some(names, text, lengths, &symbol)?;
@@ -114,7 +118,7 @@ impl<'a> Request<'a> {
     }
 
     // Converts a request for an area whose address is put into a word.
-    fn get_in_word(self, names: &mut Names, text: &mut String) -> Result<Comes, Unsaid> {
+    fn get_in_word(self, names: &mut SymbolNames, text: &mut String) -> Result<Comes, Unsaid> {
         put_number(text, "LV", self.number("LV")?)?;
         let comes = self.known.comes_in_word(self.symbol_at("A")?)?;
         put_name(names, text, "A", comes.symbol())?;
@@ -123,7 +127,11 @@ impl<'a> Request<'a> {
     }
 
     // Converts a request for an area of some length: its least length is in the first word of the list, its greatest in the second.
-    fn get_some_in_words(self, names: &mut Names, text: &mut String) -> Result<Comes, Unsaid> {
+    fn get_some_in_words(
+        self,
+        names: &mut SymbolNames,
+        text: &mut String,
+    ) -> Result<Comes, Unsaid> {
         let (least, most) = self.known.two_words("LA", self.operands.required("LA")?)?;
         let comes = self.known.comes_in_word(self.symbol_at("A")?)?;
         put_some(names, text, (most, least), comes.symbol())?;
@@ -132,7 +140,7 @@ impl<'a> Request<'a> {
     }
 
     // Appends the lengths and the names of a list of areas, whose addresses are put into words from a symbol on.
-    fn put_list(self, names: &mut Names, text: &mut String) -> Result<&'a str, Unsaid> {
+    fn put_list(self, names: &mut SymbolNames, text: &mut String) -> Result<&'a str, Unsaid> {
         let lengths = self.known.word_list("LA", self.operands.required("LA")?)?;
         let symbol = self.symbol_at("A")?;
         names.renew_list(symbol, self.known.time)?;
@@ -142,7 +150,7 @@ impl<'a> Request<'a> {
     }
 
     // Converts a request for a list of areas.
-    fn get_list(self, names: &mut Names, text: &mut String) -> Result<Comes, Unsaid> {
+    fn get_list(self, names: &mut SymbolNames, text: &mut String) -> Result<Comes, Unsaid> {
         let word = self.put_list(names, text)?;
         self.put_rest(text)?;
         Ok(Comes::InWord {
@@ -152,7 +160,7 @@ impl<'a> Request<'a> {
     }
 
     /// Converts GETMAIN to a statement, and returns where it leaves an address.
-    pub fn getmain(self, names: &mut Names, text: &mut String) -> Result<Comes, Unsaid> {
+    pub fn getmain(self, names: &mut SymbolNames, text: &mut String) -> Result<Comes, Unsaid> {
         self.operands.check(&KEYS)?;
         let form = self.operands.at(0);
         let Some(asked) = asks_of(form) else {

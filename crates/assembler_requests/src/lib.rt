@@ -10,5 +10,5 @@ mod getmain;
 mod request;
 mod storage;
 
-pub use crate::attach::{Attached, Given};
+pub use crate::attach::{Attached, GivenNames};
 pub use crate::conversion::{Converted, convert};

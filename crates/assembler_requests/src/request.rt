@@ -1,16 +1,16 @@
 //! A request where it is executed, and the operands that several macros have.
 
-use assembler_operands::{Operands, Unsaid, Why};
+use assembler_operands::{MacroOperands, OpenCause, Unsaid};
 use assembler_symbols::in_register;
-use assembler_values::{Comes, Known, put_number};
+use assembler_values::{Comes, KnownValues, put_number};
 use std::alloc::AllocError;
 use std::fmt::Write;
 
 /// A request: what is known where it is executed, and its operands.
 #[derive(Clone, Copy)]
-pub struct Request<'a> {
-    pub known: Known<'a>,
-    pub operands: &'a Operands,
+pub struct MacroRequest<'a> {
+    pub known: KnownValues<'a>,
+    pub operands: &'a MacroOperands,
 }
 
 // The front of a text before a character, or all of it.
@@ -29,15 +29,15 @@ fn first_location(loc: &str) -> &str {
     }
 }
 
-impl<'a> Request<'a> {
+impl<'a> MacroRequest<'a> {
     /// Returns why the request is not converted.
-    pub fn refusal(self, why: Why, key: &str, text: &str) -> Unsaid {
+    pub fn refusal(self, why: OpenCause, key: &str, text: &str) -> Unsaid {
         Unsaid::of_operand(self.known.alloc, why, key, text)
     }
 
     /// Returns that the request has a form for which there is no statement.
     pub fn no_form(self, form: &str) -> Unsaid {
-        Unsaid::of(self.known.alloc, Why::NoForm, form)
+        Unsaid::of(self.known.alloc, OpenCause::NoForm, form)
     }
 
     /// Returns the number of a key.
@@ -102,7 +102,7 @@ impl<'a> Request<'a> {
         };
         let number = self.known.number("SP", subpool)?;
         if number > 127 && number != 131 && number != 132 {
-            return Err(self.refusal(Why::Authorized, "SP", subpool));
+            return Err(self.refusal(OpenCause::Authorized, "SP", subpool));
         }
         Ok(put_number(text, "SP", number)?)
     }
@@ -124,8 +124,8 @@ impl<'a> Request<'a> {
             return Ok(write!(text, ",LOC={first}")?);
         }
         if first == "64" {
-            return Err(Unsaid::of(self.known.alloc, Why::AboveTheBar, "LOC"));
+            return Err(Unsaid::of(self.known.alloc, OpenCause::AboveTheBar, "LOC"));
         }
-        Err(self.refusal(Why::NotModelled, "LOC", loc))
+        Err(self.refusal(OpenCause::NotModelled, "LOC", loc))
     }
 }

@@ -1,7 +1,7 @@
 //! STORAGE OBTAIN and STORAGE RELEASE.
 
-use crate::request::Request;
-use assembler_operands::{Keys, Names, Unsaid, Why, put_name};
+use crate::request::MacroRequest;
+use assembler_operands::{Keys, OpenCause, SymbolNames, Unsaid, put_name};
 use assembler_values::{Comes, put_number};
 use std::fmt::Write;
 
@@ -29,7 +29,7 @@ const RELEASING: Keys = Keys {
     authorized: &["TCBADDR", "ALET"],
 };
 
-impl Request<'_> {
+impl MacroRequest<'_> {
     // Appends the length, or the greatest and the least one.
     fn put_lengths(self, text: &mut String) -> Result<(), Unsaid> {
         let lengths = self.operands.required("LENGTH")?;
@@ -48,7 +48,7 @@ impl Request<'_> {
     }
 
     // Converts STORAGE OBTAIN, and returns where it leaves an address.
-    fn storage_obtain(self, names: &mut Names, text: &mut String) -> Result<Comes, Unsaid> {
+    fn storage_obtain(self, names: &mut SymbolNames, text: &mut String) -> Result<Comes, Unsaid> {
         self.operands.check(&OBTAINING)?;
         text.push_str("STORAGE OBTAIN")?;
         self.put_lengths(text)?;
@@ -61,19 +61,19 @@ impl Request<'_> {
     }
 
     // Appends the length and the name of an area that is released, if they are written.
-    fn put_area(self, names: &mut Names, text: &mut String) -> Result<(), Unsaid> {
+    fn put_area(self, names: &mut SymbolNames, text: &mut String) -> Result<(), Unsaid> {
         if let Some(lengths) = self.operands.get("LENGTH") {
             put_number(text, "LENGTH", self.known.number("LENGTH", lengths)?)?;
             return Ok(put_name(names, text, "ADDR", self.area_or("ADDR", "(1)")?)?);
         }
         if self.operands.get("ADDR").is_some() {
-            return Err(Unsaid::of(self.known.alloc, Why::Missing, "LENGTH"));
+            return Err(Unsaid::of(self.known.alloc, OpenCause::Missing, "LENGTH"));
         }
         Ok(())
     }
 
     // Converts STORAGE RELEASE.
-    fn storage_release(self, names: &mut Names, text: &mut String) -> Result<(), Unsaid> {
+    fn storage_release(self, names: &mut SymbolNames, text: &mut String) -> Result<(), Unsaid> {
         self.operands.check(&RELEASING)?;
         text.push_str("STORAGE RELEASE")?;
         self.put_area(names, text)?;
@@ -82,9 +82,13 @@ impl Request<'_> {
     }
 
     /// Converts STORAGE to a statement, and returns where it leaves an address.
-    pub fn storage(self, names: &mut Names, text: &mut String) -> Result<Option<Comes>, Unsaid> {
+    pub fn storage(
+        self,
+        names: &mut SymbolNames,
+        text: &mut String,
+    ) -> Result<Option<Comes>, Unsaid> {
         if self.operands.get("LINKAGE") == Some("BRANCH") {
-            return Err(self.refusal(Why::Authorized, "LINKAGE", "BRANCH"));
+            return Err(self.refusal(OpenCause::Authorized, "LINKAGE", "BRANCH"));
         }
         match self.operands.at(0) {
             "OBTAIN" => Ok(Some(self.storage_obtain(names, text)?)),

@@ -2,10 +2,10 @@
 
 use crate::frames::Inside;
 use crate::marks::return_mark;
-use crate::walk::Walk;
+use crate::walk::SourceWalk;
 use assembler_flow::RETURN_ADDRESS;
 use assembler_requests::Attached;
-use assembler_statements::Statement;
+use assembler_statements::SourceStatement;
 use assembler_values::{Content, execute};
 use std::alloc::AllocError;
 use std::mem;
@@ -13,7 +13,7 @@ use std::mem;
 /// What a register holds in which a routine gets its return address.
 const RETURN: &str = "*";
 
-impl Walk<'_> {
+impl SourceWalk<'_> {
     /// Continues with the statements of a task that was attached, and comes back after them. It fails if memory is exhausted.
     pub fn enter_task(&mut self, attached: Attached, start: usize) -> Result<(), AllocError> {
         let inside = Inside::Task {
@@ -29,7 +29,7 @@ impl Walk<'_> {
     /// Calls the routine at a place. It fails if memory is exhausted.
     pub fn call(
         &mut self,
-        statement: &Statement,
+        statement: &SourceStatement,
         entry: usize,
         link: u8,
     ) -> Result<(), AllocError> {
@@ -60,7 +60,7 @@ impl Walk<'_> {
     /// Calls the routine whose address is in a register, if it is known. It fails if memory is exhausted.
     pub fn call_register(
         &mut self,
-        statement: &Statement,
+        statement: &SourceStatement,
         register: u8,
         link: u8,
     ) -> Result<(), AllocError> {
@@ -96,7 +96,7 @@ impl Walk<'_> {
     }
 
     // Returns from the routine that the path is in, or continues with what is left of it.
-    fn return_from(&mut self, place: usize, statement: &Statement) -> Result<(), AllocError> {
+    fn return_from(&mut self, place: usize, statement: &SourceStatement) -> Result<(), AllocError> {
         if self.way.is_path() || self.frames.farthest() <= place {
             return self.leave_routine();
         }
@@ -105,7 +105,11 @@ impl Walk<'_> {
     }
 
     /// Returns from a routine, or ends the task. It fails if memory is exhausted.
-    pub fn return_or_end(&mut self, place: usize, statement: &Statement) -> Result<(), AllocError> {
+    pub fn return_or_end(
+        &mut self,
+        place: usize,
+        statement: &SourceStatement,
+    ) -> Result<(), AllocError> {
         if self.frames.link().is_some() {
             return self.return_from(place, statement);
         }
@@ -116,7 +120,7 @@ impl Walk<'_> {
     pub fn branch_register(
         &mut self,
         place: usize,
-        statement: &Statement,
+        statement: &SourceStatement,
         register: u8,
         is_conditional: bool,
     ) -> Result<(), AllocError> {
@@ -138,7 +142,7 @@ impl Walk<'_> {
     }
 
     // Branches to an address that is not known: the path ends there.
-    fn branch_unknown(&mut self, statement: &Statement) -> Result<(), AllocError> {
+    fn branch_unknown(&mut self, statement: &SourceStatement) -> Result<(), AllocError> {
         let text = "a branch to an address that is not known";
         if self.way.is_path() {
             self.mark(statement, text)?;
@@ -150,7 +154,7 @@ impl Walk<'_> {
     }
 
     // Processes a conditional return.
-    fn may_return(&mut self, place: usize, statement: &Statement) -> Result<(), AllocError> {
+    fn may_return(&mut self, place: usize, statement: &SourceStatement) -> Result<(), AllocError> {
         if self.way.is_path() {
             return Ok(());
         }

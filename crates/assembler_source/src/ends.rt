@@ -1,14 +1,14 @@
 //! Branches, and the ends of paths.
 
 use crate::marks::{away_mark, branch_mark, loop_mark};
-use crate::walk::Walk;
+use crate::walk::SourceWalk;
 use assembler_flow::{Flow, Target};
-use assembler_operands::Reason;
-use assembler_statements::Statement;
+use assembler_operands::OpenReason;
+use assembler_statements::SourceStatement;
 use assembler_values::{execute, execute_branch};
 use std::alloc::AllocError;
 
-impl Walk<'_> {
+impl SourceWalk<'_> {
     /// Leaves the routines of the task that runs, and its program.
     pub fn leave_task(&mut self) {
         self.frames.leave_routines();
@@ -33,7 +33,7 @@ impl Walk<'_> {
     pub fn end_task(
         &mut self,
         place: usize,
-        statement: &Statement,
+        statement: &SourceStatement,
         text: &str,
     ) -> Result<(), AllocError> {
         if self.way.is_path() || self.is_of_program(place) {
@@ -46,7 +46,7 @@ impl Walk<'_> {
     }
 
     // Ends the task with ABEND or with the system call that ends it.
-    fn end_at_once(&mut self, place: usize, statement: &Statement) -> Result<(), AllocError> {
+    fn end_at_once(&mut self, place: usize, statement: &SourceStatement) -> Result<(), AllocError> {
         if statement.operation.as_str() != "ABEND" {
             return self.end_task(place, statement, "RETURN");
         }
@@ -59,7 +59,7 @@ impl Walk<'_> {
     }
 
     // Jumps back in a loop that has no end on the path: the path continues at its next label, or ends.
-    fn leave_loop(&mut self, statement: &Statement) -> Result<(), AllocError> {
+    fn leave_loop(&mut self, statement: &SourceStatement) -> Result<(), AllocError> {
         match self.way.next() {
             Some(next) => {
                 self.at = next;
@@ -77,7 +77,7 @@ impl Walk<'_> {
     fn branch_on_path(
         &mut self,
         place: usize,
-        statement: &Statement,
+        statement: &SourceStatement,
         to: Target<'_>,
         is_conditional: bool,
     ) -> Result<(), AllocError> {
@@ -99,7 +99,7 @@ impl Walk<'_> {
     fn branch_in_order(
         &mut self,
         place: usize,
-        statement: &Statement,
+        statement: &SourceStatement,
         to: Target<'_>,
         is_conditional: bool,
     ) -> Result<(), AllocError> {
@@ -123,7 +123,7 @@ impl Walk<'_> {
     fn mark_loop(
         &mut self,
         place: usize,
-        statement: &Statement,
+        statement: &SourceStatement,
         to: Target<'_>,
     ) -> Result<bool, AllocError> {
         let source = self.source;
@@ -134,7 +134,7 @@ impl Walk<'_> {
             return Ok(false);
         }
         let mark = loop_mark(source.alloc, source.statements, place, closed)?;
-        self.script.put_open(statement, Reason::choice(mark))?;
+        self.script.put_open(statement, OpenReason::choice(mark))?;
         Ok(true)
     }
 
@@ -142,7 +142,7 @@ impl Walk<'_> {
     fn branch(
         &mut self,
         place: usize,
-        statement: &Statement,
+        statement: &SourceStatement,
         to: Target<'_>,
         is_conditional: bool,
     ) -> Result<(), AllocError> {
@@ -170,7 +170,7 @@ impl Walk<'_> {
     fn branch_away(
         &mut self,
         place: usize,
-        statement: &Statement,
+        statement: &SourceStatement,
         label: &str,
         is_conditional: bool,
     ) -> Result<(), AllocError> {
@@ -197,7 +197,7 @@ impl Walk<'_> {
     pub fn go(
         &mut self,
         place: usize,
-        statement: &Statement,
+        statement: &SourceStatement,
         flow: Flow<'_>,
     ) -> Result<(), AllocError> {
         let source = self.source;

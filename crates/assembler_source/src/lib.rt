@@ -13,7 +13,7 @@ mod walk;
 mod way;
 
 pub use crate::options::{Choices, Repeat, Schedule};
-pub use crate::script::{Found, Saying};
+pub use crate::script::{FoundLine, Saying};
 pub use crate::walk::{Requests, find_requests};
-pub use crate::way::Refusal;
-pub use assembler_statements::{Member, copied_members};
+pub use crate::way::ConversionRefusal;
+pub use assembler_statements::{CopyMember, copied_members};

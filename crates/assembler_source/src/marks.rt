@@ -1,11 +1,11 @@
 //! The texts of marks: what a reader has to choose.
 
 use assembler_flow::{Loop, Target};
-use assembler_statements::Statement;
+use assembler_statements::SourceStatement;
 use std::alloc::{AllocError, Global};
 
 // Returns the number of the statement at a place; 0 if there is none.
-fn number_at(statements: &[Statement], place: usize) -> u32 {
+fn number_at(statements: &[SourceStatement], place: usize) -> u32 {
     match statements.get(place) {
         Some(statement) => statement.number,
         None => 0,
@@ -13,7 +13,11 @@ fn number_at(statements: &[Statement], place: usize) -> u32 {
 }
 
 // Returns the label of the statement at a place, or its number if it has none.
-fn name_at(alloc: Global, statements: &[Statement], place: usize) -> Result<String, AllocError> {
+fn name_at(
+    alloc: Global,
+    statements: &[SourceStatement],
+    place: usize,
+) -> Result<String, AllocError> {
     match statements.get(place) {
         Some(statement) if !statement.label.is_empty() => statement.label.clone(),
         _ => {
@@ -24,7 +28,11 @@ fn name_at(alloc: Global, statements: &[Statement], place: usize) -> Result<Stri
 }
 
 // Returns where a branch continues that is not taken.
-fn on_to(alloc: Global, statements: &[Statement], place: usize) -> Result<String, AllocError> {
+fn on_to(
+    alloc: Global,
+    statements: &[SourceStatement],
+    place: usize,
+) -> Result<String, AllocError> {
     match statements.get(place.saturating_add(1)) {
         None => String::from_str(alloc, "on"),
         Some(next) if next.label.is_empty() => {
@@ -42,7 +50,7 @@ fn on_to(alloc: Global, statements: &[Statement], place: usize) -> Result<String
 /// Returns the mark of a branch at a place. It fails if memory is exhausted.
 pub fn branch_mark(
     alloc: Global,
-    statements: &[Statement],
+    statements: &[SourceStatement],
     place: usize,
     to: Target<'_>,
     is_conditional: bool,
@@ -59,7 +67,7 @@ pub fn branch_mark(
 /// Returns the mark of a branch to a label that the source does not have. It fails if memory is exhausted.
 pub fn away_mark(
     alloc: Global,
-    statements: &[Statement],
+    statements: &[SourceStatement],
     place: usize,
     label: &str,
     is_conditional: bool,
@@ -74,7 +82,7 @@ pub fn away_mark(
 /// Returns the mark of the branch at a place that closes a loop. It fails if memory is exhausted.
 pub fn loop_mark(
     alloc: Global,
-    statements: &[Statement],
+    statements: &[SourceStatement],
     place: usize,
     closed: &Loop,
 ) -> Result<String, AllocError> {
@@ -88,7 +96,7 @@ pub fn loop_mark(
 /// Returns the mark of a conditional return. It fails if memory is exhausted.
 pub fn return_mark(
     alloc: Global,
-    statements: &[Statement],
+    statements: &[SourceStatement],
     place: usize,
 ) -> Result<String, AllocError> {
     let on = on_to(alloc, statements, place)?;
@@ -98,7 +106,7 @@ pub fn return_mark(
 /// Returns the mark after ATTACH: where the statements of the subtask belong. It fails if memory is exhausted.
 pub fn attach_mark(
     alloc: Global,
-    statements: &[Statement],
+    statements: &[SourceStatement],
     task: &str,
     start: Option<usize>,
 ) -> Result<String, AllocError> {

@@ -1,7 +1,7 @@
 //! What the requests of a source are converted to, in the order of the script.
 
-use assembler_operands::Reason;
-use assembler_statements::Statement;
+use assembler_operands::OpenReason;
+use assembler_statements::SourceStatement;
 use std::alloc::{AllocError, Global};
 use std::collections::{BTreeMap, BTreeSet};
 use std::mem;
@@ -10,13 +10,13 @@ use std::mem;
 #[derive(Drop)]
 pub enum Saying {
     Statement { task: String, text: String },
-    Open(Reason),
+    Open(OpenReason),
 }
 
 /// A line of the script: the number of its statement in the source or in a member, what is written there, the loop that it is in, and what
 /// the line is.
 #[derive(Drop)]
-pub struct Found {
+pub struct FoundLine {
     pub number: u32,
     pub member: String,
     pub source: String,
@@ -26,18 +26,18 @@ pub struct Found {
 
 // A line of the script, or the end of a path of a task, which may become one.
 #[derive(Drop)]
-enum Item {
-    Line(Found),
-    End { task: String, found: Found },
+enum ScriptItem {
+    Line(FoundLine),
+    End { task: String, found: FoundLine },
 }
 
 /// The lines of the script as far as they are found.
 #[derive(Drop)]
 pub struct Script {
     alloc: Global,
-    items: Vec<Item>,
+    items: Vec<ScriptItem>,
     /// Marks and ends that become lines if a request of the same section follows.
-    pending: Vec<Item>,
+    pending: Vec<ScriptItem>,
     /// By its task, the place of the last statement among the items.
     last: BTreeMap<String, usize>,
     /// The tasks that have attached others.
@@ -45,7 +45,7 @@ pub struct Script {
 }
 
 // Returns a statement of a source as it is shown: its label, operation and operands.
-fn shown(alloc: Global, statement: &Statement) -> Result<String, AllocError> {
+fn shown(alloc: Global, statement: &SourceStatement) -> Result<String, AllocError> {
     let mut text = String::new(alloc);
     for part in [&statement.label, &statement.operation, &statement.field] {
         if !text.is_empty() && !part.is_empty() {
@@ -57,8 +57,12 @@ fn shown(alloc: Global, statement: &Statement) -> Result<String, AllocError> {
 }
 
 // Returns a line for a statement of a source.
-fn found_at(alloc: Global, statement: &Statement, saying: Saying) -> Result<Found, AllocError> {
-    Ok(Found {
+fn found_at(
+    alloc: Global,
+    statement: &SourceStatement,
+    saying: Saying,
+) -> Result<FoundLine, AllocError> {
+    Ok(FoundLine {
         number: statement.number,
         member: statement.member.clone()?,
         source: shown(alloc, statement)?,
@@ -69,26 +73,26 @@ fn found_at(alloc: Global, statement: &Statement, saying: Saying) -> Result<Foun
 
 // Returns the lines that some items become, but for the ends of tasks that come last.
 #[derive(Drop)]
-struct Lines {
+struct ScriptLines {
     alloc: Global,
-    lines: Vec<Found>,
-    late: Vec<Found>,
+    lines: Vec<FoundLine>,
+    late: Vec<FoundLine>,
     ended: BTreeSet<String>,
 }
 
-impl Lines {
+impl ScriptLines {
     // Takes the end of a path of a task: the last one is a statement, the one before a later request is open.
     fn take_end(
         &mut self,
         task: String,
-        found: Found,
+        found: FoundLine,
         is_last: bool,
         is_late: bool,
     ) -> Result<(), AllocError> {
         if !is_last {
             let why = String::from_str(self.alloc, "a path of the task ends here")?;
-            self.lines.push(Found {
-                saying: Saying::Open(Reason::choice(why)),
+            self.lines.push(FoundLine {
+                saying: Saying::Open(OpenReason::choice(why)),
                 number: found.number,
                 member: found.member,
                 source: found.source,
@@ -130,25 +134,33 @@ impl Script {
     }
 
     /// Appends what is open at a statement. It fails if memory is exhausted.
-    pub fn put_open(&mut self, statement: &Statement, reason: Reason) -> Result<(), AllocError> {
+    pub fn put_open(
+        &mut self,
+        statement: &SourceStatement,
+        reason: OpenReason,
+    ) -> Result<(), AllocError> {
         self.flush()?;
         let found = found_at(self.alloc, statement, Saying::Open(reason))?;
-        self.items.push(Item::Line(found))?;
+        self.items.push(ScriptItem::Line(found))?;
         Ok(())
     }
 
     /// Appends a mark that becomes a line if a request of the same section follows. It fails if memory is exhausted.
-    pub fn put_mark(&mut self, statement: &Statement, text: String) -> Result<(), AllocError> {
-        let reason = Saying::Open(Reason::choice(text));
+    pub fn put_mark(
+        &mut self,
+        statement: &SourceStatement,
+        text: String,
+    ) -> Result<(), AllocError> {
+        let reason = Saying::Open(OpenReason::choice(text));
         let found = found_at(self.alloc, statement, reason)?;
-        self.pending.push(Item::Line(found))?;
+        self.pending.push(ScriptItem::Line(found))?;
         Ok(())
     }
 
     /// Appends the statement of a task. It fails if memory is exhausted.
     pub fn put_statement(
         &mut self,
-        statement: &Statement,
+        statement: &SourceStatement,
         task: &str,
         text: String,
         in_loop: Option<String>,
@@ -158,7 +170,7 @@ impl Script {
         self.last.insert(task.clone()?, self.items.len())?;
         let mut found = found_at(self.alloc, statement, Saying::Statement { task, text })?;
         found.in_loop = in_loop;
-        self.items.push(Item::Line(found))?;
+        self.items.push(ScriptItem::Line(found))?;
         Ok(())
     }
 
@@ -171,7 +183,7 @@ impl Script {
     /// Appends the end of a path of a task. It fails if memory is exhausted.
     pub fn put_end(
         &mut self,
-        statement: &Statement,
+        statement: &SourceStatement,
         task: &str,
         text: &str,
     ) -> Result<(), AllocError> {
@@ -181,7 +193,7 @@ impl Script {
         };
         let found = found_at(self.alloc, statement, saying)?;
         let task = String::from_str(self.alloc, task)?;
-        self.pending.push(Item::End { task, found })?;
+        self.pending.push(ScriptItem::End { task, found })?;
         Ok(())
     }
 
@@ -190,8 +202,10 @@ impl Script {
         let pending = mem::replace(&mut self.pending, Vec::new(self.alloc));
         for item in pending {
             match item {
-                Item::Line(_mark) => {}
-                Item::End { task, found } => self.items.push(Item::End { task, found })?,
+                ScriptItem::Line(_mark) => {}
+                ScriptItem::End { task, found } => self
+                    .items
+                    .push(ScriptItem::End { task, found })?,
             }
         }
         Ok(())
@@ -199,7 +213,7 @@ impl Script {
 
     /// Returns the lines of the script. With `is_late` a task that has attached others ends after all their lines. It fails if memory is
     /// exhausted.
-    pub fn lines(self, is_late: bool) -> Result<Vec<Found>, AllocError> {
+    pub fn lines(self, is_late: bool) -> Result<Vec<FoundLine>, AllocError> {
         let Script {
             alloc,
             items,
@@ -207,7 +221,7 @@ impl Script {
             last,
             attaching,
         } = self;
-        let mut lines = Lines {
+        let mut lines = ScriptLines {
             alloc,
             lines: Vec::new(alloc),
             late: Vec::new(alloc),
@@ -215,8 +229,8 @@ impl Script {
         };
         for (place, item) in items.into_iter().enumerate() {
             match item {
-                Item::Line(found) => lines.lines.push(found)?,
-                Item::End { task, found } => {
+                ScriptItem::Line(found) => lines.lines.push(found)?,
+                ScriptItem::End { task, found } => {
                     let is_last = match last.get(task.as_str()) {
                         Some(last) => *last < place,
                         None => true,
@@ -226,7 +240,7 @@ impl Script {
                 }
             }
         }
-        let Lines {
+        let ScriptLines {
             mut lines,
             late,
             ..

@@ -1,7 +1,7 @@
 //! The sections of a source, and which of them are programs of tasks.
 
 use assembler_flow::begins_section;
-use assembler_statements::Statement;
+use assembler_statements::SourceStatement;
 use assembler_symbols::Symbols;
 use std::alloc::{AllocError, Global};
 use std::collections::{BTreeMap, BTreeSet};
@@ -25,7 +25,7 @@ fn characters_at<'a>(symbols: &'a Symbols, symbol: &str) -> Option<&'a str> {
 }
 
 // The program that a statement attaches.
-fn attached_by<'a>(symbols: &'a Symbols, statement: &'a Statement) -> Option<&'a str> {
+fn attached_by<'a>(symbols: &'a Symbols, statement: &'a SourceStatement) -> Option<&'a str> {
     if !statement.operation.starts_with("ATTACH") {
         return None;
     }
@@ -40,12 +40,12 @@ fn attached_by<'a>(symbols: &'a Symbols, statement: &'a Statement) -> Option<&'a
 }
 
 // Whether a statement says that its program may reside above 16 megabytes.
-fn is_above(statement: &Statement) -> bool {
+fn is_above(statement: &SourceStatement) -> bool {
     statement.operation.as_str() == "RMODE" && matches!(statement.field.as_str(), "ANY" | "31")
 }
 
 // The label of the first section.
-fn first_section(statements: &[Statement]) -> &str {
+fn first_section(statements: &[SourceStatement]) -> &str {
     for statement in statements {
         if begins_section(statement) && !statement.label.is_empty() {
             return statement.label.as_str();
@@ -61,7 +61,7 @@ impl Sections {
         alloc: Global,
         symbols: &Symbols,
         place: usize,
-        statement: &Statement,
+        statement: &SourceStatement,
     ) -> Result<(), AllocError> {
         if let Some(program) = attached_by(symbols, statement) {
             let program = String::from_str(alloc, program)?;
@@ -80,7 +80,7 @@ impl Sections {
     pub fn find(
         alloc: Global,
         symbols: &Symbols,
-        statements: &[Statement],
+        statements: &[SourceStatement],
     ) -> Result<Sections, AllocError> {
         let mut sections = Sections {
             first: String::from_str(alloc, first_section(statements))?,

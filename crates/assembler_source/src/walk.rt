@@ -3,15 +3,15 @@
 use crate::frames::{Frames, Inside};
 use crate::marks::attach_mark;
 use crate::options::{Choices, Schedule};
-use crate::script::{Found, Script};
+use crate::script::{FoundLine, Script};
 use crate::sections::Sections;
-use crate::way::{Refusal, Way};
+use crate::way::{ConversionRefusal, Way};
 use assembler_flow::{Layout, Loops, begins_section, flow_of};
-use assembler_operands::{Reason, Unsaid, Why};
-use assembler_requests::{Attached, Converted, Given, convert};
-use assembler_statements::{Member, Statement, read_statements};
+use assembler_operands::{OpenCause, OpenReason, Unsaid};
+use assembler_requests::{Attached, Converted, GivenNames, convert};
+use assembler_statements::{CopyMember, SourceStatement, read_statements};
 use assembler_symbols::{Symbols, symbols_of};
-use assembler_values::{Held, Known, Macro, Written, how_written, macro_of, operands_of};
+use assembler_values::{Held, KnownValues, Macro, MacroForm, how_written, macro_of, operands_of};
 use std::alloc::{AllocError, Global};
 use std::collections::{BTreeMap, BTreeSet, VecDeque};
 
@@ -20,7 +20,7 @@ use std::collections::{BTreeMap, BTreeSet, VecDeque};
 pub struct Requests {
     pub task: String,
     pub is_above: bool,
-    pub found: Vec<Found>,
+    pub found: Vec<FoundLine>,
 }
 
 /// The most statements that a path may have beyond those of its source.
@@ -31,9 +31,9 @@ const MOST_BACKS: u32 = 100;
 
 /// A source that was read.
 #[derive(Clone, Copy)]
-pub struct Source<'a> {
+pub struct SourceText<'a> {
     pub alloc: Global,
-    pub statements: &'a [Statement],
+    pub statements: &'a [SourceStatement],
     pub symbols: &'a Symbols,
     pub sections: &'a Sections,
     pub layout: &'a Layout,
@@ -42,8 +42,8 @@ pub struct Source<'a> {
 
 /// A source as far as it was gone through.
 #[derive(Drop)]
-pub struct Walk<'a> {
-    pub source: Source<'a>,
+pub struct SourceWalk<'a> {
+    pub source: SourceText<'a>,
     pub way: Way,
     pub held: Held,
     pub script: Script,
@@ -53,7 +53,7 @@ pub struct Walk<'a> {
     /// The task that runs, and its program.
     pub task: String,
     pub program: String,
-    given: Given,
+    given: GivenNames,
     /// The places in routines that were called: their requests are converted where they are called.
     called: BTreeSet<usize>,
     /// By its place, how often a request was converted.
@@ -66,13 +66,13 @@ pub struct Walk<'a> {
     entered: BTreeSet<String>,
 }
 
-impl<'a> Walk<'a> {
+impl<'a> SourceWalk<'a> {
     // Begins before the first statement.
-    fn begin(source: Source<'a>, way: Way) -> Result<Walk<'a>, Refusal> {
+    fn begin(source: SourceText<'a>, way: Way) -> Result<SourceWalk<'a>, ConversionRefusal> {
         let alloc = source.alloc;
-        let mut given = Given::new(alloc, &source.sections.first)?;
+        let mut given = GivenNames::new(alloc, &source.sections.first)?;
         let task = given.names.of_task(&source.sections.first)?;
-        Ok(Walk {
+        Ok(SourceWalk {
             source,
             way,
             held: Held::new(alloc),
@@ -91,9 +91,9 @@ impl<'a> Walk<'a> {
     }
 
     /// Appends a mark at a statement that is open. It fails if memory is exhausted.
-    pub fn mark(&mut self, statement: &Statement, text: &str) -> Result<(), AllocError> {
+    pub fn mark(&mut self, statement: &SourceStatement, text: &str) -> Result<(), AllocError> {
         let text = String::from_str(self.source.alloc, text)?;
-        self.script.put_open(statement, Reason::choice(text))
+        self.script.put_open(statement, OpenReason::choice(text))
     }
 
     // Counts the request at a place, and returns how often it was converted, this time among them.
@@ -118,13 +118,17 @@ impl<'a> Walk<'a> {
     }
 
     // Appends a task that was attached, whose statements come later, or continues with it.
-    fn attach(&mut self, statement: &Statement, attached: Attached) -> Result<(), AllocError> {
+    fn attach(
+        &mut self,
+        statement: &SourceStatement,
+        attached: Attached,
+    ) -> Result<(), AllocError> {
         self.script.attaches(&self.task)?;
         let start = self.source.sections.start_of(&attached.program);
         if self.way.schedule == Schedule::Marked {
             let source = self.source;
             let mark = attach_mark(source.alloc, source.statements, &attached.task, start)?;
-            self.script.put_open(statement, Reason::choice(mark))?;
+            self.script.put_open(statement, OpenReason::choice(mark))?;
         }
         let Some(start) = start else {
             return Ok(());
@@ -152,7 +156,7 @@ impl<'a> Walk<'a> {
     fn put_converted(
         &mut self,
         place: usize,
-        statement: &Statement,
+        statement: &SourceStatement,
         request: Converted,
     ) -> Result<(), AllocError> {
         let Converted {
@@ -181,14 +185,14 @@ impl<'a> Walk<'a> {
     fn put(
         &mut self,
         place: usize,
-        statement: &Statement,
+        statement: &SourceStatement,
         ended: Result<Converted, Unsaid>,
     ) -> Result<(), AllocError> {
         match ended {
             Ok(request) => self.put_converted(place, statement, request),
             Err(Unsaid::For(reason)) => self.script.put_open(statement, reason),
             Err(Unsaid::NoName) => {
-                let reason = Reason::alone(self.source.alloc, Why::NoName);
+                let reason = OpenReason::alone(self.source.alloc, OpenCause::NoName);
                 self.script.put_open(statement, reason)
             }
             Err(Unsaid::Memory) => Err(AllocError),
@@ -200,11 +204,11 @@ impl<'a> Walk<'a> {
         &mut self,
         asked: Macro,
         place: usize,
-        statement: &'a Statement,
+        statement: &'a SourceStatement,
         time: u32,
     ) -> Result<Option<Result<Converted, Unsaid>>, AllocError> {
         let source = self.source;
-        let known = Known {
+        let known = KnownValues {
             alloc: source.alloc,
             symbols: source.symbols,
             held: &self.held,
@@ -216,7 +220,7 @@ impl<'a> Walk<'a> {
                 .unwrap_or(&[]),
         };
         let how = how_written(known, statement)?;
-        if matches!(how, Written::List) {
+        if matches!(how, MacroForm::List) {
             return Ok(None);
         }
         Ok(Some(
@@ -232,7 +236,7 @@ impl<'a> Walk<'a> {
         &mut self,
         asked: Macro,
         place: usize,
-        statement: &'a Statement,
+        statement: &'a SourceStatement,
     ) -> Result<(), AllocError> {
         let time = self.count(place)?;
         match self.convert(asked, place, statement, time)? {
@@ -245,7 +249,11 @@ impl<'a> Walk<'a> {
     }
 
     // Processes the beginning of a section: one of another program's is left out, and a routine ends there.
-    fn pass_section(&mut self, place: usize, statement: &Statement) -> Result<(), AllocError> {
+    fn pass_section(
+        &mut self,
+        place: usize,
+        statement: &SourceStatement,
+    ) -> Result<(), AllocError> {
         match self.frames.routine() {
             Some(entry) if entry == place => return Ok(()),
             Some(_) => return self.leave_routine(),
@@ -294,7 +302,7 @@ impl<'a> Walk<'a> {
     }
 
     // Processes the statement at a place.
-    fn pass(&mut self, place: usize, statement: &'a Statement) -> Result<(), AllocError> {
+    fn pass(&mut self, place: usize, statement: &'a SourceStatement) -> Result<(), AllocError> {
         if begins_section(statement) {
             self.note(place)?;
             return self.pass_section(place, statement);
@@ -372,7 +380,7 @@ impl<'a> Walk<'a> {
     }
 
     // Lets the tasks wait whose programs nothing has attached, though an ATTACH names them.
-    fn wait_for_others(&mut self) -> Result<(), Refusal> {
+    fn wait_for_others(&mut self) -> Result<(), ConversionRefusal> {
         let source = self.source;
         for start in source.layout.starts() {
             let Some(statement) = source.statements.get(*start) else {
@@ -408,7 +416,7 @@ impl<'a> Walk<'a> {
     }
 
     // Processes the whole source.
-    fn run_all(&mut self) -> Result<(), Refusal> {
+    fn run_all(&mut self) -> Result<(), ConversionRefusal> {
         if self.run()? && !self.way.is_path() {
             self.wait_for_others()?;
             self.run()?;
@@ -429,12 +437,12 @@ impl<'a> Walk<'a> {
 }
 
 // Processes a source that was read.
-fn walked(source: Source<'_>, way: Way) -> Result<Requests, Refusal> {
-    let mut walk = Walk::begin(source, way)?;
+fn walked(source: SourceText<'_>, way: Way) -> Result<Requests, ConversionRefusal> {
+    let mut walk = SourceWalk::begin(source, way)?;
     let task = walk.task.clone()?;
     walk.run_all()?;
     let is_late = walk.way.schedule != Schedule::AtAttach;
-    let Walk { script, .. } = walk;
+    let SourceWalk { script, .. } = walk;
     Ok(Requests {
         task,
         is_above: source.sections.is_above(&source.sections.first),
@@ -447,16 +455,16 @@ fn walked(source: Source<'_>, way: Way) -> Result<Requests, Refusal> {
 pub fn find_requests(
     alloc: Global,
     source: &[u8],
-    members: &[Member],
+    members: &[CopyMember],
     choices: &Choices,
-) -> Result<Requests, Refusal> {
+) -> Result<Requests, ConversionRefusal> {
     let statements = read_statements(alloc, source, members)?;
     let symbols = symbols_of(alloc, &statements)?;
     let sections = Sections::find(alloc, &symbols, &statements)?;
     let layout = Layout::find(alloc, &statements)?;
     let loops = Loops::find(alloc, &symbols, &layout, &statements)?;
     let way = Way::find(alloc, &layout, &loops, choices)?;
-    let source = Source {
+    let source = SourceText {
         alloc,
         statements: &statements,
         symbols: &symbols,

@@ -9,7 +9,7 @@ use thiserror::Error;
 
 /// Why a source is not converted.
 #[derive(Debug, Drop, Error)]
-pub enum Refusal {
+pub enum ConversionRefusal {
     #[error("out of memory")]
     Memory,
     #[error("no name is left for a program")]
@@ -22,23 +22,23 @@ pub enum Refusal {
     NoLoop(String),
 }
 
-impl From<AllocError> for Refusal {
-    fn from(_: AllocError) -> Refusal {
-        Refusal::Memory
+impl From<AllocError> for ConversionRefusal {
+    fn from(_: AllocError) -> ConversionRefusal {
+        ConversionRefusal::Memory
     }
 }
 
-impl<T: Drop> From<AllocFailed<T>> for Refusal {
-    fn from(_: AllocFailed<T>) -> Refusal {
-        Refusal::Memory
+impl<T: Drop> From<AllocFailed<T>> for ConversionRefusal {
+    fn from(_: AllocFailed<T>) -> ConversionRefusal {
+        ConversionRefusal::Memory
     }
 }
 
-impl From<NoName> for Refusal {
-    fn from(why: NoName) -> Refusal {
+impl From<NoName> for ConversionRefusal {
+    fn from(why: NoName) -> ConversionRefusal {
         match why {
-            NoName::Memory => Refusal::Memory,
-            NoName::AllUsed => Refusal::NoName,
+            NoName::Memory => ConversionRefusal::Memory,
+            NoName::AllUsed => ConversionRefusal::NoName,
         }
     }
 }
@@ -62,15 +62,19 @@ pub struct Way {
 }
 
 // Returns the place of a label of the path.
-fn place_of(alloc: Global, layout: &Layout, label: &str) -> Result<usize, Refusal> {
+fn place_of(alloc: Global, layout: &Layout, label: &str) -> Result<usize, ConversionRefusal> {
     match layout.place_of(label) {
         Some(place) => Ok(place),
-        None => Err(Refusal::NoLabel(String::from_str(alloc, label)?)),
+        None => Err(ConversionRefusal::NoLabel(String::from_str(alloc, label)?)),
     }
 }
 
 // Returns the places of the labels of a path.
-fn places_of(alloc: Global, layout: &Layout, labels: &[String]) -> Result<Vec<usize>, Refusal> {
+fn places_of(
+    alloc: Global,
+    layout: &Layout,
+    labels: &[String],
+) -> Result<Vec<usize>, ConversionRefusal> {
     let mut places = Vec::new(alloc);
     for label in labels {
         places.push(place_of(alloc, layout, label)?)?;
@@ -84,13 +88,13 @@ fn end_of_loop(
     layout: &Layout,
     loops: &Loops,
     label: &str,
-) -> Result<usize, Refusal> {
+) -> Result<usize, ConversionRefusal> {
     if let Some(start) = layout.place_of(label) {
         if let Some(found) = loops.from(start) {
             return Ok(found.end);
         }
     }
-    Err(Refusal::NoLoop(String::from_str(alloc, label)?))
+    Err(ConversionRefusal::NoLoop(String::from_str(alloc, label)?))
 }
 
 impl Way {
@@ -100,7 +104,7 @@ impl Way {
         layout: &Layout,
         loops: &Loops,
         choices: &Choices,
-    ) -> Result<Way, Refusal> {
+    ) -> Result<Way, ConversionRefusal> {
         let path = match &choices.path {
             Some(labels) => Some(places_of(alloc, layout, labels)?),
             None => None,

@@ -7,4 +7,6 @@ mod quotes;
 mod statements;
 
 pub use crate::quotes::is_of_symbol;
-pub use crate::statements::{Member, Statement, copied_members, read_statements, separated};
+pub use crate::statements::{
+    CopyMember, SourceStatement, copied_members, read_statements, separated,
+};

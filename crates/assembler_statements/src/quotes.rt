@@ -2,7 +2,7 @@
 
 /// What the characters of a text before a place have opened.
 #[derive(Clone, Copy)]
-pub struct Opened {
+pub struct OpenQuotes {
     in_quotes: bool,
     parentheses: u32,
     last: char,
@@ -18,10 +18,10 @@ pub fn is_of_symbol(letter: char) -> bool {
         || letter == '_'
 }
 
-impl Opened {
+impl OpenQuotes {
     /// Returns what is open where a text begins: nothing.
-    pub fn new() -> Opened {
-        Opened {
+    pub fn new() -> OpenQuotes {
+        OpenQuotes {
             in_quotes: false,
             parentheses: 0,
             last: ' ',

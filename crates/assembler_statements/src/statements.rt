@@ -1,12 +1,12 @@
 //! The statements of a source: label, operation and operands, with the lines that continue them.
 
 use crate::lines::{CONTINUATION, GO_ON, SourceLine, columns, source_lines};
-use crate::quotes::Opened;
+use crate::quotes::OpenQuotes;
 use std::alloc::{AllocError, Global};
 
 /// A statement of a source.
 #[derive(Drop)]
-pub struct Statement {
+pub struct SourceStatement {
     /// The number of its first line.
     pub number: u32,
     /// The member of COPY from which it is, or an empty text.
@@ -20,7 +20,7 @@ pub struct Statement {
 
 /// A member that COPY names, and what is in it.
 #[derive(Drop)]
-pub struct Member {
+pub struct CopyMember {
     pub name: String,
     pub source: Vec<u8>,
 }
@@ -38,7 +38,7 @@ pub fn separated(alloc: Global, text: &str) -> Result<Vec<String>, AllocError> {
         return Ok(parts);
     }
     let mut part = String::new(alloc);
-    let mut opened = Opened::new();
+    let mut opened = OpenQuotes::new();
     for letter in text.chars() {
         if opened.separates(letter) {
             parts.push(part)?;
@@ -54,11 +54,11 @@ pub fn separated(alloc: Global, text: &str) -> Result<Vec<String>, AllocError> {
 
 // The statements of a source as far as it was read. Lines that continue the last of them may still come.
 #[derive(Drop)]
-struct Reading {
+struct StatementReading {
     alloc: Global,
-    found: Vec<Statement>,
+    found: Vec<SourceStatement>,
     /// What the operands of the last statement have opened.
-    opened: Opened,
+    opened: OpenQuotes,
     /// Whether the operands of the last statement go on in the next line.
     continues: bool,
 }
@@ -79,7 +79,11 @@ fn word_of(text: &str) -> (&str, &str) {
 }
 
 // Appends the operands of a line, which end at the first blank, and returns whether the next line continues them.
-fn take_operands(field: &mut String, opened: &mut Opened, text: &str) -> Result<bool, AllocError> {
+fn take_operands(
+    field: &mut String,
+    opened: &mut OpenQuotes,
+    text: &str,
+) -> Result<bool, AllocError> {
     for letter in text.chars() {
         if opened.ends_operands(letter) {
             return Ok(field.ends_with(","));
@@ -95,10 +99,10 @@ fn begun<'a>(
     alloc: Global,
     number: u32,
     text: &'a str,
-) -> Result<(Statement, &'a str), AllocError> {
+) -> Result<(SourceStatement, &'a str), AllocError> {
     let (label, rest) = word_of(text);
     let (operation, operands) = word_of(rest);
-    let statement = Statement {
+    let statement = SourceStatement {
         number,
         member: String::new(alloc),
         label: upper(alloc, label)?,
@@ -109,12 +113,12 @@ fn begun<'a>(
     Ok((statement, operands))
 }
 
-impl Reading {
-    fn new(alloc: Global) -> Reading {
-        Reading {
+impl StatementReading {
+    fn new(alloc: Global) -> StatementReading {
+        StatementReading {
             alloc,
             found: Vec::new(alloc),
-            opened: Opened::new(),
+            opened: OpenQuotes::new(),
             continues: false,
         }
     }
@@ -136,7 +140,7 @@ impl Reading {
         let text = columns(self.alloc, &line.text, 0, CONTINUATION)?;
         let (statement, operands) = begun(self.alloc, line.number, &text)?;
         self.found.push(statement)?;
-        self.opened = Opened::new();
+        self.opened = OpenQuotes::new();
         self.take(operands)
     }
 
@@ -151,8 +155,8 @@ impl Reading {
 }
 
 // Reads the statements of some lines, definitions of macros among them. They have no operands yet.
-fn all_statements(alloc: Global, lines: &[SourceLine]) -> Result<Vec<Statement>, AllocError> {
-    let mut reading = Reading::new(alloc);
+fn all_statements(alloc: Global, lines: &[SourceLine]) -> Result<Vec<SourceStatement>, AllocError> {
+    let mut reading = StatementReading::new(alloc);
     let mut continued = false;
     for line in lines {
         if continued {
@@ -166,7 +170,7 @@ fn all_statements(alloc: Global, lines: &[SourceLine]) -> Result<Vec<Statement>,
 }
 
 // Reads the statements of a source, or of a listing of it, up to END, without definitions of macros.
-fn plain_statements(alloc: Global, source: &[u8]) -> Result<Vec<Statement>, AllocError> {
+fn plain_statements(alloc: Global, source: &[u8]) -> Result<Vec<SourceStatement>, AllocError> {
     let lines = source_lines(alloc, source)?;
     let mut found = Vec::new(alloc);
     let mut in_macro = false;
@@ -184,7 +188,7 @@ fn plain_statements(alloc: Global, source: &[u8]) -> Result<Vec<Statement>, Allo
 }
 
 // Returns the member that a statement copies, if it is one of some.
-fn copied<'a>(members: &'a [Member], statement: &Statement) -> Option<&'a Member> {
+fn copied<'a>(members: &'a [CopyMember], statement: &SourceStatement) -> Option<&'a CopyMember> {
     if statement.operation.as_str() != "COPY" {
         return None;
     }
@@ -199,8 +203,8 @@ fn copied<'a>(members: &'a [Member], statement: &Statement) -> Option<&'a Member
 // Appends the statements of a member.
 fn append_member(
     alloc: Global,
-    found: &mut Vec<Statement>,
-    member: &Member,
+    found: &mut Vec<SourceStatement>,
+    member: &CopyMember,
 ) -> Result<(), AllocError> {
     for mut statement in plain_statements(alloc, &member.source)? {
         statement.member = member.name.clone()?;
@@ -212,9 +216,9 @@ fn append_member(
 // Returns some statements with those of members in place of each COPY of one, and whether there was such a COPY.
 fn with_members(
     alloc: Global,
-    statements: Vec<Statement>,
-    members: &[Member],
-) -> Result<(Vec<Statement>, bool), AllocError> {
+    statements: Vec<SourceStatement>,
+    members: &[CopyMember],
+) -> Result<(Vec<SourceStatement>, bool), AllocError> {
     let mut found = Vec::new(alloc);
     let mut is_changed = false;
     for statement in statements {
@@ -232,9 +236,9 @@ fn with_members(
 // Returns some statements with those of members in place of each COPY of one, also in members.
 fn expanded(
     alloc: Global,
-    statements: Vec<Statement>,
-    members: &[Member],
-) -> Result<Vec<Statement>, AllocError> {
+    statements: Vec<SourceStatement>,
+    members: &[CopyMember],
+) -> Result<Vec<SourceStatement>, AllocError> {
     let mut found = statements;
     for _ in 0..DEEPEST {
         let (next, is_changed) = with_members(alloc, found, members)?;
@@ -251,8 +255,8 @@ fn expanded(
 pub fn read_statements(
     alloc: Global,
     source: &[u8],
-    members: &[Member],
-) -> Result<Vec<Statement>, AllocError> {
+    members: &[CopyMember],
+) -> Result<Vec<SourceStatement>, AllocError> {
     let mut found = expanded(alloc, plain_statements(alloc, source)?, members)?;
     for statement in found.iter_mut() {
         statement.operands = separated(alloc, &statement.field)?;

@@ -83,22 +83,22 @@ enum Term {
 
 /// Why there is no value: the expression has none that is known.
 #[derive(Clone, Copy, Debug, Error)]
-enum Stop {
+enum NoValue {
     #[error("the value is not known")]
     Unknown,
     #[error("out of memory")]
     Memory,
 }
 
-impl From<AllocError> for Stop {
-    fn from(_: AllocError) -> Stop {
-        Stop::Memory
+impl From<AllocError> for NoValue {
+    fn from(_: AllocError) -> NoValue {
+        NoValue::Memory
     }
 }
 
-impl<T: Drop> From<AllocFailed<T>> for Stop {
-    fn from(_: AllocFailed<T>) -> Stop {
-        Stop::Memory
+impl<T: Drop> From<AllocFailed<T>> for NoValue {
+    fn from(_: AllocFailed<T>) -> NoValue {
+        NoValue::Memory
     }
 }
 
@@ -116,14 +116,14 @@ struct Calculation<'a> {
 }
 
 impl Calculation<'_> {
-    fn push(&mut self, value: Option<Value>) -> Result<(), Stop> {
+    fn push(&mut self, value: Option<Value>) -> Result<(), NoValue> {
         match value {
             Some(value) if self.wants_value => {
                 self.values.push(value)?;
                 self.wants_value = false;
                 Ok(())
             }
-            _ => Err(Stop::Unknown),
+            _ => Err(NoValue::Unknown),
         }
     }
 
@@ -142,7 +142,7 @@ impl Calculation<'_> {
     }
 
     // Ends the word that was read, if there is one.
-    fn end_word(&mut self) -> Result<(), Stop> {
+    fn end_word(&mut self) -> Result<(), NoValue> {
         if self.word.is_empty() && self.term == Term::Word {
             return Ok(());
         }
@@ -153,21 +153,21 @@ impl Calculation<'_> {
     }
 
     // Applies the last operator.
-    fn apply_last(&mut self) -> Result<(), Stop> {
+    fn apply_last(&mut self) -> Result<(), NoValue> {
         match (self.operators.pop(), self.values.pop(), self.values.pop()) {
             (Some(operator), Some(right), Some(left)) => {
                 let Some(value) = operator.apply(left, right) else {
-                    return Err(Stop::Unknown);
+                    return Err(NoValue::Unknown);
                 };
                 self.values.push(value)?;
                 Ok(())
             }
-            _ => Err(Stop::Unknown),
+            _ => Err(NoValue::Unknown),
         }
     }
 
     // Applies the operators that come before another one.
-    fn apply_before(&mut self, next: Operator) -> Result<(), Stop> {
+    fn apply_before(&mut self, next: Operator) -> Result<(), NoValue> {
         for _ in 0..self.operators.len() {
             match self.operators.last() {
                 Some(last) if last.is_before(next) => self.apply_last()?,
@@ -178,7 +178,7 @@ impl Calculation<'_> {
     }
 
     // Takes an operator. A `*` where a value is wanted is the place of the statement, and a sign has 0 on its left.
-    fn operator(&mut self, operator: Operator) -> Result<(), Stop> {
+    fn operator(&mut self, operator: Operator) -> Result<(), NoValue> {
         self.end_word()?;
         if self.wants_value {
             return match operator {
@@ -187,14 +187,14 @@ impl Calculation<'_> {
                     self.push(Some(Value::of(0)))?;
                     self.next_operator(operator)
                 }
-                _ => Err(Stop::Unknown),
+                _ => Err(NoValue::Unknown),
             };
         }
         self.next_operator(operator)
     }
 
     // Takes an operator after a value.
-    fn next_operator(&mut self, operator: Operator) -> Result<(), Stop> {
+    fn next_operator(&mut self, operator: Operator) -> Result<(), NoValue> {
         self.apply_before(operator)?;
         self.operators.push(operator)?;
         self.wants_value = true;
@@ -202,7 +202,7 @@ impl Calculation<'_> {
     }
 
     // Closes the last parenthesis that is open.
-    fn close(&mut self) -> Result<(), Stop> {
+    fn close(&mut self) -> Result<(), NoValue> {
         self.end_word()?;
         for _ in 0..self.operators.len() {
             if self.operators.last() == Some(&Operator::Open) {
@@ -212,12 +212,12 @@ impl Calculation<'_> {
         }
         match self.operators.pop() {
             Some(Operator::Open) if !self.wants_value => Ok(()),
-            _ => Err(Stop::Unknown),
+            _ => Err(NoValue::Unknown),
         }
     }
 
     // Takes a quote: what is before it says of what kind the term is, or it ends the term.
-    fn quote(&mut self) -> Result<(), Stop> {
+    fn quote(&mut self) -> Result<(), NoValue> {
         if self.term == Term::Hexadecimal || self.term == Term::Binary {
             return self.end_word();
         }
@@ -225,14 +225,14 @@ impl Calculation<'_> {
             "L" => Term::Length,
             "X" => Term::Hexadecimal,
             "B" => Term::Binary,
-            _ => return Err(Stop::Unknown),
+            _ => return Err(NoValue::Unknown),
         };
         self.word.clear();
         Ok(())
     }
 
     // Takes a character.
-    fn take(&mut self, letter: char) -> Result<(), Stop> {
+    fn take(&mut self, letter: char) -> Result<(), NoValue> {
         match letter {
             '\'' => self.quote(),
             '+' => self.operator(Operator::Plus),
@@ -245,23 +245,23 @@ impl Calculation<'_> {
             }
             ')' => self.close(),
             _ if is_of_symbol(letter) => Ok(self.word.push(letter)?),
-            _ => Err(Stop::Unknown),
+            _ => Err(NoValue::Unknown),
         }
     }
 
     // The value of the whole expression.
-    fn end(&mut self) -> Result<Value, Stop> {
+    fn end(&mut self) -> Result<Value, NoValue> {
         self.end_word()?;
         for _ in 0..self.operators.len() {
             self.apply_last()?;
         }
         match (self.values.pop(), self.values.pop()) {
             (Some(value), None) => Ok(value),
-            _ => Err(Stop::Unknown),
+            _ => Err(NoValue::Unknown),
         }
     }
 
-    fn calculate(&mut self, text: &str) -> Result<Value, Stop> {
+    fn calculate(&mut self, text: &str) -> Result<Value, NoValue> {
         for letter in text.chars() {
             self.take(letter)?;
         }
@@ -287,8 +287,8 @@ pub fn value_of(
     };
     match calculation.calculate(text) {
         Ok(value) => Ok(Some(value)),
-        Err(Stop::Unknown) => Ok(None),
-        Err(Stop::Memory) => Err(AllocError),
+        Err(NoValue::Unknown) => Ok(None),
+        Err(NoValue::Memory) => Err(AllocError),
     }
 }
 

@@ -2,7 +2,7 @@
 
 use crate::calculation::{Value, value_of};
 use crate::constant::Constant;
-use assembler_statements::Statement;
+use assembler_statements::SourceStatement;
 use std::alloc::{AllocError, Global};
 use std::collections::BTreeMap;
 
@@ -106,7 +106,7 @@ impl Symbols {
         Ok(())
     }
 
-    fn equate(&mut self, alloc: Global, statement: &Statement) -> Result<(), AllocError> {
+    fn equate(&mut self, alloc: Global, statement: &SourceStatement) -> Result<(), AllocError> {
         let text = match statement.operands.first() {
             Some(operand) => operand.as_str(),
             None => "",
@@ -181,7 +181,11 @@ impl Symbols {
         Ok(())
     }
 
-    fn take_constants(&mut self, alloc: Global, statement: &Statement) -> Result<(), AllocError> {
+    fn take_constants(
+        &mut self,
+        alloc: Global,
+        statement: &SourceStatement,
+    ) -> Result<(), AllocError> {
         let is_set = statement.operation.as_str() == "DC";
         let mut label = statement.label.as_str();
         for operand in statement.operands.iter() {
@@ -192,7 +196,7 @@ impl Symbols {
     }
 
     // Takes the next statement.
-    fn take(&mut self, alloc: Global, statement: &Statement) -> Result<(), AllocError> {
+    fn take(&mut self, alloc: Global, statement: &SourceStatement) -> Result<(), AllocError> {
         match effect_of(&statement.operation) {
             Effect::Equates => self.equate(alloc, statement),
             Effect::Defines => self.take_constants(alloc, statement),
@@ -210,7 +214,7 @@ impl Symbols {
 }
 
 /// Returns the symbols of a source. It is read twice, so that a symbol may be used before its definition. It fails if memory is exhausted.
-pub fn symbols_of(alloc: Global, statements: &[Statement]) -> Result<Symbols, AllocError> {
+pub fn symbols_of(alloc: Global, statements: &[SourceStatement]) -> Result<Symbols, AllocError> {
     let mut symbols = Symbols::new(alloc);
     for _ in 0..2 {
         symbols.run = 1;

@@ -1,7 +1,7 @@
 //! What an instruction does to what registers and words hold.
 
 use crate::held::{Content, Held};
-use assembler_statements::{Statement, is_of_symbol};
+use assembler_statements::{SourceStatement, is_of_symbol};
 use assembler_symbols::{Symbols, inside, is_symbol, literal_number, number_of, register_of};
 use std::alloc::{AllocError, Global};
 
@@ -71,7 +71,7 @@ fn first_symbol(operand: &str) -> &str {
 struct Instruction<'a> {
     alloc: Global,
     symbols: &'a Symbols,
-    statement: &'a Statement,
+    statement: &'a SourceStatement,
 }
 
 // The symbol of which a literal is the address: `A(symbol)` or `V(symbol)`.
@@ -218,7 +218,7 @@ pub fn execute(
     alloc: Global,
     symbols: &Symbols,
     held: &mut Held,
-    statement: &Statement,
+    statement: &SourceStatement,
 ) -> Result<(), AllocError> {
     let instruction = Instruction {
         alloc,
@@ -247,7 +247,7 @@ pub fn execute_branch(
     alloc: Global,
     symbols: &Symbols,
     held: &mut Held,
-    statement: &Statement,
+    statement: &SourceStatement,
 ) -> Result<(), AllocError> {
     let is_counting = COUNTING
         .iter()

@@ -1,7 +1,7 @@
 //! What the registers and the words of a program hold where a statement is executed.
 
 use crate::loss::Loss;
-use assembler_statements::Statement;
+use assembler_statements::SourceStatement;
 use std::alloc::{AllocError, Global};
 use std::collections::BTreeMap;
 use std::mem;
@@ -100,7 +100,7 @@ impl Held {
     }
 
     /// Sets a register to something that is not known. It fails if memory is exhausted.
-    pub fn lose(&mut self, register: u8, statement: &Statement) -> Result<(), AllocError> {
+    pub fn lose(&mut self, register: u8, statement: &SourceStatement) -> Result<(), AllocError> {
         let loss = Loss::set(statement)?;
         self.set(register, Content::Lost(loss))
     }
@@ -132,7 +132,7 @@ impl Held {
         &mut self,
         symbol: &str,
         register: u8,
-        statement: &Statement,
+        statement: &SourceStatement,
     ) -> Result<(), AllocError> {
         let content = match self.register(register) {
             Some(Content::Lost(_)) | None => Content::Lost(Loss::set(statement)?),
@@ -149,7 +149,7 @@ impl Held {
     }
 
     /// Sets a word to something that is not known. It fails if memory is exhausted.
-    pub fn change(&mut self, symbol: &str, statement: &Statement) -> Result<(), AllocError> {
+    pub fn change(&mut self, symbol: &str, statement: &SourceStatement) -> Result<(), AllocError> {
         let loss = Loss::set(statement)?;
         self.put(symbol, Content::Lost(loss))
     }
@@ -166,7 +166,7 @@ impl Held {
     }
 
     /// Sets the registers that a call may change to what the statement of the call leaves. It fails if memory is exhausted.
-    pub fn call(&mut self, statement: &Statement) -> Result<(), AllocError> {
+    pub fn call(&mut self, statement: &SourceStatement) -> Result<(), AllocError> {
         for register in VOLATILE {
             let loss = Loss::left(statement)?;
             self.set(register, Content::Lost(loss))?;
@@ -179,7 +179,7 @@ impl Held {
         &mut self,
         from: u8,
         to: u8,
-        statement: &Statement,
+        statement: &SourceStatement,
     ) -> Result<(), AllocError> {
         for register in 0..16u8 {
             if is_between(register, from, to) {

@@ -11,7 +11,7 @@ mod values;
 
 pub use crate::effects::{execute, execute_branch};
 pub use crate::held::{Comes, Content, Held, Registers};
-pub use crate::known::Known;
-pub use crate::list_forms::{Written, how_written, operands_of};
+pub use crate::known::KnownValues;
+pub use crate::list_forms::{MacroForm, how_written, operands_of};
 pub use crate::macros::{Macro, macro_of};
 pub use crate::values::{put_number, put_numbers};

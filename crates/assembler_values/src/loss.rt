@@ -1,6 +1,6 @@
 //! Why it is not known what a register or a word holds.
 
-use assembler_statements::Statement;
+use assembler_statements::SourceStatement;
 use std::alloc::{AllocError, Global};
 use std::fmt;
 
@@ -17,7 +17,7 @@ pub enum Loss {
 
 impl Loss {
     /// Returns that a statement has set it. It fails if memory is exhausted.
-    pub fn set(statement: &Statement) -> Result<Loss, AllocError> {
+    pub fn set(statement: &SourceStatement) -> Result<Loss, AllocError> {
         Ok(Loss::Set {
             operation: statement.operation.clone()?,
             line: statement.number,
@@ -25,7 +25,7 @@ impl Loss {
     }
 
     /// Returns that a statement has left something there. It fails if memory is exhausted.
-    pub fn left(statement: &Statement) -> Result<Loss, AllocError> {
+    pub fn left(statement: &SourceStatement) -> Result<Loss, AllocError> {
         Ok(Loss::Left {
             operation: statement.operation.clone()?,
             line: statement.number,

@@ -1,10 +1,10 @@
 //! The values of operands: numbers, names of areas, and lists.
 
 use crate::held::{Comes, Content};
-use crate::known::Known;
+use crate::known::KnownValues;
 use crate::macros::macro_of;
-use assembler_operands::{Unsaid, Why};
-use assembler_statements::{Statement, separated};
+use assembler_operands::{OpenCause, Unsaid};
+use assembler_statements::{SourceStatement, separated};
 use assembler_symbols::{Symbol, in_register, inside, is_symbol, number_of, register_of};
 use std::alloc::{AllocError, Global};
 use std::fmt::Write;
@@ -52,7 +52,7 @@ fn counted_bytes(bytes: &[u8]) -> Option<&[u8]> {
     }
 }
 
-impl<'a> Known<'a> {
+impl<'a> KnownValues<'a> {
     // The number that a word holds, if it is constant.
     fn constant_in(self, symbol: &str) -> Option<i64> {
         if self.held.stored(symbol).is_some() {
@@ -71,7 +71,7 @@ impl<'a> Known<'a> {
     }
 
     // Why an operand is not converted.
-    fn refusal(self, why: Why, key: &str, text: &str) -> Unsaid {
+    fn refusal(self, why: OpenCause, key: &str, text: &str) -> Unsaid {
         Unsaid::of_operand(self.alloc, why, key, text)
     }
 
@@ -118,7 +118,7 @@ impl<'a> Known<'a> {
         };
         match number {
             Some(number) => Ok(number),
-            None => Err(self.refusal(Why::NoNumber, key, text)),
+            None => Err(self.refusal(OpenCause::NoNumber, key, text)),
         }
     }
 
@@ -159,7 +159,7 @@ impl<'a> Known<'a> {
         if is_symbol(text) {
             return Ok(text);
         }
-        Err(self.refusal(Why::NoWord, key, text))
+        Err(self.refusal(OpenCause::NoWord, key, text))
     }
 
     // The area of which a word or a register holds the address.
@@ -193,7 +193,7 @@ impl<'a> Known<'a> {
                 return Ok(area);
             }
         }
-        Err(self.refusal(Why::NoWord, key, text))
+        Err(self.refusal(OpenCause::NoWord, key, text))
     }
 
     // The bytes at an address.
@@ -201,7 +201,7 @@ impl<'a> Known<'a> {
         let symbol = self.symbol_at(key, text)?;
         match self.symbols.get(symbol) {
             Some(found) if self.held.stored(symbol).is_none() => Ok(found.bytes.as_slice()),
-            _ => Err(self.refusal(Why::NoList, key, text)),
+            _ => Err(self.refusal(OpenCause::NoList, key, text)),
         }
     }
 
@@ -209,7 +209,7 @@ impl<'a> Known<'a> {
     pub fn word_list(self, key: &str, text: &'a str) -> Result<Vec<u32>, Unsaid> {
         match words_of(self.alloc, self.bytes_at(key, text)?)? {
             Some(words) => Ok(words),
-            None => Err(self.refusal(Why::NoList, key, text)),
+            None => Err(self.refusal(OpenCause::NoList, key, text)),
         }
     }
 
@@ -220,7 +220,7 @@ impl<'a> Known<'a> {
                 u32::from_be_bytes([*a, *b, *c, *d]),
                 u32::from_be_bytes([*e, *f, *g, *h]),
             )),
-            _ => Err(self.refusal(Why::NoList, key, text)),
+            _ => Err(self.refusal(OpenCause::NoList, key, text)),
         }
     }
 
@@ -228,14 +228,14 @@ impl<'a> Known<'a> {
     pub fn byte_list(self, key: &str, text: &'a str) -> Result<&'a [u8], Unsaid> {
         match counted_bytes(self.bytes_at(key, text)?) {
             Some(list) => Ok(list),
-            None => Err(self.refusal(Why::NoList, key, text)),
+            None => Err(self.refusal(OpenCause::NoList, key, text)),
         }
     }
 
     // The word in which a statement stores a register, if it does.
     fn stored_by(
         self,
-        statement: &'a Statement,
+        statement: &'a SourceStatement,
         register: u8,
     ) -> Result<Option<&'a str>, AllocError> {
         if statement.operation.as_str() != "ST" {

@@ -1,7 +1,7 @@
 //! The command line.
 
-use crate::region::{Region, region_of};
-use crate::script::Form;
+use crate::region::{RegionPages, region_of};
+use crate::script::ScriptForm;
 use assembler_source::{Choices, Repeat, Schedule};
 use clap::builder::ValueParser;
 use clap::error::ErrorKind;
@@ -28,7 +28,7 @@ pub struct Options<'a> {
     pub file: &'a str,
     /// Where the members are that COPY names.
     pub folders: Vec<&'a str>,
-    pub form: Form<'a>,
+    pub form: ScriptForm<'a>,
     pub choices: Choices,
 }
 
@@ -170,7 +170,7 @@ fn region(
     command: &mut Command<'_>,
     alloc: Global,
     text: Option<&str>,
-) -> Result<Option<Region>, clap::Error> {
+) -> Result<Option<RegionPages>, clap::Error> {
     let Some(text) = text else {
         return Ok(None);
     };
@@ -222,7 +222,7 @@ pub fn options_of<'a>(alloc: Global, words: &'a [String]) -> Result<Options<'a>,
     let mut command = command(alloc)?;
     let matches = command.try_get_matches_from_mut(words)?;
     let written = matches.get_str("region");
-    let form = Form {
+    let form = ScriptForm {
         region: region(&mut command, alloc, written)?,
         written: written.unwrap_or(""),
         is_json: matches.get_flag("json"),

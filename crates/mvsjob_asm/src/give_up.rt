@@ -1,14 +1,14 @@
 //! Why no script is written.
 
-use crate::script::Stop;
-use assembler_source::Refusal;
+use crate::script::ScriptStop;
+use assembler_source::ConversionRefusal;
 use std::alloc::{AllocError, AllocFailed};
 use std::io::ErrorKind;
 use thiserror::Error;
 
 /// Why no script is written.
 #[derive(Debug, Drop, Error)]
-pub enum GiveUp {
+pub enum ConversionError {
     #[error("no such file")]
     Missing,
     #[error("permission denied")]
@@ -22,7 +22,7 @@ pub enum GiveUp {
     #[error("out of memory")]
     Memory,
     #[error("{0}")]
-    Refused(Refusal),
+    Refused(ConversionRefusal),
     #[error("write failed")]
     Write,
     /// Nobody reads what is written.
@@ -33,65 +33,65 @@ pub enum GiveUp {
     Words(u8),
 }
 
-impl GiveUp {
+impl ConversionError {
     /// Returns whether standard error reports it.
     pub fn is_reported(&self) -> bool {
-        !matches!(self, GiveUp::Pipe | GiveUp::Words(_))
+        !matches!(self, ConversionError::Pipe | ConversionError::Words(_))
     }
 
     /// Returns the exit status.
     pub fn status(&self) -> u8 {
         match self {
-            GiveUp::Words(status) => *status,
-            GiveUp::Pipe => 141,
-            GiveUp::Missing
-            | GiveUp::Forbidden
-            | GiveUp::Directory
-            | GiveUp::Read
-            | GiveUp::TooLong
-            | GiveUp::Memory
-            | GiveUp::Refused(_)
-            | GiveUp::Write => 2,
+            ConversionError::Words(status) => *status,
+            ConversionError::Pipe => 141,
+            ConversionError::Missing
+            | ConversionError::Forbidden
+            | ConversionError::Directory
+            | ConversionError::Read
+            | ConversionError::TooLong
+            | ConversionError::Memory
+            | ConversionError::Refused(_)
+            | ConversionError::Write => 2,
         }
     }
 }
 
-impl From<ErrorKind> for GiveUp {
-    fn from(kind: ErrorKind) -> GiveUp {
+impl From<ErrorKind> for ConversionError {
+    fn from(kind: ErrorKind) -> ConversionError {
         match kind {
-            ErrorKind::NotFound => GiveUp::Missing,
-            ErrorKind::PermissionDenied => GiveUp::Forbidden,
-            ErrorKind::IsADirectory => GiveUp::Directory,
-            ErrorKind::OutOfMemory => GiveUp::Memory,
-            _ => GiveUp::Read,
+            ErrorKind::NotFound => ConversionError::Missing,
+            ErrorKind::PermissionDenied => ConversionError::Forbidden,
+            ErrorKind::IsADirectory => ConversionError::Directory,
+            ErrorKind::OutOfMemory => ConversionError::Memory,
+            _ => ConversionError::Read,
         }
     }
 }
 
-impl From<Refusal> for GiveUp {
-    fn from(why: Refusal) -> GiveUp {
-        GiveUp::Refused(why)
+impl From<ConversionRefusal> for ConversionError {
+    fn from(why: ConversionRefusal) -> ConversionError {
+        ConversionError::Refused(why)
     }
 }
 
-impl From<Stop> for GiveUp {
-    fn from(stop: Stop) -> GiveUp {
+impl From<ScriptStop> for ConversionError {
+    fn from(stop: ScriptStop) -> ConversionError {
         match stop {
-            Stop::Memory => GiveUp::Memory,
-            Stop::Write => GiveUp::Write,
-            Stop::Pipe => GiveUp::Pipe,
+            ScriptStop::Memory => ConversionError::Memory,
+            ScriptStop::Write => ConversionError::Write,
+            ScriptStop::Pipe => ConversionError::Pipe,
         }
     }
 }
 
-impl From<AllocError> for GiveUp {
-    fn from(_: AllocError) -> GiveUp {
-        GiveUp::Memory
+impl From<AllocError> for ConversionError {
+    fn from(_: AllocError) -> ConversionError {
+        ConversionError::Memory
     }
 }
 
-impl<T: Drop> From<AllocFailed<T>> for GiveUp {
-    fn from(_: AllocFailed<T>) -> GiveUp {
-        GiveUp::Memory
+impl<T: Drop> From<AllocFailed<T>> for ConversionError {
+    fn from(_: AllocFailed<T>) -> ConversionError {
+        ConversionError::Memory
     }
 }

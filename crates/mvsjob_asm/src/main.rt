@@ -9,9 +9,9 @@ mod region;
 mod script;
 
 use crate::command_line::{Options, options_of};
-use crate::give_up::GiveUp;
+use crate::give_up::ConversionError;
 use crate::members::{members_of, source_of};
-use crate::script::{Stop, Sum, write_script};
+use crate::script::{ScriptStop, Sum, write_script};
 use assembler_source::find_requests;
 use diagnosis::PlainName;
 use std::env;
@@ -19,43 +19,43 @@ use std::io::{self, BufWriter, Write};
 use std::process::ExitCode;
 
 // Writes the script of a source.
-fn convert(rt: &HostRuntime, options: &Options<'_>) -> Result<Sum, GiveUp> {
+fn convert(rt: &HostRuntime, options: &Options<'_>) -> Result<Sum, ConversionError> {
     let source = source_of(rt, options.file)?;
     let members = members_of(rt, &options.folders, &source)?;
     let requests = find_requests(rt.alloc(), &source, &members, &options.choices)?;
     let Ok(mut writer) = BufWriter::new(rt.alloc(), io::writer(rt)) else {
-        return Err(GiveUp::Memory);
+        return Err(ConversionError::Memory);
     };
     let sum = write_script(rt.alloc(), &mut writer, &requests, options.form)?;
     match writer.flush() {
         Ok(()) => Ok(sum),
-        Err(error) => Err(GiveUp::from(Stop::from(error.kind()))),
+        Err(error) => Err(ConversionError::from(ScriptStop::from(error.kind()))),
     }
 }
 
 // The words of the command line, the program's name first.
-fn words(rt: &HostRuntime) -> Result<Vec<String>, GiveUp> {
+fn words(rt: &HostRuntime) -> Result<Vec<String>, ConversionError> {
     let mut words = Vec::new(rt.alloc());
     let Ok(args) = env::args(rt) else {
-        return Err(GiveUp::Read);
+        return Err(ConversionError::Read);
     };
     for word in args {
-        words.push(word).map_err(|_| GiveUp::Memory)?;
+        words.push(word).map_err(|_| ConversionError::Memory)?;
     }
     Ok(words)
 }
 
 // Says what `clap` has to say.
-fn refuse(rt: &HostRuntime, error: &clap::Error) -> GiveUp {
+fn refuse(rt: &HostRuntime, error: &clap::Error) -> ConversionError {
     match error.print(rt) {
-        Ok(()) if error.use_stderr() => GiveUp::Words(2),
-        Ok(()) => GiveUp::Words(0),
-        Err(error) => GiveUp::from(Stop::from(error.kind())),
+        Ok(()) if error.use_stderr() => ConversionError::Words(2),
+        Ok(()) => ConversionError::Words(0),
+        Err(error) => ConversionError::from(ScriptStop::from(error.kind())),
     }
 }
 
 // Says how it went. A failure to say so changes nothing.
-fn finish(rt: &HostRuntime, name: &str, ended: Result<Sum, GiveUp>) -> ExitCode {
+fn finish(rt: &HostRuntime, name: &str, ended: Result<Sum, ConversionError>) -> ExitCode {
     match ended {
         Ok(Sum { statements, open }) => {
             let name = PlainName(name);

@@ -1,7 +1,7 @@
 //! The sources of a name, and the members that COPY names in them.
 
-use crate::give_up::GiveUp;
-use assembler_source::{Member, copied_members};
+use crate::give_up::ConversionError;
+use assembler_source::{CopyMember, copied_members};
 use std::collections::BTreeSet;
 use std::fs::File;
 use std::io::Read;
@@ -16,23 +16,23 @@ const MOST_MEMBERS: u32 = 1000;
 const ENDINGS: [&str; 6] = ["", ".asm", ".mac", ".cpy", ".copy", ".hlasm"];
 
 // The bytes that a reader gives.
-fn bytes_of<R: Read + Drop>(rt: &HostRuntime, reader: R) -> Result<Vec<u8>, GiveUp> {
+fn bytes_of<R: Read + Drop>(rt: &HostRuntime, reader: R) -> Result<Vec<u8>, ConversionError> {
     let mut bytes = Vec::new(rt.alloc());
     match reader.take(MOST_BYTES).read_to_end(&mut bytes) {
-        Ok(_) if bytes.len() as u64 >= MOST_BYTES => Err(GiveUp::TooLong),
+        Ok(_) if bytes.len() as u64 >= MOST_BYTES => Err(ConversionError::TooLong),
         Ok(_) => Ok(bytes),
-        Err(error) => Err(GiveUp::from(error.kind())),
+        Err(error) => Err(ConversionError::from(error.kind())),
     }
 }
 
 /// Returns the bytes of a file, or of standard input.
-pub fn source_of(rt: &HostRuntime, name: &str) -> Result<Vec<u8>, GiveUp> {
+pub fn source_of(rt: &HostRuntime, name: &str) -> Result<Vec<u8>, ConversionError> {
     if name == "-" {
         return bytes_of(rt, rt.stdin());
     }
     match File::open(rt, name) {
         Ok(file) => bytes_of(rt, file),
-        Err(error) => Err(GiveUp::from(error.kind())),
+        Err(error) => Err(ConversionError::from(error.kind())),
     }
 }
 
@@ -44,7 +44,7 @@ fn is_name(name: &str) -> bool {
 }
 
 // Returns what is in a file, if there is one of this name.
-fn read_if_there(rt: &HostRuntime, path: &str) -> Result<Option<Vec<u8>>, GiveUp> {
+fn read_if_there(rt: &HostRuntime, path: &str) -> Result<Option<Vec<u8>>, ConversionError> {
     match File::open(rt, path) {
         Ok(file) => Ok(Some(bytes_of(rt, file)?)),
         Err(_) => Ok(None),
@@ -52,7 +52,7 @@ fn read_if_there(rt: &HostRuntime, path: &str) -> Result<Option<Vec<u8>>, GiveUp
 }
 
 // Returns what is in the file of a member in a folder, if there is one.
-fn find_in(rt: &HostRuntime, folder: &str, name: &str) -> Result<Option<Vec<u8>>, GiveUp> {
+fn find_in(rt: &HostRuntime, folder: &str, name: &str) -> Result<Option<Vec<u8>>, ConversionError> {
     for ending in ENDINGS {
         let path = format!(in rt.alloc(); "{folder}/{name}{ending}")?;
         if let Some(source) = read_if_there(rt, &path)? {
@@ -63,7 +63,11 @@ fn find_in(rt: &HostRuntime, folder: &str, name: &str) -> Result<Option<Vec<u8>>
 }
 
 // Returns the member of a name from the first folder that has it, its file in upper or lower case.
-fn find(rt: &HostRuntime, folders: &[&str], name: &str) -> Result<Option<Vec<u8>>, GiveUp> {
+fn find(
+    rt: &HostRuntime,
+    folders: &[&str],
+    name: &str,
+) -> Result<Option<Vec<u8>>, ConversionError> {
     let lower: String = name
         .chars()
         .map(|letter| letter.to_ascii_lowercase())
@@ -84,7 +88,7 @@ pub fn members_of(
     rt: &HostRuntime,
     folders: &[&str],
     source: &[u8],
-) -> Result<Vec<Member>, GiveUp> {
+) -> Result<Vec<CopyMember>, ConversionError> {
     let mut members = Vec::new(rt.alloc());
     let mut known = BTreeSet::new(rt.alloc());
     let mut names = copied_members(rt.alloc(), source)?;
@@ -99,7 +103,7 @@ pub fn members_of(
             for other in copied_members(rt.alloc(), &source)? {
                 names.push(other)?;
             }
-            members.push(Member { name, source })?;
+            members.push(CopyMember { name, source })?;
         }
     }
     Ok(members)

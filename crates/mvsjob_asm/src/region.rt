@@ -2,13 +2,13 @@
 
 /// The pages of the regions below and above 16 megabytes.
 #[derive(Clone, Copy)]
-pub struct Region {
+pub struct RegionPages {
     pub below: u32,
     pub above: u32,
 }
 
 /// The largest region that a script may have.
-pub const LARGEST: Region = Region {
+pub const LARGEST: RegionPages = RegionPages {
     below: 2048,
     above: 8192,
 };
@@ -26,10 +26,10 @@ fn pages_of(text: &str) -> Option<u32> {
 }
 
 // Returns the region of a single size. One of 0 is all; one above 16 megabytes is all below, and so much above.
-fn single(pages: u32) -> Option<Region> {
+fn single(pages: u32) -> Option<RegionPages> {
     match pages {
         0 => Some(LARGEST),
-        _ if pages <= LARGEST.below => Some(Region {
+        _ if pages <= LARGEST.below => Some(RegionPages {
             below: pages,
             above: LARGEST.above,
         }),
@@ -39,7 +39,7 @@ fn single(pages: u32) -> Option<Region> {
 }
 
 /// Returns the region that a text is: one size, or two for below and above 16 megabytes; None if it is none that a script may have.
-pub fn region_of(text: &str) -> Option<Region> {
+pub fn region_of(text: &str) -> Option<RegionPages> {
     let Some((below, above)) = text.split_once(',') else {
         return single(pages_of(text)?);
     };
@@ -47,5 +47,5 @@ pub fn region_of(text: &str) -> Option<Region> {
     if below == 0 || below > LARGEST.below || above > LARGEST.above {
         return None;
     }
-    Some(Region { below, above })
+    Some(RegionPages { below, above })
 }

@@ -1,8 +1,8 @@
 //! Writes the script of a source, or the same as JSON.
 
 use crate::json::Json;
-use crate::region::{LARGEST, Region};
-use assembler_source::{Found, Requests, Saying};
+use crate::region::{LARGEST, RegionPages};
+use assembler_source::{FoundLine, Requests, Saying};
 use job_script::read_line;
 use mvs_model::line::Line;
 use std::alloc::{AllocError, Global};
@@ -21,8 +21,8 @@ pub struct Sum {
 
 /// What the script begins with, and how it is written.
 #[derive(Clone, Copy)]
-pub struct Form<'a> {
-    pub region: Option<Region>,
+pub struct ScriptForm<'a> {
+    pub region: Option<RegionPages>,
     /// The region as it was written.
     pub written: &'a str,
     pub is_json: bool,
@@ -30,7 +30,7 @@ pub struct Form<'a> {
 
 /// Why a script was not written to its end.
 #[derive(Clone, Copy, Debug, PartialEq, Eq, Error)]
-pub enum Stop {
+pub enum ScriptStop {
     #[error("out of memory")]
     Memory,
     #[error("write failed")]
@@ -40,19 +40,19 @@ pub enum Stop {
     Pipe,
 }
 
-impl From<ErrorKind> for Stop {
-    fn from(kind: ErrorKind) -> Stop {
+impl From<ErrorKind> for ScriptStop {
+    fn from(kind: ErrorKind) -> ScriptStop {
         match kind {
-            ErrorKind::OutOfMemory => Stop::Memory,
-            ErrorKind::BrokenPipe => Stop::Pipe,
-            _ => Stop::Write,
+            ErrorKind::OutOfMemory => ScriptStop::Memory,
+            ErrorKind::BrokenPipe => ScriptStop::Pipe,
+            _ => ScriptStop::Write,
         }
     }
 }
 
-impl From<AllocError> for Stop {
-    fn from(_: AllocError) -> Stop {
-        Stop::Memory
+impl From<AllocError> for ScriptStop {
+    fn from(_: AllocError) -> ScriptStop {
+        ScriptStop::Memory
     }
 }
 
@@ -71,7 +71,7 @@ fn cut(alloc: Global, line: &str) -> Result<String, AllocError> {
 }
 
 // The line of the source in which something is found.
-fn source_line(alloc: Global, found: &Found) -> Result<String, AllocError> {
+fn source_line(alloc: Global, found: &FoundLine) -> Result<String, AllocError> {
     let number = found.number;
     if found.member.is_empty() {
         return format!(in alloc; "{number}");
@@ -81,7 +81,7 @@ fn source_line(alloc: Global, found: &Found) -> Result<String, AllocError> {
 }
 
 // In which loop a request is.
-fn within(alloc: Global, found: &Found) -> Result<String, AllocError> {
+fn within(alloc: Global, found: &FoundLine) -> Result<String, AllocError> {
     match &found.in_loop {
         Some(label) => format!(in alloc; " in loop {label}"),
         None => Ok(String::new(alloc)),
@@ -91,7 +91,7 @@ fn within(alloc: Global, found: &Found) -> Result<String, AllocError> {
 // The line of a statement of a script, with the source as a remark.
 fn statement_line(
     alloc: Global,
-    found: &Found,
+    found: &FoundLine,
     task: &str,
     text: &str,
 ) -> Result<String, AllocError> {
@@ -105,14 +105,14 @@ fn statement_line(
 }
 
 // The comment on something that needs attention.
-fn comment(alloc: Global, found: &Found, why: &str) -> Result<String, AllocError> {
+fn comment(alloc: Global, found: &FoundLine, why: &str) -> Result<String, AllocError> {
     let line = source_line(alloc, found)?;
     let source = found.source.as_str();
     cut(alloc, &format!(in alloc; "*? {line}: {why}: {source}")?)
 }
 
 // What becomes of something that is found: the line of a statement, or why it needs attention.
-fn line_of(alloc: Global, found: &Found) -> Result<Result<String, String>, AllocError> {
+fn line_of(alloc: Global, found: &FoundLine) -> Result<Result<String, String>, AllocError> {
     match &found.saying {
         Saying::Statement { task, text } => {
             let line = statement_line(alloc, found, task, text)?;
@@ -128,7 +128,7 @@ fn line_of(alloc: Global, found: &Found) -> Result<Result<String, String>, Alloc
 // Something that is found as JSON.
 fn json_of(
     alloc: Global,
-    found: &Found,
+    found: &FoundLine,
     ended: &Result<String, String>,
 ) -> Result<Json, AllocError> {
     let mut json = Json::new(alloc);
@@ -149,13 +149,13 @@ fn json_of(
 }
 
 // Writes a line.
-fn put<W: Write>(writer: &mut W, line: &str) -> Result<(), Stop> {
-    writeln!(writer, "{line}").map_err(|error| Stop::from(error.kind()))
+fn put<W: Write>(writer: &mut W, line: &str) -> Result<(), ScriptStop> {
+    writeln!(writer, "{line}").map_err(|error| ScriptStop::from(error.kind()))
 }
 
 // The comment on the region: what was written, or that the largest one is assumed.
-fn region_comment(alloc: Global, form: Form<'_>) -> Result<String, AllocError> {
-    let Region { below, above } = form.region.unwrap_or(LARGEST);
+fn region_comment(alloc: Global, form: ScriptForm<'_>) -> Result<String, AllocError> {
+    let RegionPages { below, above } = form.region.unwrap_or(LARGEST);
     let written = form.written;
     if form.region.is_none() {
         return format!(in alloc;
@@ -170,9 +170,9 @@ fn put_region<W: Write>(
     alloc: Global,
     writer: &mut W,
     requests: &Requests,
-    form: Form<'_>,
-) -> Result<(), Stop> {
-    let Region { below, above } = form.region.unwrap_or(LARGEST);
+    form: ScriptForm<'_>,
+) -> Result<(), ScriptStop> {
+    let RegionPages { below, above } = form.region.unwrap_or(LARGEST);
     let residence = if requests.is_above { ",RES=ABOVE" } else { "" };
     let text = format!(in alloc; "REGION BELOW={below},ABOVE={above}{residence}")?;
     let task = requests.task.as_str();
@@ -190,9 +190,9 @@ fn put_region<W: Write>(
 fn put_found<W: Write>(
     alloc: Global,
     writer: &mut W,
-    found: &Found,
+    found: &FoundLine,
     is_json: bool,
-) -> Result<bool, Stop> {
+) -> Result<bool, ScriptStop> {
     let ended = line_of(alloc, found)?;
     if is_json {
         put(writer, &json_of(alloc, found, &ended)?.end()?)?;
@@ -211,8 +211,8 @@ pub fn write_script<W: Write>(
     alloc: Global,
     writer: &mut W,
     requests: &Requests,
-    form: Form<'_>,
-) -> Result<Sum, Stop> {
+    form: ScriptForm<'_>,
+) -> Result<Sum, ScriptStop> {
     put_region(alloc, writer, requests, form)?;
     let mut sum = Sum {
         statements: 0,
