@@ -5,7 +5,7 @@ use crate::step::{StepEntry, Writing};
 use mvs_model::bounded::Exponent;
 use mvs_model::code::Form;
 use mvs_model::codes::is_conditional;
-use mvs_model::line::{StepNames, Written};
+use mvs_model::line::{Names, Written};
 use mvs_model::name::Name;
 use mvs_model::request::Lengths;
 use mvs_model::want::{Ask, Loc, Residence, Side};
@@ -244,7 +244,7 @@ impl<W: Write> Writing<W> {
         form: Form,
         rest: &str,
         lengths: &Lengths,
-        areas: &StepNames,
+        areas: &Names,
     ) -> Result<(), ProgramFault> {
         self.obtain_in_words(entry, form, None, rest)?;
         let mut offset = 0u32;

@@ -43,7 +43,7 @@ fn take_answer(rt: &HostRuntime, session: &Session, answer: &Answer) -> io::Resu
 fn take(rt: &HostRuntime, session: &Session, told: &LineEvent) -> io::Result<()> {
     match told {
         LineEvent::Nothing => Ok(()),
-        LineEvent::Began { .. } => println!(rt; "a step begins"),
+        LineEvent::StepBegan { .. } => println!(rt; "a step begins"),
         LineEvent::Answered { answer, .. } => take_answer(rt, session, answer),
         LineEvent::Faulted(fault) => println!(rt; "the call is no statement: {fault:?}"),
     }

@@ -4,7 +4,7 @@ use Rattle.std.specs.Prelude.{IsErrOf}
 use Rattle.job_script.specs.Writing.{WritesAll}
 use Rattle.mvs_model.specs.declared.name.Name.{Name}
 use Rattle.mvs_model.specs.declared.watched.Failed.{Failed}
-use Rattle.mvs_model.specs.Answers.{Answer, Event, Told}
+use Rattle.mvs_model.specs.Answers.{Answer, Event, AnswerTo}
 use Rattle.mvs_model.specs.Job.{JobValue}
 use Rattle.mvs_job.specs.declared.consumer.End.{End}
 use Rattle.mvs_job.specs.declared.printing.Stop.{Stop}
@@ -19,11 +19,11 @@ use Rattle.event_json.specs.Lines.{AreLinesOf, EndsWithAnswer, IsStatement, Writ
 -- ---- the lines of a line of the script
 
 -- one line
-pub statement_lines : (number : ℕ) (t : Name) (answer : Answer) (text : List ℕ) → IsStatement number t text → AreLinesOf (Told number t answer ∷ []) text
+pub statement_lines : (number : ℕ) (t : Name) (answer : Answer) (text : List ℕ) → IsStatement number t text → AreLinesOf (AnswerTo number t answer ∷ []) text
 statement_lines number t answer text is = (text, [], sym (append-nil text), is, refl)
 
 -- the line of a statement after that of the end of a step
-pub region_lines : (end : Option Bool) (number : ℕ) (t : Name) (answer : Answer) (text members : List ℕ) → text ≡ (step_end end ++ statement_head number t) ++ members ++ 10 ∷ [] → AreLinesOf (ended end ++ Told number t answer ∷ []) text
+pub region_lines : (end : Option Bool) (number : ℕ) (t : Name) (answer : Answer) (text members : List ℕ) → text ≡ (step_end end ++ statement_head number t) ++ members ++ 10 ∷ [] → AreLinesOf (ended end ++ AnswerTo number t answer ∷ []) text
 region_lines None number t answer text members is = statement_lines number t answer text (members, is)
 region_lines (Some abended) number t answer text members is =
     let rest = statement_head number t ++ members ++ 10 ∷ [] in

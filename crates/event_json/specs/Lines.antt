@@ -4,7 +4,7 @@ use Rattle.std.specs.Io.KnownBytes.{Appends, Keeps}
 use Rattle.job_script.specs.Writing.{AppendsFront, WritesAll}
 use Rattle.mvs_model.specs.declared.name.Name.{Name}
 use Rattle.mvs_model.specs.declared.outcome.Outcome.{Outcome}
-use Rattle.mvs_model.specs.Answers.{Answer, Event, Told, StepEnded, Faulted}
+use Rattle.mvs_model.specs.Answers.{Answer, Event, AnswerTo, StepEnded, Faulted}
 use Rattle.mvs_model.specs.Name.{trimmed}
 use Rattle.mvs_model.specs.Runs.{IsRun}
 use Rattle.mvs_model.specs.Texts.{fault_number}
@@ -33,7 +33,7 @@ IsStatement number t text = (members : List ℕ) × (text ≡ statement_head num
 
 -- The text is the line of an event.
 abbrev pub IsLineOf : Event → List ℕ → Type 0
-IsLineOf (Told number t answer) text = IsStatement number t text
+IsLineOf (AnswerTo number t answer) text = IsStatement number t text
 IsLineOf (StepEnded abended) text = text ≡ step_end (Some abended)
 IsLineOf (Faulted number fault) text = text ≡ fault_line number (fault_number fault)
 
@@ -44,7 +44,7 @@ AreLinesOf (event ∷ events) text = (line : List ℕ) × (rest : List ℕ) × (
 
 -- The last of some events is the answer to a statement.
 abbrev pub EndsWithAnswer : List Event → Type 0
-EndsWithAnswer events = (before : List Event) × (number : ℕ) × (t : Name) × (answer : Answer) × (events ≡ before ++ Told number t answer ∷ [])
+EndsWithAnswer events = (before : List Event) × (number : ℕ) × (t : Name) × (answer : Answer) × (events ≡ before ++ AnswerTo number t answer ∷ [])
 
 -- What is written for an entry: a line for each of its events. Memory may be needed for the line of a statement.
 abbrev pub event_lines : Piece

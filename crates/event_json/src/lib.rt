@@ -128,7 +128,7 @@ fn region_lines(
 ) -> Result<Vec<u8>, AllocError>
     ensures { IfOk result
         (λ lines. AreLinesOf
-        (events_of_line line.now.number new_walk (LineEvent.Began ended card.now)) lines.items) }
+        (events_of_line line.now.number new_walk (LineEvent.StepBegan ended card.now)) lines.items) }
 {
     let members = region(alloc, line, ended, card)?;
     members.into_line()
@@ -192,7 +192,7 @@ pub(crate) fn write_line<W: Write>(
 {
     match told {
         LineEvent::Nothing => Ok(()),
-        LineEvent::Began { ended, card } => match region_lines(alloc, line, *ended, card) {
+        LineEvent::StepBegan { ended, card } => match region_lines(alloc, line, *ended, card) {
             Ok(lines) => write_text(writer, &lines),
             Err(_) => Err(Stop::Memory),
         },

@@ -1,7 +1,7 @@
 //! Tests of `run_job`. The scripts and their answers are those of docs/SCRIPT.md.
 
 use crate::streams::{Narrow, Refusal, Trickle};
-use mvs_job::{RunFault, Told, run_job};
+use mvs_job::{RunFault, AddressHints, run_job};
 use mvs_model::outcome::Outcome;
 use mvs_model::want::Placement;
 use mvs_model::watched::Watched;
@@ -39,7 +39,7 @@ fn runs_scripts_a_byte_a_call(rt: HostRuntime) -> Result<(), Fail> {
             most: 1_000,
             refusal: Refusal::Fails,
         });
-        let hints = Told::nothing(rt.alloc());
+        let hints = AddressHints::nothing(rt.alloc());
         let outcome = run_job(rt.alloc(), &mut reader, &mut writer, Placement::Low, hints)?;
         assert_eq!(rt; outcome, ends);
         assert!(rt; writer.into_inner().bytes.as_slice() == printed);
@@ -58,7 +58,7 @@ fn reports_each_failed_read(rt: HostRuntime) -> Result<(), Fail> {
     for calls in 0..FIRST.len() + 1 {
         let mut reader = Watched::new(Trickle { rest: FIRST, calls });
         let mut writer = Watched::new(Vec::new(rt.alloc()));
-        let hints = Told::nothing(rt.alloc());
+        let hints = AddressHints::nothing(rt.alloc());
         let ended = run_job(rt.alloc(), &mut reader, &mut writer, Placement::Low, hints);
         assert_eq!(rt; ended, Err(RunFault::Read), "after {calls} calls");
         assert!(rt; reader.failed());
@@ -83,7 +83,7 @@ fn reports_each_failed_write(rt: HostRuntime) -> Result<(), Fail> {
                 most,
                 refusal,
             });
-            let hints = Told::nothing(rt.alloc());
+            let hints = AddressHints::nothing(rt.alloc());
             let ended = run_job(rt.alloc(), &mut reader, &mut writer, Placement::Low, hints);
             assert_eq!(rt; ended, Err(RunFault::Write), "after {most} bytes");
             assert!(rt; writer.failed());

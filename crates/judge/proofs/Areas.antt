@@ -25,7 +25,7 @@ use Rattle.mvs_model.specs.Requests.{side_for, is_invalid}
 use Rattle.mvs_model.specs.Replies.{answer_of, grant_answer, is_abend, where_answer}
 use Rattle.mvs_model.specs.Resolving.{all_set, names_set, places_in}
 use Rattle.mvs_model.specs.Answers as tells
-use Rattle.mvs_model.specs.Answers.{Answer, Event, Told, At}
+use Rattle.mvs_model.specs.Answers.{Answer, Event, AnswerTo, At}
 use Rattle.mvs_model.specs.Job.{JobValue}
 use Rattle.mvs_model.specs.Runs.{Condition, Any, Makes, Does}
 use Rattle.mvs_model.specs.View.{IsBounded}

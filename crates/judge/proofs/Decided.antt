@@ -14,7 +14,7 @@ use Rattle.mvs_model.specs.declared.line.Statement.TheVariants as says
 use Rattle.mvs_model.specs.declared.line.Written.TheVariants as written
 use Rattle.mvs_model.specs.declared.outcome.Outcome.{Outcome}
 use Rattle.mvs_model.specs.declared.outcome.Outcome.TheVariants.{ScriptFault}
-use Rattle.mvs_model.specs.Answers.{Answer, Event, Faulted, Told, At}
+use Rattle.mvs_model.specs.Answers.{Answer, Event, Faulted, AnswerTo, At}
 use Rattle.mvs_model.specs.Name.{trimmed}
 use Rattle.mvs_model.specs.Job.{JobValue}
 use Rattle.mvs_model.specs.Card.{CardValue, IsCard}
@@ -121,7 +121,7 @@ HasTold P w l told new =
 pub told_cases : (P : Condition) (w : WalkValue) (l : List ℕ) (told : LineEvent) (new : WalkValue) → ServesAsUnder P w l told new → HasTold P w l told new
 told_cases P w l (tells.Faulted fault) new x = inl (fault, refl, x.0)
 told_cases P w l tells.Nothing new x = inr ((λ fault e. cc), x)
-told_cases P w l (tells.Began ended card) new x = inr ((λ fault e. cc), x)
+told_cases P w l (tells.StepBegan ended card) new x = inr ((λ fault e. cc), x)
 told_cases P w l (tells.Answered t a) new x = inr ((λ fault e. cc), x)
 
 -- a run that prints a text from a line on serves it or tells its fault
@@ -217,7 +217,7 @@ grant_line task form n ask v area = line.Statement task (says.Request (written.O
 -- each is granted an area, and is told so
 abbrev Parted : List ℕ → ℕ → Option JobValue → Name → Name → Bool → List Event → Option JobValue → Option JobValue → Type 0
 Parted told number old task area v events a b =
-    (answer : Answer) × (job : JobValue) × (x : JobValue) × (y : JobValue) × (old ≡ Some job) × (a ≡ Some x) × (b ≡ Some y) × (events ≡ Told number task answer ∷ []) × Apart told job x y task area v answer
+    (answer : Answer) × (job : JobValue) × (x : JobValue) × (y : JobValue) × (old ≡ Some job) × (a ≡ Some x) × (b ≡ Some y) × (events ≡ AnswerTo number task answer ∷ []) × Apart told job x y task area v answer
 
 abbrev Granting : List ℕ → ℕ → Option JobValue → Name → Name → Bool → List Event → List Event → Option JobValue → Option JobValue → Type 0
 Granting told number old task area v events other a b =
@@ -229,7 +229,7 @@ grants : (told : List ℕ) (number : ℕ) (old : Option JobValue) (task : Name) 
 grants told number None task form n ask v area events other a b ranged x y = absurd x
 grants told number (Some job) task form n ask v area events other a b ranged x y =
     let d = asked told job task x.0 y.0 x.1 y.1 form n ask v area ranged x.2 y.2 in
-    ((x.1, x.4), x.3 ∙ ap (λ answer. Told number task answer ∷ []) d.0 ∙ sym y.3, at d.1) where
+    ((x.1, x.4), x.3 ∙ ap (λ answer. AnswerTo number task answer ∷ []) d.0 ∙ sym y.3, at d.1) where
       at : ((x.1 ≡ y.1) ⊎ Apart told job x.1 y.1 task area v x.0) → (a ≡ b) ⊎ Parted told number (Some job) task area v events a b
       at (inl same) = inl (x.4 ∙ ap Some same ∙ sym y.4)
       at (inr apart) = inr (x.0, job, x.1, y.1, refl, x.4, y.4, x.3, apart)
@@ -277,7 +277,7 @@ module _ (told : List ℕ) (w w1 w2 : WalkValue) (l q : List ℕ) (tl tq : LineE
       at (inr x) = x.1
 
     -- what the question is answered
-    apart : (left : List ℕ) (answer : Answer) (job x y : JobValue) → w.step ≡ Some job → w1.step ≡ Some x → events_of_line w.number w1 tl ≡ Told w.number task answer ∷ [] → Apart told job x y task area variable answer → MayPrint (w.number + 1) (Some y) (q ∷ more) left outcome → GrantQuestion more left outcome
+    apart : (left : List ℕ) (answer : Answer) (job x y : JobValue) → w.step ≡ Some job → w1.step ≡ Some x → events_of_line w.number w1 tl ≡ AnswerTo w.number task answer ∷ [] → Apart told job x y task area variable answer → MayPrint (w.number + 1) (Some y) (q ∷ more) left outcome → GrantQuestion more left outcome
     apart left answer job x y of is_x tells_it a may = at (told_cases (Takes []) w1 q tq w2 is_q) (may_serve w1.number (Some y) q more left outcome (subst (λ n. MayPrint n (Some y) (q ∷ more) left outcome) (sym next) may)) where
       at : HasTold (Takes []) w1 q tq w2 → ((events : List Event) × Faults w1.number (is_first (Some y)) q events × (left ≡ printing events)) ⊎ Serving w1.number (Some y) q more left outcome → GrantQuestion more left outcome
       at (inl u) v = absurd (no_fault (Takes []) w1 w2 tq q _ (question_at w1.step x is_x) is_q u.0 u.1)
@@ -294,8 +294,8 @@ module _ (told : List ℕ) (w w1 w2 : WalkValue) (l q : List ℕ) (tl tq : LineE
             one = f.one;
             another = f.another;
             rest = v.2;
-            one_is = ap printing (mine.3 ∙ ap (λ answer. Told w1.number task answer ∷ []) f.answer_is);
-            another_is = v.4 ∙ ap (λ events. printing events ++ v.2) (theirs.3 ∙ ap (λ answer. Told w1.number task answer ∷ []) f.other_is) ∙ ap (λ text. text ++ v.2) (append-nil (reply_line w1.number task (one_line_text (At f.another))));
+            one_is = ap printing (mine.3 ∙ ap (λ answer. AnswerTo w1.number task answer ∷ []) f.answer_is);
+            another_is = v.4 ∙ ap (λ events. printing events ++ v.2) (theirs.3 ∙ ap (λ answer. AnswerTo w1.number task answer ∷ []) f.other_is) ∙ ap (λ text. text ++ v.2) (append-nil (reply_line w1.number task (one_line_text (At f.another))));
             small_one = f.small_one;
             small_another = f.small_another;
             same = λ e. subst (λ step. MayPrint (w1.number + 1) step more v.2 outcome) (theirs.4 ∙ ap Some (sym (f.same e)) ∙ sym mine.4) v.5;
@@ -585,5 +585,5 @@ in_bounds P w w' l t x b = at t x where
   at : (t : LineEvent) → ServesAsUnder P w l t w' → InBounds w'.step
   at (tells.Faulted fault) x = subst InBounds (sym x.1) b
   at tells.Nothing x = line_keeps (λ st. IsBounded st.regions) bounded_closed bounded_start P w.number w.step l _ w'.step x b
-  at (tells.Began ended card) x = line_keeps (λ st. IsBounded st.regions) bounded_closed bounded_start P w.number w.step l _ w'.step x b
+  at (tells.StepBegan ended card) x = line_keeps (λ st. IsBounded st.regions) bounded_closed bounded_start P w.number w.step l _ w'.step x b
   at (tells.Answered t a) x = line_keeps (λ st. IsBounded st.regions) bounded_closed bounded_start P w.number w.step l _ w'.step x b

@@ -12,7 +12,7 @@ use Rattle.mvs_model.specs.declared.request.Reply.TheVariants as reply
 use Rattle.mvs_model.specs.declared.request.Request.TheVariants as request
 use Rattle.mvs_model.specs.Place.{PlaceValue}
 use Rattle.mvs_model.specs.Owners.{is_active}
-use Rattle.mvs_model.specs.Answers.{Answer, Event, Told, Faulted, StepEnded, Region, NotRun}
+use Rattle.mvs_model.specs.Answers.{Answer, Event, AnswerTo, Faulted, StepEnded, Region, NotRun}
 use Rattle.mvs_model.specs.Job.{JobValue, job_at}
 use Rattle.mvs_model.specs.Lines.{card_of}
 use Rattle.mvs_model.specs.Reading.{FaultOf, LineOf}
@@ -105,7 +105,7 @@ does_apart old t s x new m = at _ _ (is_active old.state.owners t) m (λ m. ap i
 -- ---- what is told of a statement of a step
 
 abbrev answer_at : List Event → Answer
-answer_at (Told number t x ∷ events) = x
+answer_at (AnswerTo number t x ∷ events) = x
 answer_at _ = NotRun
 
 -- The answer of the line is that of the statement.
@@ -114,11 +114,11 @@ module _ (w w' : WalkValue) (tl : LineEvent) (job : JobValue) (t : Name) (s : St
       → (u : Name) × (a : Short) × (tl ≡ tells.Answered u a) × (mine.0 ≡ full_answer mine.1.state (ended_with_in w'.reply) u a)
   told_answer (tells.Answered u a) e f =
       (u, a, e, sym (ap answer_at (ap (events_of_line w.number w') (sym e) ∙ mine.3)) ∙ ap (λ step. full_answer_in step (ended_with_in w'.reply) u a) mine.4)
-  told_answer tells.Nothing e f = absurd (let g : [] ≡ Told w.number t mine.0 ∷ [] = ap (events_of_line w.number w') (sym e) ∙ mine.3 in cc)
-  told_answer (tells.Began None card) e f =
+  told_answer tells.Nothing e f = absurd (let g : [] ≡ AnswerTo w.number t mine.0 ∷ [] = ap (events_of_line w.number w') (sym e) ∙ mine.3 in cc)
+  told_answer (tells.StepBegan None card) e f =
       absurd (true_false (ap is_region (ap answer_at (ap (events_of_line w.number w') (sym e) ∙ mine.3)) ∙ does_apart job t s mine.0 mine.1 mine.2))
-  told_answer (tells.Began (Some abended) card) e f = absurd (let g : StepEnded abended ∷ Told w.number card.name (Region card) ∷ [] ≡ Told w.number t mine.0 ∷ [] = ap (events_of_line w.number w') (sym e) ∙ mine.3 in cc)
-  told_answer (tells.Faulted fault) e f = absurd (let g : Faulted w.number fault ∷ [] ≡ Told w.number t mine.0 ∷ [] = ap (events_of_line w.number w') (sym e) ∙ mine.3 in cc)
+  told_answer (tells.StepBegan (Some abended) card) e f = absurd (let g : StepEnded abended ∷ AnswerTo w.number card.name (Region card) ∷ [] ≡ AnswerTo w.number t mine.0 ∷ [] = ap (events_of_line w.number w') (sym e) ∙ mine.3 in cc)
+  told_answer (tells.Faulted fault) e f = absurd (let g : Faulted w.number fault ∷ [] ≡ AnswerTo w.number t mine.0 ∷ [] = ap (events_of_line w.number w') (sym e) ∙ mine.3 in cc)
 
   told : (u : Name) × (a : Short) × (tl ≡ tells.Answered u a) × (mine.0 ≡ full_answer mine.1.state (ended_with_in w'.reply) u a)
   told = told_answer tl refl (λ u a x. (u, a, x.0, x.1))
@@ -134,22 +134,22 @@ module _ (w w' : WalkValue) (tl : LineEvent) (job : JobValue) (t : Name) (s : St
 abbrev pub SettledIn : Line → List Event → Type 0
 SettledIn line.Nothing events = Unit {0}
 SettledIn (line.Statement t (statement.Region below above fill residence)) events = Unit {0}
-SettledIn (line.Statement t s) events = (number : ℕ) (x : Answer) → events ≡ Told number t x ∷ [] → is_settled s x ≡ true
+SettledIn (line.Statement t s) events = (number : ℕ) (x : Answer) → events ≡ AnswerTo number t x ∷ [] → is_settled s x ≡ true
 
 -- Places decide it.
 abbrev pub OpenIn : Line → List Event → Type 0
 OpenIn line.Nothing events = ⊥
 OpenIn (line.Statement t (statement.Region below above fill residence)) events = ⊥
-OpenIn (line.Statement t s) events = (number : ℕ) (x : Answer) → events ≡ Told number t x ∷ [] → is_settled s x ≡ false
+OpenIn (line.Statement t s) events = (number : ℕ) (x : Answer) → events ≡ AnswerTo number t x ∷ [] → is_settled s x ≡ false
 
 both_steps : {a b c d : Option JobValue} → a ≡ b → c ≡ d → Alike b d → Alike a c
 both_steps {a} {b} {c} {d} e f like = subst (λ a. Alike a c) (sym e) (subst (λ c. Alike b c) (sym f) like)
 
 module _ (number : ℕ) (one other : JobValue) (t : Name) (s : Statement) (events more : List Event) (new mid : Option JobValue) (like : AreAlike one other) (x : Steps machine number one t s events new) (y : Steps machine number other t s more mid) where
-  step_certain : ((n : ℕ) (a : Answer) → events ≡ Told n t a ∷ [] → is_settled s a ≡ true) → (events ≡ more) × Alike new mid
+  step_certain : ((n : ℕ) (a : Answer) → events ≡ AnswerTo n t a ∷ [] → is_settled s a ≡ true) → (events ≡ more) × Alike new mid
   step_certain f =
       let r = settled_alike one other t s x.0 y.0 x.1 y.1 like x.2 y.2 (f number x.0 x.3) in
-      (x.3 ∙ ap (λ a. Told number t a ∷ []) r.0 ∙ sym y.3, both_steps x.4 y.4 r.1)
+      (x.3 ∙ ap (λ a. AnswerTo number t a ∷ []) r.0 ∙ sym y.3, both_steps x.4 y.4 r.1)
 
   printed_one : (u : List ℕ) → printing events ++ u ≡ answer_text number t x.0 ++ u
   printed_one u = ap (λ e. printing e ++ u) x.3 ∙ ap (λ z. z ++ u) (append-nil (answer_text number t x.0))
@@ -157,17 +157,17 @@ module _ (number : ℕ) (one other : JobValue) (t : Name) (s : Statement) (event
   printed_other : (v : List ℕ) → printing more ++ v ≡ answer_text number t y.0 ++ v
   printed_other v = ap (λ e. printing e ++ v) y.3 ∙ ap (λ z. z ++ v) (append-nil (answer_text number t y.0))
 
-  step_shown : ((n : ℕ) (a : Answer) → events ≡ Told n t a ∷ [] → is_settled s a ≡ false) → is_followed s ≡ true → ShowsSome s → (u v : List ℕ) → printing events ++ u ≡ printing more ++ v → Alike new mid × (u ≡ v)
+  step_shown : ((n : ℕ) (a : Answer) → events ≡ AnswerTo n t a ∷ [] → is_settled s a ≡ false) → is_followed s ≡ true → ShowsSome s → (u v : List ℕ) → printing events ++ u ≡ printing more ++ v → Alike new mid × (u ≡ v)
   step_shown f followed some u v e =
       let r = shown_alike one other t s x.0 y.0 x.1 y.1 like x.2 y.2 number u v followed some (f number x.0 x.3) (sym (printed_one u) ∙ e ∙ printed_other v) in
       (both_steps x.4 y.4 r.0, r.1)
 
-  step_report : s ≡ statement.ReportSubpools → IsBounded one.state.regions → ((n : ℕ) (a : Answer) → events ≡ Told n t a ∷ [] → is_settled s a ≡ false) → (u v : List ℕ) → printing events ++ u ≡ printing more ++ v → Alike new mid × (u ≡ v)
+  step_report : s ≡ statement.ReportSubpools → IsBounded one.state.regions → ((n : ℕ) (a : Answer) → events ≡ AnswerTo n t a ∷ [] → is_settled s a ≡ false) → (u v : List ℕ) → printing events ++ u ≡ printing more ++ v → Alike new mid × (u ≡ v)
   step_report is bounded f u v e =
       let r = report_alike one other t s x.0 y.0 x.1 y.1 like x.2 y.2 is bounded (f number x.0 x.3) number u v (sym (printed_one u) ∙ e ∙ printed_other v) in
       (both_steps x.4 y.4 r.0, r.1)
 
-  step_begins : ((n : ℕ) (a : Answer) → events ≡ Told n t a ∷ [] → is_settled s a ≡ false) → ShowsSome s → (v : List ℕ) → BeginsOpen number t s (printing more ++ v)
+  step_begins : ((n : ℕ) (a : Answer) → events ≡ AnswerTo n t a ∷ [] → is_settled s a ≡ false) → ShowsSome s → (v : List ℕ) → BeginsOpen number t s (printing more ++ v)
   step_begins f some v = subst (BeginsOpen number t s) (sym (printed_other v)) (begins_alike one other t s x.0 y.0 x.1 y.1 like x.2 y.2 number v some (f number x.0 x.3))
 
 ending_alike : (one other : Option JobValue) → Alike one other → ending machine one ≡ ending machine other
@@ -192,7 +192,7 @@ module _ (number : ℕ) (events more : List Event) (new mid : Option JobValue) w
   certain old other line.Nothing like x y f = (x.0 ∙ sym y.0, both_steps x.1 y.1 like)
   certain old other (line.Statement t (statement.Region below above fill residence)) like x y f =
       let card = card_of t below above fill residence in
-      (x.0 ∙ ap (λ e. e ++ Told number t (Region card) ∷ []) (ending_alike old other like) ∙ sym y.0, both_steps x.1 (y.1 ∙ ap (λ b. Some (job_at card b)) (sym (abended_alike old other like))) (self (job_at card (has_abended machine old))))
+      (x.0 ∙ ap (λ e. e ++ AnswerTo number t (Region card) ∷ []) (ending_alike old other like) ∙ sym y.0, both_steps x.1 (y.1 ∙ ap (λ b. Some (job_at card b)) (sym (abended_alike old other like))) (self (job_at card (has_abended machine old))))
   certain None other (line.Statement t (statement.Request k)) like x y f = absurd x
   certain None other (line.Statement t (statement.Where name)) like x y f = absurd x
   certain None other (line.Statement t statement.ReportSubpools) like x y f = absurd x

@@ -10,7 +10,7 @@ mod Compared
 mod Lists
 mod Decided
 mod ListLines
-mod GrantQuestion
+mod Asked
 mod Rest
 mod Found
 mod Answering

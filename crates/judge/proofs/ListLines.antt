@@ -14,7 +14,7 @@ use Rattle.mvs_model.specs.declared.line.Line.TheVariants as line
 use Rattle.mvs_model.specs.declared.line.Statement.TheVariants as says
 use Rattle.mvs_model.specs.declared.line.Written.TheVariants as written
 use Rattle.mvs_model.specs.declared.outcome.Outcome.{Outcome}
-use Rattle.mvs_model.specs.Answers.{Event, Told, At, Rc0}
+use Rattle.mvs_model.specs.Answers.{Event, AnswerTo, At, Rc0}
 use Rattle.mvs_model.specs.Job.{JobValue}
 use Rattle.mvs_model.specs.Lines.{lines_of}
 use Rattle.mvs_model.specs.Place.{PlaceValue}
@@ -74,7 +74,7 @@ question number job task area p q lines text outcome active at is may = go (may_
       let answer : theirs.0 ≡ At p.addr = answered.0 ∙ ap where_answer at in
       let step : v.0 ≡ Some job = theirs.4 ∙ ap Some answered.1 in (
         v.2,
-        v.4 ∙ ap (λ events. printing events ++ v.2) (theirs.3 ∙ ap (λ answer. Told number task answer ∷ []) answer) ∙ ap (λ x. x ++ v.2) (append-nil (reply_line number task (one_line_text (At p.addr)))),
+        v.4 ∙ ap (λ events. printing events ++ v.2) (theirs.3 ∙ ap (λ answer. AnswerTo number task answer ∷ []) answer) ∙ ap (λ x. x ++ v.2) (append-nil (reply_line number task (one_line_text (At p.addr)))),
         subst (λ step. MayPrint (number + 1) step lines v.2 outcome) step v.5,
       )
 
@@ -170,7 +170,7 @@ module _ (told : List ℕ) (w w1 : WalkValue) (l : List ℕ) (tl : LineEvent) (t
         theirs = e ∙ ap (λ events. printing events ++ rest) y.3 ∙ ap (λ x. x ++ rest) (append-nil (answer_text w.number task y.0))
 
         alike_differs : x.0 ≡ y.0 → ⊥
-        alike_differs f = differs rest (e ∙ ap (λ events. printing events ++ rest) (y.3 ∙ ap (λ answer. Told w.number task answer ∷ []) (sym f) ∙ sym x.3) ∙ ap (λ x. x ++ rest) (sym is))
+        alike_differs f = differs rest (e ∙ ap (λ events. printing events ++ rest) (y.3 ∙ ap (λ answer. AnswerTo w.number task answer ∷ []) (sym f) ∙ sym x.3) ∙ ap (λ x. x ++ rest) (sym is))
 
         other_differs : AreOtherwise x.0 y.0 → ⊥
         other_differs (inl (f, g)) = none (y.0, inr g, rest, theirs)

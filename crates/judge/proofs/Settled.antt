@@ -35,7 +35,7 @@ use Rattle.mvs_model.specs.Consequences.{Abends}
 use Rattle.mvs_model.specs.Requests.{is_invalid, on_doubleword, whole}
 use Rattle.mvs_model.specs.Resolving.{resolved, names_set, places_in, all_set}
 use Rattle.mvs_model.specs.Replies.{is_abend, answer_of}
-use Rattle.mvs_model.specs.Answers.{Answer, Event, Told}
+use Rattle.mvs_model.specs.Answers.{Answer, Event, AnswerTo}
 use Rattle.mvs_model.specs.Job.{JobValue}
 use Rattle.mvs_model.specs.Runs.{Condition, Any, Makes, Asks, AnswersTo, Does, job_machine, machine}
 use Rattle.mvs_model.specs.Walk.{Serves}
@@ -141,12 +141,12 @@ module _ (P : Condition) (old : JobValue) (t : Name) (answer other : Answer) (a 
 
 module _ (P : Condition) (number : ℕ) (events other : List Event) (a b : Option JobValue) where
   step_same : (job : JobValue) (t : Name) (s : Statement) → leaves_open (line.Statement t s) ≡ false
-      → ((answer : Answer) × (later : JobValue) × Does P job t s answer later × (events ≡ Told number t answer ∷ []) × (a ≡ Some later))
-      → ((answer : Answer) × (later : JobValue) × Does Any job t s answer later × (other ≡ Told number t answer ∷ []) × (b ≡ Some later))
+      → ((answer : Answer) × (later : JobValue) × Does P job t s answer later × (events ≡ AnswerTo number t answer ∷ []) × (a ≡ Some later))
+      → ((answer : Answer) × (later : JobValue) × Does Any job t s answer later × (other ≡ AnswerTo number t answer ∷ []) × (b ≡ Some later))
       → (events ≡ other) × (a ≡ b)
   step_same job t s closed x y =
       let d = does_same P job t x.0 y.0 x.1 y.1 s closed x.2 y.2 in
-      (x.3 ∙ ap (λ answer. Told number t answer ∷ []) d.0 ∙ sym y.3, x.4 ∙ ap Some d.1 ∙ sym y.4)
+      (x.3 ∙ ap (λ answer. AnswerTo number t answer ∷ []) d.0 ∙ sym y.3, x.4 ∙ ap Some d.1 ∙ sym y.4)
 
   pub serves_same : (old : Option JobValue) (l : Line) → leaves_open l ≡ false → Serves (job_machine P) number old l events a → Serves machine number old l other b → (events ≡ other) × (a ≡ b)
   serves_same old line.Nothing closed x y = (x.0 ∙ sym y.0, x.1 ∙ sym y.1)

@@ -124,24 +124,24 @@ module _ (names : FinMap name_cmp PlaceValue) (old : State) (t : Name) (new : St
   there : (name : Name) → is_some (pool_at old name) ≡ is_some (get old.pools name)
   there name = mapped _ (get old.pools name)
 
-  abbrev pub Told : Written → Request → Type 0
-  Told k r = settled_in k (pool_at old) ≡ true → Acts old t r answered new → PrintedAnswer (code_in k t old.owners (pool_at old)) (done_in k)
+  abbrev pub AddressHints : Written → Request → Type 0
+  AddressHints k r = settled_in k (pool_at old) ≡ true → Acts old t r answered new → PrintedAnswer (code_in k t old.owners (pool_at old)) (done_in k)
 
-  pub said_by : (k : Written) (r : Request) → resolved names k ≡ Some r → Told k r
-  said_by (written.Obtain form n ask variable area) r e = subst (Told (written.Obtain form n ask variable area)) (some_one _ r e) (λ s x. invalid _ (is_invalid n) _ reply.Rc0 s x)
-  said_by (written.ObtainList form n lengths start areas) r e = subst (Told (written.ObtainList form n lengths start areas)) (some_one _ r e) (λ s x. invalid _ (is_invalid n) _ reply.Rc0 s x)
-  said_by (written.Release form n location len) r e = map_is (address_of names location) _ r (Told (written.Release form n location len)) e (λ a s x. invalid _ (is_invalid n) _ reply.Rc0 s x)
-  said_by (written.ReleaseArea form n area) r e = map_is (get names area) _ r (Told (written.ReleaseArea form n area)) e (λ a s x. invalid _ (is_invalid n) _ reply.Rc0 s x)
-  said_by (written.ReleaseList form n locations lengths) r e = map_is (places_of names locations lengths) _ r (Told (written.ReleaseList form n locations lengths)) e (λ a s x. invalid _ (is_invalid n) _ reply.Rc0 s x)
-  said_by (written.ReleaseWhole form n) r e = subst (Told (written.ReleaseWhole form n)) (some_one _ r e) (λ s x. whole_said _ (is_invalid n) (n == 0) _ _ x)
-  said_by (written.Build pool n size primary secondary loc) r e = subst (Told (written.Build pool n size primary secondary loc)) (some_one _ r e)
+  pub said_by : (k : Written) (r : Request) → resolved names k ≡ Some r → AddressHints k r
+  said_by (written.Obtain form n ask variable area) r e = subst (AddressHints (written.Obtain form n ask variable area)) (some_one _ r e) (λ s x. invalid _ (is_invalid n) _ reply.Rc0 s x)
+  said_by (written.ObtainList form n lengths start areas) r e = subst (AddressHints (written.ObtainList form n lengths start areas)) (some_one _ r e) (λ s x. invalid _ (is_invalid n) _ reply.Rc0 s x)
+  said_by (written.Release form n location len) r e = map_is (address_of names location) _ r (AddressHints (written.Release form n location len)) e (λ a s x. invalid _ (is_invalid n) _ reply.Rc0 s x)
+  said_by (written.ReleaseArea form n area) r e = map_is (get names area) _ r (AddressHints (written.ReleaseArea form n area)) e (λ a s x. invalid _ (is_invalid n) _ reply.Rc0 s x)
+  said_by (written.ReleaseList form n locations lengths) r e = map_is (places_of names locations lengths) _ r (AddressHints (written.ReleaseList form n locations lengths)) e (λ a s x. invalid _ (is_invalid n) _ reply.Rc0 s x)
+  said_by (written.ReleaseWhole form n) r e = subst (AddressHints (written.ReleaseWhole form n)) (some_one _ r e) (λ s x. whole_said _ (is_invalid n) (n == 0) _ _ x)
+  said_by (written.Build pool n size primary secondary loc) r e = subst (AddressHints (written.Build pool n size primary secondary loc)) (some_one _ r e)
       (λ s x. build_said _ (is_invalid n) (contains_key old.pools pool) _ _ (ap (λ c. if is_invalid n then true else c) (sym (there pool)) ∙ s) x)
-  said_by (written.Get pool conditional cell) r e = subst (Told (written.Get pool conditional cell)) (some_one _ r e) (λ s x. get_said pool conditional (get old.pools pool) (ap not (sym (there pool)) ∙ s) x)
-  said_by (written.Free pool cell) r e = map_is (address_of names cell) _ r (Told (written.Free pool cell)) e (λ a s x. free_said pool a (get old.pools pool) (ap not (sym (there pool)) ∙ s) x)
-  said_by (written.Delete pool) r e = subst (Told (written.Delete pool)) (some_one _ r e) (λ s x. delete_said pool (get old.pools pool) x)
-  said_by (written.Attach name gifts residence) r e = subst (Told (written.Attach name gifts residence)) (some_one _ r e) (λ s x. attach_said name gifts residence (attach_refusal old.owners t name gifts) x)
-  said_by written.Return r e = subst (Told written.Return) (some_one _ r e) (λ s x. return_said _ (has_subtask old.owners t) x)
-  said_by (written.Abend n) r e = subst (Told (written.Abend n)) (some_one _ r e) (λ s x. abend (User n) reply.Rc0 x)
+  said_by (written.Get pool conditional cell) r e = subst (AddressHints (written.Get pool conditional cell)) (some_one _ r e) (λ s x. get_said pool conditional (get old.pools pool) (ap not (sym (there pool)) ∙ s) x)
+  said_by (written.Free pool cell) r e = map_is (address_of names cell) _ r (AddressHints (written.Free pool cell)) e (λ a s x. free_said pool a (get old.pools pool) (ap not (sym (there pool)) ∙ s) x)
+  said_by (written.Delete pool) r e = subst (AddressHints (written.Delete pool)) (some_one _ r e) (λ s x. delete_said pool (get old.pools pool) x)
+  said_by (written.Attach name gifts residence) r e = subst (AddressHints (written.Attach name gifts residence)) (some_one _ r e) (λ s x. attach_said name gifts residence (attach_refusal old.owners t name gifts) x)
+  said_by written.Return r e = subst (AddressHints written.Return) (some_one _ r e) (λ s x. return_said _ (has_subtask old.owners t) x)
+  said_by (written.Abend n) r e = subst (AddressHints (written.Abend n)) (some_one _ r e) (λ s x. abend (User n) reply.Rc0 x)
   said_by (written.Show location n) r e = λ s x. false_true s
   said_by (written.Put location bytes) r e = λ s x. false_true s
   said_by (written.Move to from n) r e = λ s x. false_true s

@@ -16,7 +16,7 @@ use crate::following::print_end;
 use crate::kinds::is_first;
 use crate::openings::{Continued, begins_open};
 use job_script::read_line;
-use mvs_job::{LineEvent, Told, Walk, line_end};
+use mvs_job::{LineEvent, AddressHints, Walk, line_end};
 use mvs_model::error::OutOfMemory;
 use mvs_model::line::{Line, Statement, Written};
 use mvs_model::outcome::Outcome;
@@ -58,7 +58,7 @@ fn is_certain(read: &Line, told: &LineEvent) -> bool
         Line::Statement(_, Statement::Region { .. }) => true,
         Line::Statement(_, statement) => match told {
             LineEvent::Answered { answer, .. } => is_settled(statement, answer),
-            LineEvent::Nothing | LineEvent::Began { .. } | LineEvent::Faulted(_) => true,
+            LineEvent::Nothing | LineEvent::StepBegan { .. } | LineEvent::Faulted(_) => true,
         },
     }
 }
@@ -225,7 +225,7 @@ fn ruling_if(is_same: bool, outcome: Outcome) -> Ruling
 }
 
 /// Compares an output with a run of its script that uses these hints, up to the first line at which they part.
-pub fn rule(alloc: Global, script: &[u8], output: &[u8], told: &Told) -> Result<Ruling, OutOfMemory>
+pub fn rule(alloc: Global, script: &[u8], output: &[u8], told: &AddressHints) -> Result<Ruling, OutOfMemory>
     requires short { length script.now ≤ most_script_bytes }
     ensures { IfOk result (IsRuling script.now output.now) }
 {

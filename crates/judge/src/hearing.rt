@@ -4,7 +4,7 @@
 use crate::answers::{Answers, PrintedAnswer};
 use crate::parts::Parts;
 use job_script::read_line;
-use mvs_job::Told;
+use mvs_job::AddressHints;
 use mvs_model::error::OutOfMemory;
 use mvs_model::line::{Line, Statement, Written};
 use mvs_model::name::Name;
@@ -123,8 +123,8 @@ impl Hearing {
 }
 
 // Returns the addresses of each line, of its cell or in the order of its areas, up to the first that is not shown.
-fn by_lines(alloc: Global, spots: &[Spot]) -> Result<Told, OutOfMemory> {
-    let mut told = Told::nothing(alloc);
+fn by_lines(alloc: Global, spots: &[Spot]) -> Result<AddressHints, OutOfMemory> {
+    let mut told = AddressHints::nothing(alloc);
     for spot in spots {
         let line = spot.member.line;
         if told.of(line).len() == spot.member.place && spot.addr < 0x8000_0000 {
@@ -162,9 +162,9 @@ fn hear_text(
     script: &str,
     output: &str,
     by_cells: bool,
-) -> Result<Told, OutOfMemory> {
+) -> Result<AddressHints, OutOfMemory> {
     if !output.contains(" AT ") {
-        return Ok(Told::nothing(alloc));
+        return Ok(AddressHints::nothing(alloc));
     }
     let answers = Answers::read(alloc, first_number, output)?;
     let mut hearing = hear_lines(alloc, first_number, script, &answers)?;
@@ -189,9 +189,9 @@ pub fn hear(
     script: &[u8],
     output: &[u8],
     by_cells: bool,
-) -> Result<Told, OutOfMemory> {
+) -> Result<AddressHints, OutOfMemory> {
     match (str::from_utf8(script), str::from_utf8(output)) {
         (Ok(script), Ok(output)) => hear_text(alloc, first_number, script, output, by_cells),
-        _ => Ok(Told::nothing(alloc)),
+        _ => Ok(AddressHints::nothing(alloc)),
     }
 }

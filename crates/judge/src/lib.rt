@@ -26,7 +26,7 @@ use crate::exclusion::{Ruling, rule};
 use crate::following::follow;
 use crate::hearing::hear;
 use crate::resting::run_rest;
-use mvs_job::{RunFault, Told, Walk};
+use mvs_job::{RunFault, AddressHints, Walk};
 use mvs_model::error::OutOfMemory;
 use mvs_model::numbers::MOST_SCRIPT_BYTES;
 use mvs_model::outcome::Outcome;
@@ -62,11 +62,11 @@ fn hints_if(
     script: &[u8],
     output: &[u8],
     by_cells: bool,
-) -> Result<Told, OutOfMemory> {
+) -> Result<AddressHints, OutOfMemory> {
     if matters {
         hear(alloc, first_number, script, output, by_cells)
     } else {
-        Ok(Told::nothing(alloc))
+        Ok(AddressHints::nothing(alloc))
     }
 }
 

@@ -1,6 +1,6 @@
 //! Finds where the parts of cell pools begin, from the cells that an output shows.
 
-use mvs_job::Told;
+use mvs_job::AddressHints;
 use mvs_model::error::OutOfMemory;
 use mvs_model::line::Written;
 use mvs_model::name::Name;
@@ -269,7 +269,7 @@ impl Parts {
     }
 
     // Records each known cell.
-    fn see_each(&mut self, alloc: Global, told: &Told) -> Result<(), OutOfMemory> {
+    fn see_each(&mut self, alloc: Global, told: &AddressHints) -> Result<(), OutOfMemory> {
         let mut seen = HashMap::new(alloc);
         for number in 0..self.taken.len() {
             if let Some(taken) = self.taken.get(number).copied() {
@@ -297,7 +297,7 @@ impl Parts {
 
     /// Returns the hint for the first cell of each part: of the first part of a pool for the line of its BUILD, and of a further
     /// one after the cell of the line that added it.
-    pub fn tell(&mut self, alloc: Global, told: &mut Told) -> Result<(), OutOfMemory> {
+    pub fn tell(&mut self, alloc: Global, told: &mut AddressHints) -> Result<(), OutOfMemory> {
         self.see_each(alloc, told)?;
         let go_down = self.go_down();
         for part in &self.parts {
@@ -313,7 +313,7 @@ impl Parts {
     }
 
     /// Leaves each part to the placement: the hint for a further one is an address where no cell begins.
-    pub fn leave(&self, alloc: Global, told: &mut Told) -> Result<(), OutOfMemory> {
+    pub fn leave(&self, alloc: Global, told: &mut AddressHints) -> Result<(), OutOfMemory> {
         for part in &self.parts {
             if part.line != part.pool_line && !told.of(part.line).is_empty() {
                 told.tell(alloc, part.line, Addr::new(0))?;

@@ -4,7 +4,7 @@ ghost use Rattle.std.specs.Prelude.{◌≡◌, ◌<◌, ◌+◌, ◌^◌, ◌++�
 ghost use Rattle.mvs_model.specs.Runs.{IsPrinting};
 ghost use Rattle.judge.specs.Deciding.{HasReached};
 
-use mvs_job::{Told, Walk, line_end, print_closing, run_line};
+use mvs_job::{AddressHints, Walk, line_end, print_closing, run_line};
 use mvs_model::error::OutOfMemory;
 use mvs_model::outcome::Outcome;
 use mvs_model::watched::Watched;
@@ -20,7 +20,7 @@ pub struct Ran {
 pub fn run_rest(
     mut walk: Walk,
     script: &[u8],
-    told: &Told,
+    told: &AddressHints,
     text: Vec<u8>,
 ) -> Result<Ran, OutOfMemory>
     requires { walk.number + length script.now + 1 < 2 ^ 32 }

@@ -11,7 +11,7 @@ use Rattle.mvs_model.specs.Place.{PlaceValue}
 use Rattle.mvs_model.specs.Texts.{fault_number}
 use Rattle.mvs_job.specs.declared.walk.LineEvent.{LineEvent}
 use Rattle.mvs_job.specs.declared.walk.LineEvent.TheVariants as told
-use Rattle.mvs_job.specs.declared.walk.Stopped.{Stopped}
+use Rattle.mvs_job.specs.declared.walk.OutOfMemoryAt.{OutOfMemoryAt}
 use Rattle.mvs_c.specs.declared.event.Event.{Event}
 use Rattle.mvs_c.specs.declared.field.Field.{Field}
 use Rattle.mvs_c.specs.Fields.{offset}
@@ -76,9 +76,9 @@ reply_event t reply.Done = of_task 13 t
 reply_event t (reply.Abended code fallen) = record (of_task 15 t) { code = completion code }
 
 -- the event of a line, or that memory is exhausted
-abbrev pub line_event : Result LineEvent Stopped → Event
+abbrev pub line_event : Result LineEvent OutOfMemoryAt → Event
 line_event (Ok told.Nothing) = of_kind 1
-line_event (Ok (told.Began end card)) = record (of_task 2 card.name) { ended = step_number end }
+line_event (Ok (told.StepBegan end card)) = record (of_task 2 card.name) { ended = step_number end }
 line_event (Ok (told.Answered t a)) = answer_event t a
 line_event (Ok (told.Faulted fault)) = record (of_kind 18) { code = fault_number fault }
 line_event (Err stopped) = record (of_kind 19) { ended = step_number stopped.ended }

@@ -9,8 +9,8 @@ use Rattle.mvs_model.specs.Runs.{machine}
 use Rattle.mvs_model.specs.Walk.{Closes}
 use Rattle.mvs_job.specs.declared.walk.LineEvent.{LineEvent}
 use Rattle.mvs_job.specs.declared.walk.LineEvent.TheVariants as told
-use Rattle.mvs_job.specs.declared.walk.Stopped.{Stopped}
-use Rattle.mvs_job.specs.declared.walk.Closing.{Closing}
+use Rattle.mvs_job.specs.declared.walk.OutOfMemoryAt.{OutOfMemoryAt}
+use Rattle.mvs_job.specs.declared.walk.JobEnd.{JobEnd}
 use Rattle.mvs_job.specs.LineEvents.{WalkValue, ServesAs, KeepsReplyOf, closing, ended, continues}
 use Rattle.mvs_job.specs.Valued.{RequestsOf}
 use Rattle.mvs_c.specs.declared.event.Event.{Event}
@@ -34,7 +34,7 @@ outcome_status SomeAbend = 8
 outcome_status ScriptFault = 12
 
 -- the result of a line: it was executed, or has a fault, or memory is exhausted
-abbrev pub line_status : Result LineEvent Stopped → ℕ
+abbrev pub line_status : Result LineEvent OutOfMemoryAt → ℕ
 line_status (Ok (told.Faulted fault)) = 12
 line_status (Ok told) = 0
 line_status (Err stopped) = 16
@@ -45,7 +45,7 @@ WithSession None after none some = (after ≡ None) × none
 WithSession (Some old) after none some = (new : OpenValue) × (after ≡ Some new) × some old new
 
 -- A session executes a line, with these events. The kept reply is that to the request of the line, if it makes one.
-abbrev pub ExecutesLine : OpenValue → List ℕ → Result LineEvent Stopped → OpenValue → Type 0
+abbrev pub ExecutesLine : OpenValue → List ℕ → Result LineEvent OutOfMemoryAt → OpenValue → Type 0
 ExecutesLine old line told new =
     MatchResult told (λ told. ServesAs old.session.walk line told new.session.walk)
     (λ stopped. StopsForMemory old.session.walk.number old.session.walk.step (line ∷ []) (ended stopped.ended))
@@ -55,7 +55,7 @@ ExecutesLine old line told new =
 -- The result of a call with a line: the session executes it, or accepts none, and then nothing changes.
 abbrev pub AnswersLine : OpenValue → List ℕ → OpenValue → Event → Event → ℕ → Type 0
 AnswersLine old line new before after status =
-    (TakesLine old.session → (told : Result LineEvent Stopped) × ExecutesLine old line told new × (after ≡ line_event told) × (status ≡ line_status told))
+    (TakesLine old.session → (told : Result LineEvent OutOfMemoryAt) × ExecutesLine old line told new × (after ≡ line_event told) × (status ≡ line_status told))
     × ((TakesLine old.session → ⊥) → (new ≡ old) × (after ≡ before) × (status ≡ 24))
 
 -- The result of a call that tries a line: one with a fault changes nothing but the event, and any other is executed.
@@ -89,7 +89,7 @@ AnswersList old a areas new told before after status =
     × (status ≡ 0 → told ≡ area_values (listed new.session.walk.reply) areas) × (status ≢ 0 → told ≡ areas)
 
 -- A session ends its job so.
-abbrev pub EndsJob : OpenValue → Closing → OpenValue → Type 0
+abbrev pub EndsJob : OpenValue → JobEnd → OpenValue → Type 0
 EndsJob old end new =
     Closes machine old.session.walk.number old.session.walk.step (closing old.session.walk.number end.ended) end.outcome
     × (new ≡ record { session = record { walk = old.session.walk; continues = false }; last = last.Closed old.session.walk.number end.ended })
@@ -97,7 +97,7 @@ EndsJob old end new =
 -- The result of a call that ends a job.
 abbrev pub AnswersEnd : OpenValue → OpenValue → Event → Event → ℕ → Type 0
 AnswersEnd old new before after status =
-    (old.session.continues ≡ true → (end : Closing) × EndsJob old end new × (after ≡ end_event end.ended) × (status ≡ outcome_status end.outcome))
+    (old.session.continues ≡ true → (end : JobEnd) × EndsJob old end new × (after ≡ end_event end.ended) × (status ≡ outcome_status end.outcome))
     × (old.session.continues ≡ false → (new ≡ old) × (after ≡ before) × (status ≡ 24))
 
 -- Some bytes are returned in a buffer, at its front, with this status; or it is too small for them, and does not change. Their

@@ -7,7 +7,7 @@ use Rattle.mvs_model.specs.Reading.{checks, first_of}
 use Rattle.mvs_model.specs.Texts.{printing}
 use Rattle.mvs_model.specs.Walk.{is_first}
 use Rattle.mvs_job.specs.declared.walk.LineEvent.{LineEvent}
-use Rattle.mvs_job.specs.declared.walk.Stopped.{Stopped}
+use Rattle.mvs_job.specs.declared.walk.OutOfMemoryAt.{OutOfMemoryAt}
 use Rattle.mvs_job.specs.Sessions.{SessionValue, session_code, new_session}
 use Rattle.mvs_job.specs.LineEvents.{WalkValue, IsAvailable, events_of_line, ended, closing}
 use Rattle.mvs_c.specs.declared.last.Last.{Last}
@@ -31,7 +31,7 @@ new_open = record { session = new_session; last = last.Nothing }
 abbrev pub events_of : WalkValue → Last → List Event
 events_of w last.Nothing = []
 events_of w (last.Line number told) = events_of_line number w told
-events_of w (last.Stopped end) = ended end
+events_of w (last.OutOfMemoryAt end) = ended end
 events_of w (last.Closed number end) = closing number end
 
 -- their text
@@ -48,9 +48,9 @@ LastIsAvailable w (last.Line number told) = IsAvailable w told
 LastIsAvailable w _ = Unit {0}
 
 -- the events of the line with this number
-abbrev pub last_of : ℕ → Result LineEvent Stopped → Last
+abbrev pub last_of : ℕ → Result LineEvent OutOfMemoryAt → Last
 last_of number (Ok told) = last.Line number told
-last_of number (Err stopped) = last.Stopped stopped.ended
+last_of number (Err stopped) = last.OutOfMemoryAt stopped.ended
 
 -- the fault of a line, the next of a session, if it has one
 abbrev pub fault_of : OpenValue → List ℕ → Option Fault

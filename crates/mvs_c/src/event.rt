@@ -6,7 +6,7 @@ ghost use Rattle.mvs_job.specs.declared.walk.LineEvent.TheVariants as told;
 ghost use Rattle.mvs_c.specs.Events.{answer_event, completion, end_event, event_bytes, line_event, of_kind, of_place, of_task, refused_event, reply_event, step_number};
 
 use crate::field::Field;
-use mvs_job::{LineEvent, Stopped};
+use mvs_job::{LineEvent, OutOfMemoryAt};
 use mvs_model::answer::Answer;
 use mvs_model::code::Code;
 use mvs_model::line::Fault;
@@ -180,12 +180,12 @@ pub fn fault_event(fault: Fault) -> Event
 }
 
 /// The event of a line, or that memory is exhausted.
-pub fn line_event(told: &Result<LineEvent, Stopped>) -> Event
+pub fn line_event(told: &Result<LineEvent, OutOfMemoryAt>) -> Event
     ensures { result ≡ line_event told.now }
 {
     match told {
         Ok(LineEvent::Nothing) => of_kind(1),
-        Ok(LineEvent::Began { ended, card }) => Event {
+        Ok(LineEvent::StepBegan { ended, card }) => Event {
             ended: step_number(*ended),
             ..of_task(2, &card.name())
         },

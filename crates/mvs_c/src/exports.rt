@@ -23,7 +23,7 @@ use crate::region::Region;
 use crate::status::{
     NO_MEMORY, NO_PLACE, NO_REQUEST, NO_SESSION, NO_STEP, OK, OVER, SCRIPT_FAULT, WRONG_SIZE,
 };
-use mvs_job::{LineEvent, Stopped};
+use mvs_job::{LineEvent, OutOfMemoryAt};
 use mvs_model::name::Name;
 use mvs_model::outcome::Outcome;
 use mvs_model::request::Request;
@@ -48,7 +48,7 @@ pub fn outcome_status(outcome: Outcome) -> u32
 }
 
 // The status of a line.
-fn line_status(told: &Result<LineEvent, Stopped>) -> u32
+fn line_status(told: &Result<LineEvent, OutOfMemoryAt>) -> u32
     ensures { result ≡ line_status told.now }
 {
     match told {

@@ -10,7 +10,7 @@ pub enum Last {
     /// The line of this number.
     Line { number: u32, told: LineEvent },
     /// A line for which memory was exhausted: the running step, if there was one, has ended, and whether a task of it had abended.
-    Stopped(Option<bool>),
+    OutOfMemoryAt(Option<bool>),
     /// The end of the job, at the number of a next line.
     Closed { number: u32, ended: Option<bool> },
 }

@@ -13,7 +13,7 @@ ghost use Rattle.mvs_c.specs.Opens.{TakesLine, events_of, fault_of, last_of, new
 
 use crate::last::Last;
 use job_script::read_line;
-use mvs_job::{Closing, Job, LineEvent, Session, Stopped, print_closing, print_line};
+use mvs_job::{JobEnd, Job, LineEvent, Session, OutOfMemoryAt, print_closing, print_line};
 use mvs_model::line::{Fault, Line};
 use mvs_model::name::Name;
 use mvs_model::place::Place;
@@ -95,7 +95,7 @@ impl Open {
     }
 
     /// Serves a line, as a session does.
-    pub fn line(&mut self, line: &[u8]) -> Result<LineEvent, Stopped>
+    pub fn line(&mut self, line: &[u8]) -> Result<LineEvent, OutOfMemoryAt>
         requires { TakesLine self.old.session }
         ensures told { MatchResult result
             (λ told. ServesAs self.old.session.walk line.now told self.new.session.walk)
@@ -114,7 +114,7 @@ impl Open {
                 number,
                 told: *told,
             },
-            Err(stopped) => Last::Stopped(stopped.ended),
+            Err(stopped) => Last::OutOfMemoryAt(stopped.ended),
         };
         told
     }
@@ -159,7 +159,7 @@ impl Open {
     }
 
     /// Ends the job, as a session does.
-    pub fn close(&mut self) -> Closing
+    pub fn close(&mut self) -> JobEnd
         requires { self.old.session.continues ≡ true }
         ensures closed { Closes machine self.old.session.walk.number self.old.session.walk.step
             (closing self.old.session.walk.number result.ended) result.outcome }
@@ -184,7 +184,7 @@ impl Open {
         match &self.last {
             Last::Nothing => true,
             Last::Line { told, .. } => matches!(told, LineEvent::Nothing),
-            Last::Stopped(ended) => ended.is_none(),
+            Last::OutOfMemoryAt(ended) => ended.is_none(),
             Last::Closed { .. } => false,
         }
     }
@@ -196,8 +196,8 @@ impl Open {
         match &self.last {
             Last::Nothing => Ok(()),
             Last::Line { number, told } => print_line(writer, *number, self.session.walk(), told),
-            Last::Stopped(None) => Ok(()),
-            Last::Stopped(ended) => print_closing(writer, 1, *ended),
+            Last::OutOfMemoryAt(None) => Ok(()),
+            Last::OutOfMemoryAt(ended) => print_closing(writer, 1, *ended),
             Last::Closed { number, ended } => print_closing(writer, *number, *ended),
         }
     }

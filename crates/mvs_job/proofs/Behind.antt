@@ -17,7 +17,7 @@ use Rattle.mvs_model.specs.declared.reason.Reason.TheVariants.{NotActive}
 use Rattle.mvs_model.specs.declared.reason.LineReason.{LineReason}
 use Rattle.mvs_model.specs.declared.reason.LineReason.TheVariants.{NotSet, Refused}
 use Rattle.mvs_model.specs.declared.request.Request.{Request}
-use Rattle.mvs_model.specs.Answers.{Answer, NotRun, NoName, Region, Ended, Abended, Event, Told, Faulted, At}
+use Rattle.mvs_model.specs.Answers.{Answer, NotRun, NoName, Region, Ended, Abended, Event, AnswerTo, Faulted, At}
 use Rattle.mvs_model.specs.Card.{CardValue}
 use Rattle.mvs_model.specs.Causes.{IsRefused}
 use Rattle.mvs_model.specs.Job.{JobValue}
@@ -33,8 +33,8 @@ use Rattle.mvs_model.proofs.Tests.{by_test, false_true, true_false, none_some, s
 use Rattle.request_forms.specs.Facts.{owned_subpools}
 use Rattle.request_forms.specs.declared.facts.OwnedSubpool.{OwnedSubpool}
 use Rattle.mvs_job.specs.declared.explained.Explained.{Explained}
-use Rattle.mvs_job.specs.declared.granting.Before.{Before}
-use Rattle.mvs_job.specs.declared.naming.SetLines.{SetLines as Lines}
+use Rattle.mvs_job.specs.declared.granting.Baseline.{Baseline}
+use Rattle.mvs_job.specs.declared.name_origins.NameOrigins.{NameOrigins as Lines}
 use Rattle.mvs_job.specs.declared.walk.LineEvent.{LineEvent}
 use Rattle.mvs_job.specs.declared.walk.LineEvent.TheVariants as told
 use Rattle.mvs_job.specs.Looking.{IsLooking, KeepsExplained}
@@ -42,7 +42,7 @@ use Rattle.mvs_job.specs.Apart.{AppendsExplanation}
 use Rattle.mvs_job.specs.Explaining.{IsExplanationText, explanation_text, reason_text, reason_part}
 use Rattle.mvs_job.specs.Facts.{end_of, ended_by, freed_lines, freed_text}
 use Rattle.mvs_job.specs.Granting.{IsGranting, IsReadIn, before_line, done_text, granted_text, reports_grant}
-use Rattle.mvs_job.specs.Naming.{IsNamingOf, SetLines, address_in, reason_address, lines_before, naming_text}
+use Rattle.mvs_job.specs.NamedAddress.{IsNamingOf, NameOrigins, address_in, reason_address, lines_before, naming_text}
 use Rattle.mvs_job.specs.Observing.{Fails, Hearing, Observes, ObservesLine, Passes, is_end, is_failure, is_refusal}
 use Rattle.mvs_job.specs.LineEvents.{ServesAs, WalkValue, region_card, ended, events_of_line, full_answer_in}
 use Rattle.mvs_job.specs.Why.{IsRequestOf, OfNext, OfRequest, OfLine, OfRead, OfActiveStatement, answer_reason, line_reason, refused, spoken, reports_refusal, unset_of, OfStatement}
@@ -63,7 +63,7 @@ nothing_before : (step : Option JobValue) → before_line step line.Nothing ≡ 
 nothing_before None = refl
 nothing_before (Some job) = refl
 
-granting : (step : Option JobValue) (l : List ℕ) (read : Line) (before : Option Before) → IsReadIn step l read → before ≡ before_line step read → (events : List Event) (new : Option JobValue) → IsGranting step l events new (granted_text before read events new)
+granting : (step : Option JobValue) (l : List ℕ) (read : Line) (before : Option Baseline) → IsReadIn step l read → before ≡ before_line step read → (events : List Event) (new : Option JobValue) → IsGranting step l events new (granted_text before read events new)
 granting None l read before is looked events new = inr (inl (refl, ap (λ b. granted_text b read events new) looked ∙ nothing_done read events new))
 granting (Some job) l read before (inl of) looked events new = inl (read, of, ap (λ b. granted_text b read events new) looked)
 granting (Some job) l read before (inr (fault, of, is)) looked events new =
@@ -72,14 +72,14 @@ granting (Some job) l read before (inr (fault, of, is)) looked events new =
 -- ---- the parts of the text
 
 -- The text explains the next line, and this is why it was not executed as it asks.
-abbrev Stood : Option JobValue → SetLines → List ℕ → List Event → Option JobValue → Explained → Type 0
+abbrev Stood : Option JobValue → NameOrigins → List ℕ → List Event → Option JobValue → Explained → Type 0
 Stood old set bytes events new x = IsExplanationText old set bytes events new (explanation_text x events new) × OfNext old bytes events x.reason
 
 said_nothing : (request : Request) (r : Option LineReason) → reason_part line.Nothing request r ≡ []
 said_nothing request None = refl
 said_nothing request (Some reason) = refl
 
-assemble : (job : JobValue) (set : SetLines) (bytes : List ℕ) (l : Line) (events : List Event) (new : Option JobValue) (x : Explained) → LineOf false bytes l → OfRead job l events x.reason
+assemble : (job : JobValue) (set : NameOrigins) (bytes : List ℕ) (l : Line) (events : List Event) (new : Option JobValue) (x : Explained) → LineOf false bytes l → OfRead job l events x.reason
     → reason_part x.why.read x.why.request x.reason ≡ reason_text job l x.reason → IsNamingOf job set (address_in job l x.reason) x.naming → freed_lines x.why.subpools (ended_by events) ≡ freed_text job (ended_by events)
     → IsGranting (Some job) bytes events new (granted_text x.why.before x.why.read events new) → Stood (Some job) set bytes events new x
 assemble job set bytes l events new x of why text names frees grants = (
@@ -98,7 +98,7 @@ assemble job set bytes l events new x of why text names frees grants = (
 )
 
 -- before the first step
-nowhere : (set : SetLines) (bytes : List ℕ) (events : List Event) (new : Option JobValue) (x : Explained) → x.why.read ≡ line.Nothing → x.naming ≡ None → x.reason ≡ None → ended_by events ≡ None
+nowhere : (set : NameOrigins) (bytes : List ℕ) (events : List Event) (new : Option JobValue) (x : Explained) → x.why.read ≡ line.Nothing → x.naming ≡ None → x.reason ≡ None → ended_by events ≡ None
     → IsGranting None bytes events new (granted_text x.why.before x.why.read events new) → Stood None set bytes events new x
 nowhere set bytes events new x read unnamed unsaid none grants = (
   (
@@ -127,7 +127,7 @@ of_answer job t answer subpools owned = refl
 
 -- ---- a line of which nothing was heard
 
-module _ (job : JobValue) (set : SetLines) (bytes : List ℕ) (l : Line) (of : LineOf false bytes l) (mid : Explained) (look : IsLooking (Some job) set bytes mid) where
+module _ (job : JobValue) (set : NameOrigins) (bytes : List ℕ) (l : Line) (of : LineOf false bytes l) (mid : Explained) (look : IsLooking (Some job) set bytes mid) where
   read_is : mid.why.read ≡ l
   read_is = elim look.read [ inl is ↦ one_reading.one_line false bytes mid.why.read l is of | inr f ↦ absurd (one_reading.not_both false bytes l f.0 of f.1) ]
 
@@ -171,16 +171,16 @@ keeps old job t request refusal left new = KeepsExplained old job t request refu
 
 -- ---- a statement of a step
 
-module _ (number : ℕ) (job later : JobValue) (set : SetLines) (bytes : List ℕ) (t : Name) (mid : Explained) (look : IsLooking (Some job) set bytes mid) (lines : Lines) where
+module _ (number : ℕ) (job later : JobValue) (set : NameOrigins) (bytes : List ℕ) (t : Name) (mid : Explained) (look : IsLooking (Some job) set bytes mid) (lines : Lines) where
   -- what is printed behind a statement that was answered so, after which this is kept
   abbrev Stands : Explained → Option LineReason → Answer → Type 0
-  Stands after r y = Stood (Some job) set bytes (Told number t y ∷ []) (Some later) (record { why = after.why; reason = r; naming = after.naming; lines = lines })
+  Stands after r y = Stood (Some job) set bytes (AnswerTo number t y ∷ []) (Some later) (record { why = after.why; reason = r; naming = after.naming; lines = lines })
 
   -- where nothing was heard
-  silent : (s : Statement) (after : Explained) (r : Option LineReason) (y : Answer) → LineOf false bytes (line.Statement t s) → after ≡ mid → OfRead job (line.Statement t s) (Told number t y ∷ []) r
+  silent : (s : Statement) (after : Explained) (r : Option LineReason) (y : Answer) → LineOf false bytes (line.Statement t s) → after ≡ mid → OfRead job (line.Statement t s) (AnswerTo number t y ∷ []) r
       → ((request : Request) → reason_part (line.Statement t s) request r ≡ reason_text job (line.Statement t s) r) → address_in job (line.Statement t s) r ≡ None → (is_end y ≡ true → mid.why.subpools ≡ owned_subpools job.state t) → Stands after r y
   silent s after r y of same why text none owned =
-      subst (λ a. Stands a r y) (sym same) (unheard job set bytes (line.Statement t s) of mid look (Told number t y ∷ []) (Some later) r lines why text none (of_answer job t y mid.why.subpools owned))
+      subst (λ a. Stands a r y) (sym same) (unheard job set bytes (line.Statement t s) of mid look (AnswerTo number t y ∷ []) (Some later) r lines why text none (of_answer job t y mid.why.subpools owned))
 
   module _ (q : Written) (of : LineOf false bytes (line.Statement t (says.Request q))) where
     read_request : mid.why.read ≡ line.Statement t (says.Request q)
@@ -221,10 +221,10 @@ module _ (number : ℕ) (job later : JobValue) (set : SetLines) (bytes : List �
     fails : (after : Explained) (y : Answer) (r : Request) → not (is_active job.state.owners t) ≡ false → resolved job.names q ≡ Some r → Fails keeps mid job t r y after → Stands after (full_reason (Some later) after.why.read after.why.reason y) y
     fails after y r on is (refusal, left, refuses, lacks, failed, ends, kept) =
         subst (λ x. Stands after x y) (sym (by_failure (Some later) after.why.read after.why.reason y failed ∙ ap refused kept.why.told))
-        (assemble job set bytes (line.Statement t (says.Request q)) (Told number t y ∷ []) (Some later) (record { why = after.why; reason = Some (Refused kept.why.reason); naming = after.naming; lines = lines }) of
+        (assemble job set bytes (line.Statement t (says.Request q)) (AnswerTo number t y ∷ []) (Some later) (record { why = after.why; reason = Some (Refused kept.why.reason); naming = after.naming; lines = lines }) of
         (why, sym (failure_refuses y failed)) text names (of_answer job t y after.why.subpools (λ e. let c = ends e in kept.why.subpools c.0 c.1))
-        (subst (λ b. IsGranting (Some job) bytes (Told number t y ∷ []) (Some later) (granted_text b after.why.read (Told number t y ∷ []) (Some later))) (sym kept.why.before)
-        (subst (λ l. IsGranting (Some job) bytes (Told number t y ∷ []) (Some later) (granted_text mid.why.before l (Told number t y ∷ []) (Some later))) (sym kept.why.read) (granting (Some job) bytes mid.why.read mid.why.before look.read look.before (Told number t y ∷ []) (Some later))))) where
+        (subst (λ b. IsGranting (Some job) bytes (AnswerTo number t y ∷ []) (Some later) (granted_text b after.why.read (AnswerTo number t y ∷ []) (Some later))) (sym kept.why.before)
+        (subst (λ l. IsGranting (Some job) bytes (AnswerTo number t y ∷ []) (Some later) (granted_text mid.why.before l (AnswerTo number t y ∷ []) (Some later))) (sym kept.why.read) (granting (Some job) bytes mid.why.read mid.why.before look.read look.before (AnswerTo number t y ∷ []) (Some later))))) where
           reason : Reason
           reason = kept.why.reason
 
@@ -311,7 +311,7 @@ module _ (number : ℕ) (job later : JobValue) (set : SetLines) (bytes : List �
 
 -- ---- a line
 
-one_event : (x y : Answer) (number : ℕ) (t : Name) → ◌≡◌ {A = List Event} (Told number t x ∷ []) (Told number t y ∷ []) → x ≡ y
+one_event : (x y : Answer) (number : ℕ) (t : Name) → ◌≡◌ {A = List Event} (AnswerTo number t x ∷ []) (AnswerTo number t y ∷ []) → x ≡ y
 one_event x y number t e = cc
 
 some_job : (x y : JobValue) → Some x ≡ Some y → x ≡ y
@@ -321,14 +321,14 @@ not_two : {P : Type 0} (x y : Event) (more : List Event) → ◌≡◌ {A = List
 not_two x y more e some = absurd (some (let f : [] ≡ more = cc in sym f))
 
 -- what a statement was answered by its step
-answered_does : (number : ℕ) (job later : JobValue) (t : Name) (s : Statement) (y : Answer) → Serves machine number (Some job) (line.Statement t s) (Told number t y ∷ []) (Some later) → Does Any job t s y later × (region_card t s ≡ None)
+answered_does : (number : ℕ) (job later : JobValue) (t : Name) (s : Statement) (y : Answer) → Serves machine number (Some job) (line.Statement t s) (AnswerTo number t y ∷ []) (Some later) → Does Any job t s y later × (region_card t s ≡ None)
 answered_does number job later t (says.Region below above fill residence) y h = absurd (let e = h.0 in cc)
 answered_does number job later t (says.Request q) y (z, last, does, e, f) = (subst (λ x. Does Any job t (says.Request q) x later) (sym (one_event y z number t e)) (subst (Does Any job t (says.Request q) z) (sym (some_job later last f)) does), refl)
 answered_does number job later t (says.Where name) y (z, last, does, e, f) = (subst (λ x. Does Any job t (says.Where name) x later) (sym (one_event y z number t e)) (subst (Does Any job t (says.Where name) z) (sym (some_job later last f)) does), refl)
 answered_does number job later t says.ReportSubpools y (z, last, does, e, f) = (subst (λ x. Does Any job t says.ReportSubpools x later) (sym (one_event y z number t e)) (subst (Does Any job t says.ReportSubpools z) (sym (some_job later last f)) does), refl)
 answered_does number job later t says.ReportMap y (z, last, does, e, f) = (subst (λ x. Does Any job t says.ReportMap x later) (sym (one_event y z number t e)) (subst (Does Any job t says.ReportMap z) (sym (some_job later last f)) does), refl)
 
-module _ (set : SetLines) (bytes : List ℕ) (mid after : Explained) (lines : Lines) where
+module _ (set : NameOrigins) (bytes : List ℕ) (mid after : Explained) (lines : Lines) where
   -- what is kept of a line with this reason
   abbrev pub kept_with : Option LineReason → Explained
   kept_with r = record { why = after.why; reason = r; naming = after.naming; lines = lines }
@@ -351,14 +351,14 @@ module _ (set : SetLines) (bytes : List ℕ) (mid after : Explained) (lines : Li
 
   -- a REGION statement
   region_line : (number : ℕ) (t : Name) (s : Statement) (end : Option Bool) (card card_of : CardValue) (u : Name) (step new : Option JobValue) → IsLooking step set bytes mid → LineOf (is_first step) bytes (line.Statement t s) → region_card t s ≡ Some card → after ≡ mid
-      → Stood step set bytes (ended end ++ Told number u (Region card_of) ∷ []) new (kept_with None)
+      → Stood step set bytes (ended end ++ AnswerTo number u (Region card_of) ∷ []) new (kept_with None)
   region_line number t (says.Region below above fill residence) end card card_of u step new look of is same =
-      quiet_line (line.Statement t (says.Region below above fill residence)) (ended end ++ Told number u (Region card_of) ∷ []) step new look of (λ job. refl) (λ job. refl) (quiet end) (stays end) same where
-        quiet : (end : Option Bool) → reports_refusal (ended end ++ Told number u (Region card_of) ∷ []) ≡ false
+      quiet_line (line.Statement t (says.Region below above fill residence)) (ended end ++ AnswerTo number u (Region card_of) ∷ []) step new look of (λ job. refl) (λ job. refl) (quiet end) (stays end) same where
+        quiet : (end : Option Bool) → reports_refusal (ended end ++ AnswerTo number u (Region card_of) ∷ []) ≡ false
         quiet None = refl
         quiet (Some abended) = refl
 
-        stays : (end : Option Bool) → ended_by (ended end ++ Told number u (Region card_of) ∷ []) ≡ None
+        stays : (end : Option Bool) → ended_by (ended end ++ AnswerTo number u (Region card_of) ∷ []) ≡ None
         stays None = refl
         stays (Some abended) = refl
   region_line number t (says.Request q) end card card_of u step new look of is same = none_some is
@@ -389,8 +389,8 @@ module _ (set : SetLines) (bytes : List ℕ) (mid after : Explained) (lines : Li
 
   -- a statement that was answered
   answered_line : (number : ℕ) (t : Name) (s : Statement) (job later : JobValue) (fallen : List Name) (a : Short) → IsLooking (Some job) set bytes mid → LineOf false bytes (line.Statement t s) → Observes keeps mid job t s (full_answer later.state fallen t a) after
-      → Serves machine number (Some job) (line.Statement t s) (Told number t (full_answer later.state fallen t a) ∷ []) (Some later)
-      → Stood (Some job) set bytes (Told number t (full_answer later.state fallen t a) ∷ []) (Some later) (kept_with (answer_reason (Some later) after.why.read after.why.reason a))
+      → Serves machine number (Some job) (line.Statement t s) (AnswerTo number t (full_answer later.state fallen t a) ∷ []) (Some later)
+      → Stood (Some job) set bytes (AnswerTo number t (full_answer later.state fallen t a) ∷ []) (Some later) (kept_with (answer_reason (Some later) after.why.read after.why.reason a))
   answered_line number t s job later fallen a look of observes serves =
       let does = answered_does number job later t s (full_answer later.state fallen t a) serves in
       subst (λ r. Stands number job later set bytes t mid look lines after r (full_answer later.state fallen t a)) (sym (same_reason (Some later) after.why.read after.why.reason later fallen t a))
@@ -398,18 +398,18 @@ module _ (set : SetLines) (bytes : List ℕ) (mid after : Explained) (lines : Li
 
   module _ (w w' : WalkValue) (look : IsLooking w.step set bytes mid) where
     told_line : (t : Name) (s : Statement) (a : Short) (job later : JobValue) → w.step ≡ Some job → w'.step ≡ Some later → LineOf (is_first w.step) bytes (line.Statement t s) → Observes keeps mid job t s (full_answer later.state (ended_with_in w'.reply) t a) after → ServesAs w bytes (told.Answered t a) w'
-        → Stood w.step set bytes (Told w.number t (full_answer_in w'.step (ended_with_in w'.reply) t a) ∷ []) w'.step (kept_with (answer_reason w'.step after.why.read after.why.reason a))
+        → Stood w.step set bytes (AnswerTo w.number t (full_answer_in w'.step (ended_with_in w'.reply) t a) ∷ []) w'.step (kept_with (answer_reason w'.step after.why.read after.why.reason a))
     told_line t s a job later is new of observes tells =
-        let serves = subst (λ l. Serves machine w.number w.step l (Told w.number t (full_answer_in w'.step (ended_with_in w'.reply) t a) ∷ []) w'.step) (one_reading.one_line (is_first w.step) bytes tells.0 (line.Statement t s) tells.1 of) tells.2 in
-        subst (λ o. Stood w.step set bytes (Told w.number t (full_answer_in o (ended_with_in w'.reply) t a) ∷ []) o (kept_with (answer_reason o after.why.read after.why.reason a))) (sym new)
-        (subst (λ o. Stood o set bytes (Told w.number t (full_answer later.state (ended_with_in w'.reply) t a) ∷ []) (Some later) (kept_with (answer_reason (Some later) after.why.read after.why.reason a))) (sym is)
+        let serves = subst (λ l. Serves machine w.number w.step l (AnswerTo w.number t (full_answer_in w'.step (ended_with_in w'.reply) t a) ∷ []) w'.step) (one_reading.one_line (is_first w.step) bytes tells.0 (line.Statement t s) tells.1 of) tells.2 in
+        subst (λ o. Stood w.step set bytes (AnswerTo w.number t (full_answer_in o (ended_with_in w'.reply) t a) ∷ []) o (kept_with (answer_reason o after.why.read after.why.reason a))) (sym new)
+        (subst (λ o. Stood o set bytes (AnswerTo w.number t (full_answer later.state (ended_with_in w'.reply) t a) ∷ []) (Some later) (kept_with (answer_reason (Some later) after.why.read after.why.reason a))) (sym is)
         (answered_line w.number t s job later (ended_with_in w'.reply) a (subst (λ o. IsLooking o set bytes mid) is look) (subst (λ o. LineOf (is_first o) bytes (line.Statement t s)) is of) observes
-        (subst (λ o. Serves machine w.number o (line.Statement t s) (Told w.number t (full_answer later.state (ended_with_in w'.reply) t a) ∷ []) (Some later)) is (subst (λ o. Serves machine w.number w.step (line.Statement t s) (Told w.number t (full_answer_in o (ended_with_in w'.reply) t a) ∷ []) o) new serves))))
+        (subst (λ o. Serves machine w.number o (line.Statement t s) (AnswerTo w.number t (full_answer later.state (ended_with_in w'.reply) t a) ∷ []) (Some later)) is (subst (λ o. Serves machine w.number w.step (line.Statement t s) (AnswerTo w.number t (full_answer_in o (ended_with_in w'.reply) t a) ∷ []) o) new serves))))
 
     -- what is kept of any line, and printed behind it
     pub kept_behind : (t : LineEvent) → ServesAs w bytes t w' → ObservesLine keeps mid w.step bytes t w' after → Stood w.step set bytes (events_of_line w.number w' t) w'.step (kept_with (line_reason w'.step after.why.read after.why.reason t))
     kept_behind told.Nothing tells (of, same) = quiet_line line.Nothing [] w.step w'.step look of (λ job. refl) (λ job. refl) refl refl same
-    kept_behind (told.Began end card) tells (t, s, of, is, same) = region_line w.number t s end card card card.name w.step w'.step look of is same
+    kept_behind (told.StepBegan end card) tells (t, s, of, is, same) = region_line w.number t s end card card card.name w.step w'.step look of is same
     kept_behind (told.Faulted fault) tells same = fault_line w.number fault w.step w'.step look tells.0 same
     kept_behind (told.Answered t a) tells (s, job, later, of, is, new, observes) = told_line t s a job later is new of observes tells
 
@@ -437,19 +437,19 @@ module _ (mid after : Explained) (job : JobValue) (t : Name) (y : Answer) where
 
 pub line_keeps : (step : Option JobValue) (w' : WalkValue) (bytes : List ℕ) (mid after : Explained) (t : LineEvent) → ObservesLine keeps mid step bytes t w' after → Stays mid after
 line_keeps step w' bytes mid after told.Nothing (of, same) = stays_same mid after same
-line_keeps step w' bytes mid after (told.Began end card) (t, s, of, is, same) = stays_same mid after same
+line_keeps step w' bytes mid after (told.StepBegan end card) (t, s, of, is, same) = stays_same mid after same
 line_keeps step w' bytes mid after (told.Faulted fault) same = stays_same mid after same
 line_keeps step w' bytes mid after (told.Answered t a) (s, job, later, of, is, new, observes) = statement_keeps mid after job t (full_answer later.state (ended_with_in w'.reply) t a) s observes
 
 -- ---- a line whose explanations are printed apart
 
 -- before the first step the names of former lines are forgotten
-pub looking_begun : (step : Option JobValue) (set begun : SetLines) (bytes : List ℕ) (x : Explained) → begun ≡ lines_before step set → IsLooking step begun bytes x → IsLooking step set bytes x
+pub looking_begun : (step : Option JobValue) (set begun : NameOrigins) (bytes : List ℕ) (x : Explained) → begun ≡ lines_before step set → IsLooking step begun bytes x → IsLooking step set bytes x
 looking_begun step set begun bytes x e look =
     record { read = look.read; before = look.before; subpools = look.subpools; unheard = look.unheard; unnamed = look.unnamed; lines = λ job is. look.lines job is ∙ e ∙ ap (λ o. lines_before o set) is }
 
-pub stands_behind : (before after : Option (List ℕ)) (w : WalkValue) (set : SetLines) (l : List ℕ) (w' : WalkValue) (t : LineEvent) (text : List ℕ) → Appends before after text → IsExplanationText w.step set l (events_of_line w.number w' t) w'.step text → AppendsExplanation before after w set l w' t
+pub stands_behind : (before after : Option (List ℕ)) (w : WalkValue) (set : NameOrigins) (l : List ℕ) (w' : WalkValue) (t : LineEvent) (text : List ℕ) → Appends before after text → IsExplanationText w.step set l (events_of_line w.number w' t) w'.step text → AppendsExplanation before after w set l w' t
 stands_behind before after w set l w' (told.Faulted fault) text a is = tt
 stands_behind before after w set l w' told.Nothing text a is = (text, a, is)
-stands_behind before after w set l w' (told.Began end card) text a is = (text, a, is)
+stands_behind before after w set l w' (told.StepBegan end card) text a is = (text, a, is)
 stands_behind before after w set l w' (told.Answered t x) text a is = (text, a, is)

@@ -20,8 +20,8 @@ module _ (w w' : WalkValue) (line : List ℕ) where
   pub entry_executed : (n : ℕ) (t : LineEvent) → n ≡ w.number → ((fault : Fault) → t ≡ told.Faulted fault → ⊥) → ServesAs w line t w' → OfExecuted n t
   entry_executed n (told.Faulted fault) at other h = absurd (other fault refl)
   entry_executed n told.Nothing at other (said, of, serves) = subst (λ n. OfExecuted n told.Nothing) (sym at) (_, ((said, _, _, of, serves, refl), refl), record { of_line = (said, _, _, of, serves, refl); events = refl; after = refl })
-  entry_executed n (told.Began ended card) at other (said, of, serves) =
-      subst (λ n. OfExecuted n (told.Began ended card)) (sym at) (_, ((said, _, _, of, serves, refl), refl), record { of_line = (said, _, _, of, serves, refl); events = refl; after = refl })
+  entry_executed n (told.StepBegan ended card) at other (said, of, serves) =
+      subst (λ n. OfExecuted n (told.StepBegan ended card)) (sym at) (_, ((said, _, _, of, serves, refl), refl), record { of_line = (said, _, _, of, serves, refl); events = refl; after = refl })
   entry_executed n (told.Answered t a) at other (said, of, serves) =
       subst (λ n. OfExecuted n (told.Answered t a)) (sym at) (_, ((said, _, _, of, serves, refl), refl), record { of_line = (said, _, _, of, serves, refl); events = refl; after = refl })
 
@@ -45,7 +45,7 @@ module _ (w w' : WalkValue) (line : List ℕ) where
   pub entry_any : (n : ℕ) (t : LineEvent) → n ≡ w.number → ServesAs w line t w' → OfAny n t
   entry_any n (told.Faulted fault) at h = let r = faulty_at n fault at h in (r.0, inr (inl r.1), r.2)
   entry_any n told.Nothing at h = executed_any n told.Nothing (entry_executed n told.Nothing at (λ fault e. let f : told.Nothing ≡ told.Faulted fault = e in cc) h)
-  entry_any n (told.Began ended card) at h = executed_any n (told.Began ended card) (entry_executed n (told.Began ended card) at (λ fault e. let f : told.Began ended card ≡ told.Faulted fault = e in cc) h)
+  entry_any n (told.StepBegan ended card) at h = executed_any n (told.StepBegan ended card) (entry_executed n (told.StepBegan ended card) at (λ fault e. let f : told.StepBegan ended card ≡ told.Faulted fault = e in cc) h)
   entry_any n (told.Answered t a) at h = executed_any n (told.Answered t a) (entry_executed n (told.Answered t a) at (λ fault e. let f : told.Answered t a ≡ told.Faulted fault = e in cc) h)
 
 -- a line at which memory is exhausted

@@ -25,7 +25,7 @@ use Rattle.mvs_job.specs.Explained.{ExplainedArePrintings, IsExplained, IsExplai
 use Rattle.mvs_job.specs.Explaining.{IsExplanationText, explanation_text, text_of_event, without_starred}
 use Rattle.mvs_job.specs.Granting.{IsReadIn, reports_grant}
 use Rattle.mvs_job.specs.Looking.{IsLooking, knows_set}
-use Rattle.mvs_job.specs.Naming.{SetLines, SetsSome, no_lines, names_after}
+use Rattle.mvs_job.specs.NamedAddress.{NameOrigins, SetsSome, no_lines, names_after}
 use Rattle.mvs_job.specs.Observing.{ObservesLine}
 use Rattle.mvs_job.specs.LineEvents.{ServesAs, WalkValue, events_of_line}
 use Rattle.mvs_job.specs.Trace.{Closed, Entry, Executed, Exhausted, Faulty, Kind}
@@ -35,7 +35,7 @@ use Rattle.mvs_job.proofs.Kept.{stops_naming}
 
 -- ---- the names that are set
 
-set_then : (set : SetLines) (history : List Entry) (e : Entry) → set_from set (history ++ e ∷ []) ≡ set_after e.before (set_from set history) e e.kind
+set_then : (set : NameOrigins) (history : List Entry) (e : Entry) → set_from set (history ++ e ∷ []) ≡ set_after e.before (set_from set history) e e.kind
 set_then set [] e = refl
 set_then set (x ∷ history) e = set_then (set_after x.before set x x.kind) history e
 
@@ -70,7 +70,7 @@ module _ (n : ℕ) (line : List ℕ) (w : WalkValue) (e : Entry) where
         let same : other ≡ fault = one_fault n other fault (sym (ap (λ (e : Entry). e.events) is) ∙ entry.events) in
         (subst (FaultOf (is_first e.before) line) same of, ap (λ (e : Entry). e.kind) is ∙ ap Faulty same, sym entry.after ∙ ap (λ (e : Entry). e.after) is)
   said_by told.Nothing entry = executed_said told.Nothing entry.events entry.after entry.of_line
-  said_by (told.Began end card) entry = executed_said (told.Began end card) entry.events entry.after entry.of_line
+  said_by (told.StepBegan end card) entry = executed_said (told.StepBegan end card) entry.events entry.after entry.of_line
   said_by (told.Answered t a) entry = executed_said (told.Answered t a) entry.events entry.after entry.of_line
 
   -- the job before the line
@@ -80,12 +80,12 @@ module _ (n : ℕ) (line : List ℕ) (w : WalkValue) (e : Entry) where
   told_so : (t : LineEvent) → Said n line t w e → ServesAs before_it line t w
   told_so (told.Faulted fault) (of, kind, same) = (of, same)
   told_so told.Nothing (said, of, serves, kind, number, bytes) = (said, of, serves)
-  told_so (told.Began end card) (said, of, serves, kind, number, bytes) = (said, of, serves)
+  told_so (told.StepBegan end card) (said, of, serves, kind, number, bytes) = (said, of, serves)
   told_so (told.Answered t a) (said, of, serves, kind, number, bytes) = (said, of, serves)
 
   -- ---- what is printed of it
 
-  module _ (set : SetLines) (mid after x : Explained) (look : IsLooking e.before set line mid) (why : x.why ≡ after.why) (naming : x.naming ≡ after.naming) where
+  module _ (set : NameOrigins) (mid after x : Explained) (look : IsLooking e.before set line mid) (why : x.why ≡ after.why) (naming : x.naming ≡ after.naming) where
     -- the explanations by what is kept
     same_behind : (t : LineEvent) → x.reason ≡ line_reason w.step after.why.read after.why.reason t → (events : List Event) → explanation_text (kept_with set line mid after x.lines (line_reason w.step after.why.read after.why.reason t)) events w.step ≡ explanation_text x events w.step
     same_behind t reason events = ap (λ (y : Explained). explanation_text y events w.step) (kept_same set line mid after x.lines x (line_reason w.step after.why.read after.why.reason t) why naming reason refl)
@@ -103,7 +103,7 @@ module _ (n : ℕ) (line : List ℕ) (w : WalkValue) (e : Entry) where
     text_of : (t : LineEvent) → x.reason ≡ line_reason w.step after.why.read after.why.reason t → IsEntry n line w t e → Said n line t w e → ObservesLine keeps mid e.before line t w after → IsExplainedAs set e e.kind (text_of_event x n w t)
     text_of (told.Faulted fault) reason entry (of, kind, same) observed = subst (λ k. IsExplainedAs set e k (printing (events_of_line n w (told.Faulted fault)))) (sym kind) (ap printing (sym entry.events))
     text_of told.Nothing reason entry (said, of, serves, kind, number, bytes) observed = executed_text told.Nothing reason entry said kind bytes (said, of, serves) observed
-    text_of (told.Began end card) reason entry (said, of, serves, kind, number, bytes) observed = executed_text (told.Began end card) reason entry said kind bytes (said, of, serves) observed
+    text_of (told.StepBegan end card) reason entry (said, of, serves, kind, number, bytes) observed = executed_text (told.StepBegan end card) reason entry said kind bytes (said, of, serves) observed
     text_of (told.Answered t a) reason entry (said, of, serves, kind, number, bytes) observed = executed_text (told.Answered t a) reason entry said kind bytes (said, of, serves) observed
 
     pub explained_text : (t : LineEvent) → x.reason ≡ line_reason w.step after.why.read after.why.reason t → IsEntry n line w t e → ObservesLine keeps mid e.before line t w after → IsExplainedAs set e e.kind (text_of_event x n w t)
@@ -111,7 +111,7 @@ module _ (n : ℕ) (line : List ℕ) (w : WalkValue) (e : Entry) where
 
   -- ---- the names after it
 
-  module _ (set : SetLines) (read : Line) (is : IsReadIn e.before line read) where
+  module _ (set : NameOrigins) (read : Line) (is : IsReadIn e.before line read) where
     nothing_set : (events : List Event) → read ≡ Nothing → names_after n set read events ≡ set
     nothing_set events none = ap (λ l. names_after n set l events) none
 
@@ -134,7 +134,7 @@ module _ (n : ℕ) (line : List ℕ) (w : WalkValue) (e : Entry) where
     set_so : (t : LineEvent) → IsEntry n line w t e → Said n line t w e → names_after n set read (events_of_line n w t) ≡ set_after e.before set e e.kind
     set_so (told.Faulted fault) entry (of, kind, same) = set_faulty fault (events_of_line n w (told.Faulted fault)) of kind
     set_so told.Nothing entry (said, of, serves, kind, number, bytes) = set_executed told.Nothing entry.events said of kind number
-    set_so (told.Began end card) entry (said, of, serves, kind, number, bytes) = set_executed (told.Began end card) entry.events said of kind number
+    set_so (told.StepBegan end card) entry (said, of, serves, kind, number, bytes) = set_executed (told.StepBegan end card) entry.events said of kind number
     set_so (told.Answered t a) entry (said, of, serves, kind, number, bytes) = set_executed (told.Answered t a) entry.events said of kind number
 
   pub set_next : (history : List Entry) (read : Line) → IsReadIn e.before line read → (t : LineEvent) → IsEntry n line w t e → names_after n (set_by_entries history) read (events_of_line n w t) ≡ set_by_entries (history ++ e ∷ [])
@@ -151,7 +151,7 @@ module _ (n : ℕ) (line : List ℕ) (w : WalkValue) (e : Entry) where
     needs_of : (t : LineEvent) → reports_grant (events_of_line n w t) ≡ true → Said n line t w e → SetsNames e e.kind
     needs_of (told.Faulted fault) grant said = absurd (let f : false ≡ true = grant in cc)
     needs_of told.Nothing grant (said, of, serves, kind, number, bytes) = needs_so told.Nothing grant (said, of, serves) said of kind
-    needs_of (told.Began end card) grant (said, of, serves, kind, number, bytes) = needs_so (told.Began end card) grant (said, of, serves) said of kind
+    needs_of (told.StepBegan end card) grant (said, of, serves, kind, number, bytes) = needs_so (told.StepBegan end card) grant (said, of, serves) said of kind
     needs_of (told.Answered t a) grant (said, of, serves, kind, number, bytes) = needs_so (told.Answered t a) grant (said, of, serves) said of kind
 
     pub needs_names : (t : LineEvent) → reports_grant (events_of_line n w t) ≡ true → IsEntry n line w t e → SetsNames e e.kind
@@ -162,7 +162,7 @@ module _ (n : ℕ) (line : List ℕ) (w : WalkValue) (e : Entry) where
 pub told_more : (x : Explained) (n : ℕ) (w : WalkValue) (t : LineEvent) → (more : List ℕ) × (text_of_event x n w t ≡ printing (events_of_line n w t) ++ more)
 told_more x n w (told.Faulted fault) = ([], sym (append-nil (printing (events_of_line n w (told.Faulted fault)))))
 told_more x n w told.Nothing = (explanation_text x (events_of_line n w told.Nothing) w.step, refl)
-told_more x n w (told.Began end card) = (explanation_text x (events_of_line n w (told.Began end card)) w.step, refl)
+told_more x n w (told.StepBegan end card) = (explanation_text x (events_of_line n w (told.StepBegan end card)) w.step, refl)
 told_more x n w (told.Answered t a) = (explanation_text x (events_of_line n w (told.Answered t a)) w.step, refl)
 
 pub told_faulted : (x : Explained) (n : ℕ) (w : WalkValue) (t : LineEvent) (fault : Fault) → t ≡ told.Faulted fault → text_of_event x n w t ≡ printing (events_of_line n w t)
@@ -171,7 +171,7 @@ told_faulted x n w t fault is = subst (λ t. text_of_event x n w t ≡ printing 
 pub told_behind : (x : Explained) (n : ℕ) (w : WalkValue) (t : LineEvent) → ((fault : Fault) → t ≡ told.Faulted fault → ⊥) → text_of_event x n w t ≡ printing (events_of_line n w t) ++ explanation_text x (events_of_line n w t) w.step
 told_behind x n w (told.Faulted fault) other = absurd (other fault refl)
 told_behind x n w told.Nothing other = refl
-told_behind x n w (told.Began end card) other = refl
+told_behind x n w (told.StepBegan end card) other = refl
 told_behind x n w (told.Answered t a) other = refl
 
 -- ---- the last entry
@@ -180,7 +180,7 @@ end_kind : (n : ℕ) (how : End) (e : Entry) → IsEnd n how e → (P : Kind →
 end_kind n (end.Closed o) e ((outcome, (events, closes, is)), same) P closed exhausted = subst P (sym (ap (λ (e : Entry). e.kind) is)) closed
 end_kind n (end.Exhausted o) e ((l, (said, events, of, takes, is)), same) P closed exhausted = subst P (sym (ap (λ (e : Entry). e.kind) is)) (exhausted said)
 
-end_text : (n : ℕ) (how : End) (e : Entry) → IsEnd n how e → (set : SetLines) (text : List ℕ) → text ≡ printing e.events → IsExplainedAs set e e.kind text
+end_text : (n : ℕ) (how : End) (e : Entry) → IsEnd n how e → (set : NameOrigins) (text : List ℕ) → text ≡ printing e.events → IsExplainedAs set e e.kind text
 end_text n how e is set text same = end_kind n how e is (λ k. IsExplainedAs set e k text) same (λ said. same)
 
 end_set : (n : ℕ) (how : End) (e : Entry) → IsEnd n how e → (history : List Entry) → set_by_entries history ≡ set_by_entries (history ++ e ∷ [])

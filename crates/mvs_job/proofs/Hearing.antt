@@ -41,7 +41,7 @@ module _ {O P : Type 0} (before after : O) (part : O → P) (heard : Hearing O) 
   -- a part of an observer hears what the observer hears
   pub line_part : (step : Option JobValue) (line : List ℕ) (t : LineEvent) (w : WalkValue) → ObservesLine heard before step line t w after → ObservesLine heard' (part before) step line t w (part after)
   line_part step line told.Nothing w (of, same) = (of, ap part same)
-  line_part step line (told.Began end card) w (t, s, of, is, same) = (t, s, of, is, ap part same)
+  line_part step line (told.StepBegan end card) w (t, s, of, is, same) = (t, s, of, is, ap part same)
   line_part step line (told.Faulted fault) w same = ap part same
   line_part step line (told.Answered t a) w (s, job, later, of, is, new, h) = (s, job, later, of, is, new, statement_part job t s (full_answer later.state (ended_with_in w.reply) t a) h)
 
@@ -65,6 +65,6 @@ module _ {O P : Type 0} (before after : O) (part : O → P) (heard : Hearing O) 
   -- what no refusal changes stays
   pub line_stays : (step : Option JobValue) (line : List ℕ) (t : LineEvent) (w : WalkValue) → ObservesLine heard before step line t w after → part after ≡ part before
   line_stays step line told.Nothing w (of, same) = ap part same
-  line_stays step line (told.Began end card) w (t, s, of, is, same) = ap part same
+  line_stays step line (told.StepBegan end card) w (t, s, of, is, same) = ap part same
   line_stays step line (told.Faulted fault) w same = ap part same
   line_stays step line (told.Answered t a) w (s, job, later, of, is, new, h) = statement_stays job t s (full_answer later.state (ended_with_in w.reply) t a) h

@@ -40,7 +40,7 @@ use Rattle.mvs_model.proofs.Tests.{by_test}
 use Rattle.mvs_job.specs.declared.walk.LineEvent.{LineEvent}
 use Rattle.mvs_job.specs.declared.walk.LineEvent.TheVariants as told
 use Rattle.mvs_job.specs.Granting.{IsReadIn, is_grant, reports_grant}
-use Rattle.mvs_job.specs.Naming.{HasLengths, AreNamesAfter, KeepsLines, SetLines, SetsSome, lines_before, names_after}
+use Rattle.mvs_job.specs.NamedAddress.{HasLengths, AreNamesAfter, RecordsOrigins, NameOrigins, SetsSome, lines_before, names_after}
 use Rattle.mvs_job.specs.LineEvents.{ServesAs, WalkValue, events_of_line}
 
 -- ---- a granted request that sets names gives them places
@@ -144,7 +144,7 @@ module _ (number : ℕ) (l : List ℕ) (events : List Event) (new : Option JobVa
   stops (Some job) read (inl of) sets h g = absurd sets
 
   -- the lines that set names behind it
-  set_at : (step : Option JobValue) (set mid later : SetLines) (read : Line) → mid ≡ lines_before step set → IsReadIn step l read → ServesLine machine number step l events new → later ≡ names_after number mid read events → AreNamesAfter number step set l events later
+  set_at : (step : Option JobValue) (set mid later : NameOrigins) (read : Line) → mid ≡ lines_before step set → IsReadIn step l read → ServesLine machine number step l events new → later ≡ names_after number mid read events → AreNamesAfter number step set l events later
   set_at None set mid later read before is h e = e ∙ ap (λ x. names_after number mid x events) is ∙ before
   set_at (Some job) set mid later read before (inl of) h e = (read, of, e ∙ ap (λ m. names_after number m read events) before)
   set_at (Some job) set mid later read before (inr (fault, of, is)) (other, says, serves) e = absurd (one_reading.not_both false l other fault says of)
@@ -153,12 +153,12 @@ module _ (w w' : WalkValue) (l : List ℕ) (read : Line) (is : IsReadIn w.step l
   pub stops_naming : (t : LineEvent) → ServesAs w l t w' → SetsSome read → reports_grant (events_of_line w.number w' t) ≡ true → StopsForMemory w.number w.step (l ∷ []) []
   stops_naming (told.Faulted fault) h sets g = absurd (let f : false ≡ true = g in cc)
   stops_naming told.Nothing h sets g = absurd (let f : false ≡ true = g in cc)
-  stops_naming (told.Began None card) h sets g = absurd (let f : false ≡ true = g in cc)
-  stops_naming (told.Began (Some abended) card) h sets g = absurd (let f : false ≡ true = g in cc)
+  stops_naming (told.StepBegan None card) h sets g = absurd (let f : false ≡ true = g in cc)
+  stops_naming (told.StepBegan (Some abended) card) h sets g = absurd (let f : false ≡ true = g in cc)
   stops_naming (told.Answered t a) h sets g = stops w.number l (events_of_line w.number w' (told.Answered t a)) w'.step w.step read is sets h g
 
-  pub keeps_lines : (set mid later : SetLines) → mid ≡ lines_before w.step set → (t : LineEvent) → ServesAs w l t w' → later ≡ names_after w.number mid read (events_of_line w.number w' t) → KeepsLines w set l w' t later
+  pub keeps_lines : (set mid later : NameOrigins) → mid ≡ lines_before w.step set → (t : LineEvent) → ServesAs w l t w' → later ≡ names_after w.number mid read (events_of_line w.number w' t) → RecordsOrigins w set l w' t later
   keeps_lines set mid later before (told.Faulted fault) h e = tt
   keeps_lines set mid later before told.Nothing h e = set_at w.number l (events_of_line w.number w' told.Nothing) w'.step w.step set mid later read before is h e
-  keeps_lines set mid later before (told.Began end card) h e = set_at w.number l (events_of_line w.number w' (told.Began end card)) w'.step w.step set mid later read before is h e
+  keeps_lines set mid later before (told.StepBegan end card) h e = set_at w.number l (events_of_line w.number w' (told.StepBegan end card)) w'.step w.step set mid later read before is h e
   keeps_lines set mid later before (told.Answered t a) h e = set_at w.number l (events_of_line w.number w' (told.Answered t a)) w'.step w.step set mid later read before is h e

@@ -14,7 +14,7 @@ use Rattle.mvs_model.specs.declared.line.Written.{Written}
 use Rattle.mvs_model.specs.declared.request.Request.{Request}
 use Rattle.mvs_model.specs.declared.request.Reply.{Reply}
 use Rattle.mvs_model.specs.declared.answer.Answer.{Answer as Short}
-use Rattle.mvs_model.specs.Answers.{Answer, Region, Event, Told}
+use Rattle.mvs_model.specs.Answers.{Answer, Region, Event, AnswerTo}
 use Rattle.mvs_model.specs.declared.error.OutOfMemory.{OutOfMemory}
 use Rattle.mvs_model.specs.Job.{JobValue}
 use Rattle.mvs_model.specs.FullAnswers.{full_answer, ended_with_in}
@@ -32,7 +32,7 @@ use Rattle.mvs_laws.proofs.Determined.{line_other}
 use Rattle.mvs_laws.proofs.Going.{printed_both}
 use Rattle.job_script.specs.Writing.{Prints, AppendsFront}
 use Rattle.job_script.proofs.Appending.{front_longer, front_more}
-use Rattle.mvs_job.specs.declared.walk.Stopped.{Stopped}
+use Rattle.mvs_job.specs.declared.walk.OutOfMemoryAt.{OutOfMemoryAt}
 use Rattle.mvs_job.specs.declared.walk.LineEvent.{LineEvent}
 use Rattle.mvs_job.specs.declared.walk.LineEvent.TheVariants as told
 use Rattle.mvs_job.specs.LineEvents.{WalkValue, ServesAs, ServesAsUnder, IsAvailableIn, KeepsReply, region_card, ended, events_of_line, full_answer_in}
@@ -62,7 +62,7 @@ said_so first before bytes read l same reading is = subst (λ first. LineOf firs
 module _ (P : Condition) (old new : WalkValue) (bytes : List ℕ) (first : Bool) (read : Result Line Fault) (same : first ≡ is_first old.step) (reading : IsReading first bytes read) where
   -- a statement of the step
   step_served : (t : Name) (s : Statement) (step later : JobValue) (answer : Answer) → region_card t s ≡ None → Does P step t s answer later
-      → Serves (job_machine P) old.number (Some step) (line.Statement t s) (Told old.number t answer ∷ []) (Some later)
+      → Serves (job_machine P) old.number (Some step) (line.Statement t s) (AnswerTo old.number t answer ∷ []) (Some later)
   step_served t (says.Region below above fill residence) step later answer is does = absurd (let f : Some (card_of t below above fill residence) ≡ None = is in cc)
   step_served t (says.Request a) step later answer is does = (answer, later, does, refl, refl)
   step_served t (says.Where name) step later answer is does = (answer, later, does, refl, refl)
@@ -74,8 +74,8 @@ module _ (P : Condition) (old new : WalkValue) (bytes : List ℕ) (first : Bool)
   told_answered l t s step later a is l_is of_step e f does = (
     line.Statement t s,
     said_so first (is_first old.step) bytes read (line.Statement t s) same reading (is ∙ ap (λ x. Ok x) l_is),
-    subst (λ o. Serves (job_machine P) old.number old.step (line.Statement t s) (Told old.number t (full_answer_in o (ended_with_in new.reply) t a) ∷ []) o) (sym f)
-        (subst (λ o. Serves (job_machine P) old.number o (line.Statement t s) (Told old.number t (full_answer later.state (ended_with_in new.reply) t a) ∷ []) (Some later)) (sym e) (step_served t s step later (full_answer later.state (ended_with_in new.reply) t a) of_step does)),
+    subst (λ o. Serves (job_machine P) old.number old.step (line.Statement t s) (AnswerTo old.number t (full_answer_in o (ended_with_in new.reply) t a) ∷ []) o) (sym f)
+        (subst (λ o. Serves (job_machine P) old.number o (line.Statement t s) (AnswerTo old.number t (full_answer later.state (ended_with_in new.reply) t a) ∷ []) (Some later)) (sym e) (step_served t s step later (full_answer later.state (ended_with_in new.reply) t a) of_step does)),
   )
 
   pub stops_at_request : (l : Line) (t : Name) (s : Statement) → read ≡ Ok l → l ≡ line.Statement t s → TakesMemory old.step (line.Statement t s) [] → StopsForMemory old.number old.step (bytes ∷ []) (ended None)
@@ -85,10 +85,10 @@ module _ (P : Condition) (old new : WalkValue) (bytes : List ℕ) (first : Bool)
 pub told_by : (P : Condition) (old new : WalkValue) (bytes : List ℕ) (t : LineEvent) → ServesAsUnder P old bytes t new → ServesAs old bytes t new
 told_by P old new bytes (told.Faulted fault) h = h
 told_by P old new bytes told.Nothing h = (h.0, h.1, line_other (λ _. P) (λ _. Any) old.number (λ _ _ _ _ _ _. tt) old.step h.0 _ new.step h.2)
-told_by P old new bytes (told.Began end card) h = (h.0, h.1, line_other (λ _. P) (λ _. Any) old.number (λ _ _ _ _ _ _. tt) old.step h.0 _ new.step h.2)
+told_by P old new bytes (told.StepBegan end card) h = (h.0, h.1, line_other (λ _. P) (λ _. Any) old.number (λ _ _ _ _ _ _. tt) old.step h.0 _ new.step h.2)
 told_by P old new bytes (told.Answered t a) h = (h.0, h.1, line_other (λ _. P) (λ _. Any) old.number (λ _ _ _ _ _ _. tt) old.step h.0 _ new.step h.2)
 
-pub told_each : (P : Condition) (old new : WalkValue) (bytes : List ℕ) (r : Result LineEvent Stopped) (Q : Stopped → Type 0) → MatchResult r (λ t. ServesAsUnder P old bytes t new) Q → MatchResult r (λ t. ServesAs old bytes t new) Q
+pub told_each : (P : Condition) (old new : WalkValue) (bytes : List ℕ) (r : Result LineEvent OutOfMemoryAt) (Q : OutOfMemoryAt → Type 0) → MatchResult r (λ t. ServesAsUnder P old bytes t new) Q → MatchResult r (λ t. ServesAs old bytes t new) Q
 told_each P old new bytes (Ok t) Q h = told_by P old new bytes t h
 told_each P old new bytes (Err e) Q h = h
 
@@ -96,7 +96,7 @@ told_each P old new bytes (Err e) Q h = h
 pub line_tells : (old new : WalkValue) (bytes : List ℕ) (t : LineEvent) → ServesAs old bytes t new → MayHappen old bytes (events_of_line old.number new t)
 line_tells old new bytes (told.Faulted fault) h = inr (fault, h.0, refl)
 line_tells old new bytes told.Nothing h = inl (new.step, h)
-line_tells old new bytes (told.Began end card) h = inl (new.step, h)
+line_tells old new bytes (told.StepBegan end card) h = inl (new.step, h)
 line_tells old new bytes (told.Answered t a) h = inl (new.step, h)
 
 pub nothing_kept : (a b : Option (List ℕ)) → AppendsFront a b [] → Keeps a b
@@ -117,7 +117,7 @@ stopped_front w bytes events a b h f = at w.step h.0 h.1 h.2 refl where
   at : (o : Option JobValue) (l : Line) → LineOf (is_first o) bytes l → TakesMemory o l events → o ≡ w.step → Keeps a b ⊎ ((all : List Event) × MayHappen w bytes all × AppendsFront a b (printing all))
   at o (line.Statement t (says.Region below above fill residence)) is e same =
       let card = card_of t below above fill residence in
-      let more = Told w.number t (Region card) ∷ [] in
+      let more = AnswerTo w.number t (Region card) ∷ [] in
       let tells : MayHappen w bytes (ending machine o ++ more) = subst (λ o. MayHappen w bytes (ending machine o ++ more)) (sym same) (inl (_, (line.Statement t (says.Region below above fill residence), subst (λ o. LineOf (is_first o) bytes (line.Statement t (says.Region below above fill residence))) same is, (refl, refl)))) in
       inr (ending machine o ++ more, tells, subst (λ x. AppendsFront a b (printing (x ++ more))) e (rw (printed_both events more) (front_longer a b (printing events) (printing more) f)))
   at (Some job) (line.Statement t (says.Request r)) is h same = kept h.0

@@ -11,7 +11,7 @@ use Rattle.mvs_model.specs.declared.name.Name.{Name}
 use Rattle.mvs_model.specs.declared.report.MapRun.{MapRun}
 use Rattle.mvs_model.specs.declared.report.SubpoolLine.{SubpoolLine}
 use Rattle.mvs_model.specs.Card.{CardValue}
-use Rattle.mvs_model.specs.Answers.{Answer, NotRun, NoName, At, Rc0, Granted, Rc4, Cell, NoCell, Attached, Ended, Done, Data, Abended, Subpools, Map, Region, Event, Told, StepEnded, Faulted}
+use Rattle.mvs_model.specs.Answers.{Answer, NotRun, NoName, At, Rc0, Granted, Rc4, Cell, NoCell, Attached, Ended, Done, Data, Abended, Subpools, Map, Region, Event, AnswerTo, StepEnded, Faulted}
 use Rattle.mvs_model.specs.Lines.{IsUnended, ended_text, lines_of}
 use Rattle.mvs_model.specs.Name.{trimmed}
 use Rattle.mvs_model.specs.Numbers.{line_bytes}
@@ -197,14 +197,14 @@ answer_stays n t (Region card) h k = reply_stays n t h (region_line card)
 
 -- The names in an event have none.
 abbrev pub EventUnended : Event → Type 0
-EventUnended (Told number t answer) = IsUnended t × AnswerUnended answer
+EventUnended (AnswerTo number t answer) = IsUnended t × AnswerUnended answer
 EventUnended _ = Unit {0}
 
 letter : (first : ℕ) (rest : List ℕ) → 48 ≤ first → list_all (λ b. not (b == 10)) (first ∷ rest) ≡ true → IsShown (first ∷ rest)
 letter first rest h e = record { first = first; rest = rest; is = refl; digit = h; unended = has_none (first ∷ rest) e }
 
 event_stays : (event : Event) → EventUnended event → Stays (text_of event)
-event_stays (Told n t answer) h = answer_stays n t answer h.0 h.1
+event_stays (AnswerTo n t answer) h = answer_stays n t answer h.0 h.1
 event_stays (StepEnded true) h = shown_stays _ (letter 83 (codes "TEP ENDED RC 8") (omega arith) refl)
 event_stays (StepEnded false) h = shown_stays _ (letter 83 (codes "TEP ENDED RC 0") (omega arith) refl)
 event_stays (Faulted n fault) h =

@@ -11,7 +11,7 @@ use Rattle.mvs_model.specs.declared.line.Statement.TheVariants as says
 use Rattle.mvs_model.specs.declared.reason.LineReason.{LineReason}
 use Rattle.mvs_model.specs.declared.request.Request.{Request}
 use Rattle.mvs_model.specs.declared.request.Request.TheVariants.{Return}
-use Rattle.mvs_model.specs.Answers.{Answer, NotRun, NoName, At, Rc0, Granted, Rc4, Cell, NoCell, Attached, Ended, Done, Data, Abended, Subpools, Map, Region, Event, Told, StepEnded, Faulted}
+use Rattle.mvs_model.specs.Answers.{Answer, NotRun, NoName, At, Rc0, Granted, Rc4, Cell, NoCell, Attached, Ended, Done, Data, Abended, Subpools, Map, Region, Event, AnswerTo, StepEnded, Faulted}
 use Rattle.mvs_model.specs.Job.{JobValue}
 use Rattle.mvs_model.specs.Lines.{ended_text, lines_of, IsUnended}
 use Rattle.mvs_model.specs.Name.{trimmed}
@@ -24,11 +24,11 @@ use Rattle.request_forms.specs.declared.facts.OwnedSubpool.{OwnedSubpool}
 use Rattle.job_script.specs.FactTexts.{fact_line, fact_text, freed_line, freed_text_of, stays_line, stays_text}
 use Rattle.mvs_job.specs.Facts.{IsFreeing, ended_by, freed_text, subpool_line}
 use Rattle.request_forms.specs.Facts.{owned_subpools}
-use Rattle.mvs_job.specs.declared.granting.Before.{Before}
+use Rattle.mvs_job.specs.declared.granting.Baseline.{Baseline}
 use Rattle.mvs_job.specs.Granting.{IsGranting, before_line, done_text, facts_of, granted_text, reports_grant}
 use Rattle.job_script.specs.NamingTexts.{naming_words}
-use Rattle.mvs_job.specs.declared.naming.Naming.{Naming}
-use Rattle.mvs_job.specs.Naming.{IsNamed, SetLines, naming_text}
+use Rattle.mvs_job.specs.declared.name_origins.NamedAddress.{NamedAddress}
+use Rattle.mvs_job.specs.NamedAddress.{IsNamed, NameOrigins, naming_text}
 use Rattle.mvs_job.specs.Why.{spoken}
 use Rattle.mvs_job.specs.Consuming.{WrittenAfter}
 use Rattle.mvs_job.specs.Explained.{ExplainedArePrintings, IsExplainedAs, explained, set_by_entries}
@@ -89,7 +89,7 @@ answer_ended number t Done = inr (reply_closed number t _)
 answer_ended number t (Region card) = inr (reply_closed number t _)
 
 event_ended : (event : Event) → IsEnded (text_of event)
-event_ended (Told number t answer) = answer_ended number t answer
+event_ended (AnswerTo number t answer) = answer_ended number t answer
 event_ended (StepEnded true) = inr (codes "STEP ENDED RC 8", refl)
 event_ended (StepEnded false) = inr (codes "STEP ENDED RC 0", refl)
 event_ended (Faulted number fault) = inr (closed_behind (decimal number ++ codes " JS0" ++ decimal (fault_number fault)) (codes "\nJOB FAULT RC 12\n") (codes "\nJOB FAULT RC 12", refl))
@@ -194,7 +194,7 @@ freeing_out : (old : Option JobValue) (events : List Event) (freed : List ℕ) �
 freeing_out None events freed e = none_left_out freed e
 freeing_out (Some job) events freed e = subst IsLeftOut (sym e) (lines_out job (ended_by events))
 
-done_out : (b : Option Before) (l : Line) (new : Option JobValue) → IsLeftOut (done_text b l new)
+done_out : (b : Option Baseline) (l : Line) (new : Option JobValue) → IsLeftOut (done_text b l new)
 done_out None l new = none_left_out [] refl
 done_out (Some b) l None = none_left_out [] refl
 done_out (Some b) line.Nothing (Some new) = none_left_out [] refl
@@ -204,7 +204,7 @@ done_out (Some b) (line.Statement t (says.Where name)) (Some new) = none_left_ou
 done_out (Some b) (line.Statement t says.ReportSubpools) (Some new) = none_left_out [] refl
 done_out (Some b) (line.Statement t says.ReportMap) (Some new) = none_left_out [] refl
 
-granted_out : (b : Option Before) (l : Line) (events : List Event) (new : Option JobValue) → IsLeftOut (granted_text b l events new)
+granted_out : (b : Option Baseline) (l : Line) (events : List Event) (new : Option JobValue) → IsLeftOut (granted_text b l events new)
 granted_out b l events new = at (reports_grant events) where
   at : (yes : Bool) → IsLeftOut (cond yes (done_text b l new) [])
   at true = done_out b l new
@@ -215,15 +215,15 @@ granting_out old l events new done (inl (one_line_text, is, e)) = subst IsLeftOu
 granting_out old l events new done (inr (inl (none, e))) = none_left_out done e
 granting_out old l events new done (inr (inr (fault, is, e))) = none_left_out done e
 
-naming_out : (n : Option Naming) → IsLeftOut (naming_text n)
+naming_out : (n : Option NamedAddress) → IsLeftOut (naming_text n)
 naming_out None = none_left_out [] refl
 naming_out (Some n) = line_out (naming_words n.addr n.name n.place n.number)
 
-named_out : (old : Option JobValue) (set : SetLines) (l : List ℕ) (events : List Event) (named : List ℕ) → IsNamed old set l events named → IsLeftOut named
+named_out : (old : Option JobValue) (set : NameOrigins) (l : List ℕ) (events : List Event) (named : List ℕ) → IsNamed old set l events named → IsLeftOut named
 named_out None set l events named e = none_left_out named e
 named_out (Some job) set l events named (a, tells, (n, is, e)) = subst IsLeftOut (sym e) (naming_out n)
 
-behind_out : (old : Option JobValue) (set : SetLines) (l : List ℕ) (events : List Event) (new : Option JobValue) (text : List ℕ) → IsExplanationText old set l events new text → IsLeftOut text
+behind_out : (old : Option JobValue) (set : NameOrigins) (l : List ℕ) (events : List Event) (new : Option JobValue) (text : List ℕ) → IsExplanationText old set l events new text → IsLeftOut text
 behind_out old set l events new text (why, named, freed, done, is, names, frees, grants, e) =
     let end = out_both freed done (freeing_out old events freed frees) (granting_out old l events new done grants) in
     subst IsLeftOut (sym e) (out_both why (named ++ (freed ++ done)) (explanation_out old l events why is) (out_both named (freed ++ done) (named_out old set l events named names) end))
@@ -231,7 +231,7 @@ behind_out old set l events new text (why, named, freed, done, is, names, frees,
 -- ---- a run
 
 -- the text of an entry is the printing of its events, and what is left out
-entry_out : (set : SetLines) (e : Entry) (kind : Kind) (text : List ℕ) → IsExplainedAs set e kind text → (why : List ℕ) × (text ≡ printing e.events ++ why) × IsLeftOut why
+entry_out : (set : NameOrigins) (e : Entry) (kind : Kind) (text : List ℕ) → IsExplainedAs set e kind text → (why : List ℕ) × (text ≡ printing e.events ++ why) × IsLeftOut why
 entry_out set e (Executed one_line_text) text (why, is, same) = (why, same, behind_out e.before set e.bytes e.events e.after why is)
 entry_out set e (Faulty fault) text same = ([], same ∙ sym (append-nil (printing e.events)), none_left_out [] refl)
 entry_out set e Closed text same = ([], same ∙ sym (append-nil (printing e.events)), none_left_out [] refl)

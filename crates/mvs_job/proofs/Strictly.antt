@@ -12,7 +12,7 @@ use Rattle.mvs_model.specs.declared.line.Statement.TheVariants as says
 use Rattle.mvs_model.specs.declared.name.Name.{Name}
 use Rattle.mvs_model.specs.declared.outcome.Outcome.{Outcome}
 use Rattle.mvs_model.specs.Answers as answer
-use Rattle.mvs_model.specs.Answers.{Answer, Event, Faulted, StepEnded, Told}
+use Rattle.mvs_model.specs.Answers.{Answer, Event, Faulted, StepEnded, AnswerTo}
 use Rattle.mvs_model.specs.Job.{JobValue}
 use Rattle.mvs_model.specs.Lines.{lines_of}
 use Rattle.mvs_model.specs.Memory.{TakesMemory}
@@ -22,9 +22,9 @@ use Rattle.mvs_job.specs.declared.consumer.End.{End}
 use Rattle.mvs_job.specs.declared.consumer.End.TheVariants as end
 use Rattle.mvs_job.specs.declared.printing.Stop.{Stop}
 use Rattle.mvs_job.specs.declared.printing.Stop.TheVariants as stop
-use Rattle.mvs_job.specs.declared.strict.StrictEnd.{StrictEnd}
-use Rattle.mvs_job.specs.declared.strict.Unserved.{Unserved}
-use Rattle.mvs_job.specs.declared.strict.Unserved.TheVariants as why
+use Rattle.mvs_job.specs.declared.strict.StrictOutcome.{StrictOutcome}
+use Rattle.mvs_job.specs.declared.strict.SkipReason.{SkipReason}
+use Rattle.mvs_job.specs.declared.strict.SkipReason.TheVariants as why
 use Rattle.mvs_job.specs.declared.walk.LineEvent.{LineEvent}
 use Rattle.mvs_job.specs.declared.walk.LineEvent.TheVariants as told
 use Rattle.mvs_job.specs.Consuming.{IsEnd, IsEntry, Known, Leaves, LeavesText, Piece, keeps_nothing}
@@ -78,7 +78,7 @@ module _ (all all' : Bool) (heard : Option (List Skipped)) (history : List Entry
 
 -- ---- a line, by its number and by its bytes
 
-told_skipped : (f g : ℕ → List ℕ) (n : ℕ) (t : Name) (a : Answer) → f n ≡ g n → all_skipped f (Told n t a ∷ []) ≡ all_skipped g (Told n t a ∷ [])
+told_skipped : (f g : ℕ → List ℕ) (n : ℕ) (t : Name) (a : Answer) → f n ≡ g n → all_skipped f (AnswerTo n t a ∷ []) ≡ all_skipped g (AnswerTo n t a ∷ [])
 told_skipped f g n t answer.NotRun e = ap (λ line. skipped_for n line (Some why.NotRun) ++ []) e
 told_skipped f g n t answer.NoName e = ap (λ line. skipped_for n line (Some why.NoName) ++ []) e
 told_skipped f g n t (answer.At a) e = refl
@@ -101,7 +101,7 @@ step_skipped f None = refl
 step_skipped f (Some job) = refl
 
 module _ (f g : ℕ → List ℕ) (n : ℕ) (same : f n ≡ g n) (events : List Event) (new : Option JobValue) where
-  answered : (t : Name) (a : Answer) → events ≡ Told n t a ∷ [] → all_skipped f events ≡ all_skipped g events
+  answered : (t : Name) (a : Answer) → events ≡ AnswerTo n t a ∷ [] → all_skipped f events ≡ all_skipped g events
   answered t a e = ap (all_skipped f) e ∙ told_skipped f g n t a same ∙ ap (all_skipped g) (sym e)
 
   served_skipped : (old : Option JobValue) (said : Line) → Serves machine n old said events new → all_skipped f events ≡ all_skipped g events
@@ -201,12 +201,12 @@ pub strict_stopped : (before after : Option (List ℕ)) (script : List ℕ) (why
 strict_stopped before after script stop.Write (text, a, w) = (text, a, front_printing script (keeps_nothing tt) text tt w)
 strict_stopped before after script stop.Memory (text, a, w) = (text, a, exhausted_is_front script (keeps_nothing tt) text tt w, exhausted_printing script (keeps_nothing tt) text tt w)
 
-pub strict_ok : (before after : Option (List ℕ)) (heard heard' : Option (List Skipped)) (script : List ℕ) (r : Result StrictEnd Stop) → IfOk r (λ end. RunsObserved printed before after heard heard' script end.outcome end.all_served)
+pub strict_ok : (before after : Option (List ℕ)) (heard heard' : Option (List Skipped)) (script : List ℕ) (r : Result StrictOutcome Stop) → IfOk r (λ end. RunsObserved printed before after heard heard' script end.outcome end.all_served)
     → IfOk r (λ end. PrintsStrictly before after heard heard' script end.outcome end.all_served)
 strict_ok before after heard heard' script (Ok end) h = strict_ended script before after heard heard' end.outcome end.all_served h
 strict_ok before after heard heard' script (Err why) h = tt
 
-pub strict_err : (before after : Option (List ℕ)) (script : List ℕ) (r : Result StrictEnd Stop) → IfErr r (λ why. LeavesText printed before after script (Err why)) → IfErr r (λ why. PrintedUpTo why before after script)
+pub strict_err : (before after : Option (List ℕ)) (script : List ℕ) (r : Result StrictOutcome Stop) → IfErr r (λ why. LeavesText printed before after script (Err why)) → IfErr r (λ why. PrintedUpTo why before after script)
 strict_err before after script (Ok end) h = tt
 strict_err before after script (Err why) h = strict_stopped before after script why h
 
@@ -274,13 +274,13 @@ and_false false = refl
 
 bytes_of : (n : ℕ) (line : List ℕ) (w : WalkValue) (t : LineEvent) (e : Entry) → IsEntry n line w t e → list_all is_of_served (events_of_line n w t) ≡ false → e.bytes ≡ line
 bytes_of n line w told.Nothing e is unserved = ap (λ e. e.bytes) (is.of_line).5
-bytes_of n line w (told.Began ended card) e is unserved = ap (λ e. e.bytes) (is.of_line).5
+bytes_of n line w (told.StepBegan ended card) e is unserved = ap (λ e. e.bytes) (is.of_line).5
 bytes_of n line w (told.Answered t a) e is unserved = ap (λ e. e.bytes) (is.of_line).5
 bytes_of n line w (told.Faulted fault) e is unserved = absurd (let f : true ≡ false = unserved in cc)
 
-module _ (fa all : Bool) (heard heard1 : Option (List Skipped)) (history : List Entry) (n : ℕ) (line : List ℕ) (w : WalkValue) (t : LineEvent) (e : Entry) (o : Option Unserved) (is : IsEntry n line w t e)
+module _ (fa all : Bool) (heard heard1 : Option (List Skipped)) (history : List Entry) (n : ℕ) (line : List ℕ) (w : WalkValue) (t : LineEvent) (e : Entry) (o : Option SkipReason) (is : IsEntry n line w t e)
     (served : list_all is_of_served (events_of_line n w t) ≡ not (is_some o)) (skipped : (lines : ℕ → List ℕ) → all_skipped lines (events_of_line n w t) ≡ skipped_for n (lines n) o) (before : Observes fa all heard heard1 history) where
-  pub unserved_next : (heard2 : Option (List Skipped)) (why : Unserved) → o ≡ Some why → Grows heard1 heard2 (record { number = n; line = line; why = why } ∷ []) → Observes fa false heard heard2 (history ++ e ∷ [])
+  pub unserved_next : (heard2 : Option (List Skipped)) (why : SkipReason) → o ≡ Some why → Grows heard1 heard2 (record { number = n; line = line; why = why } ∷ []) → Observes fa false heard heard2 (history ++ e ∷ [])
   unserved_next heard2 why some grows =
       let none : list_all is_of_served (events_of_line n w t) ≡ false = served ∙ ap (λ o. not (is_some o)) some in
       let bytes = bytes_of n line w t e is none in
@@ -294,7 +294,7 @@ module _ (fa all : Bool) (heard heard1 : Option (List Skipped)) (history : List 
       (observes_next fa all heard history heard1 heard1 true e [] before (ap (list_all is_of_served) is.events ∙ served ∙ ap (λ o. not (is_some o)) none)
       (ap (all_skipped (λ number. e.bytes)) is.events ∙ skipped (λ number. e.bytes) ∙ ap (skipped_for n e.bytes) none) (grows_nil heard1))
 
-pub none_of : (o : Option Unserved) → ((why : Unserved) → o ≡ Some why → ⊥) → o ≡ None
+pub none_of : (o : Option SkipReason) → ((why : SkipReason) → o ≡ Some why → ⊥) → o ≡ None
 none_of None other = refl
 none_of (Some why) other = absurd (other why refl)
 

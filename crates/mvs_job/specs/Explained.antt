@@ -9,28 +9,28 @@ use Rattle.mvs_model.specs.Texts.{printing}
 use Rattle.mvs_job.specs.declared.printing.Stop.{Stop}
 use Rattle.mvs_job.specs.Consuming.{Piece, WritesText}
 use Rattle.mvs_job.specs.Explaining.{IsExplanationText, without_starred}
-use Rattle.mvs_job.specs.Naming.{SetLines, no_lines, names_after}
+use Rattle.mvs_job.specs.NamedAddress.{NameOrigins, no_lines, names_after}
 use Rattle.mvs_job.specs.Trace.{Entry, Executed, Kind}
 
 -- the names that are set after a line that says this, each with the number of the line that set it last; before the first step it sets
 -- none
-abbrev pub set_after : Option JobValue → SetLines → Entry → Kind → SetLines
+abbrev pub set_after : Option JobValue → NameOrigins → Entry → Kind → NameOrigins
 set_after None set e kind = set
 set_after (Some job) set e (Executed said) = names_after e.number set said e.events
 set_after (Some job) set e kind = set
 
 -- the names that are set after some entries, which come after others that set these
-abbrev pub set_from : SetLines → List Entry → SetLines
+abbrev pub set_from : NameOrigins → List Entry → NameOrigins
 set_from set [] = set
 set_from set (e ∷ entries) = set_from (set_after e.before set e e.kind) entries
 
 -- the names that are set after the first entries of a trace
-abbrev pub set_by_entries : List Entry → SetLines
+abbrev pub set_by_entries : List Entry → NameOrigins
 set_by_entries entries = set_from no_lines entries
 
 -- The text is that of an entry of this kind, before which these names are set: its events, and if it was executed, why it was refused,
 -- the name that has the address of the reason, the subpools that were freed with a task, and what a granted request changed.
-abbrev pub IsExplainedAs : SetLines → Entry → Kind → List ℕ → Type 0
+abbrev pub IsExplainedAs : NameOrigins → Entry → Kind → List ℕ → Type 0
 IsExplainedAs set e (Executed said) text = (why : List ℕ) × IsExplanationText e.before set e.bytes e.events e.after why × (text ≡ printing e.events ++ why)
 IsExplainedAs set e kind text = text ≡ printing e.events
 

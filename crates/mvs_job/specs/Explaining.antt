@@ -20,7 +20,7 @@ use Rattle.job_script.specs.ReasonTexts.{reason_line}
 use Rattle.mvs_job.specs.Facts.{IsFreeing, ended_by, freed_lines}
 use Rattle.mvs_job.specs.declared.explained.Explained.{Explained}
 use Rattle.mvs_job.specs.Granting.{IsGranting, granted_text}
-use Rattle.mvs_job.specs.Naming.{IsNamed, SetLines, naming_text}
+use Rattle.mvs_job.specs.NamedAddress.{IsNamed, NameOrigins, naming_text}
 use Rattle.mvs_job.specs.declared.walk.LineEvent.{LineEvent}
 use Rattle.mvs_job.specs.declared.walk.LineEvent.TheVariants as told
 use Rattle.mvs_job.specs.LineEvents.{WalkValue, events_of_line}
@@ -53,7 +53,7 @@ reason_part (line.Statement t s) request (Some reason) = reason_line t request r
 
 -- The text comes after these events of the next line, which leads to this step: why it was refused, the name that has the address
 -- of the reason, the subpools that were freed if it ended a task, and what it changed if it was granted.
-abbrev pub IsExplanationText : Option JobValue → SetLines → List ℕ → List Event → Option JobValue → List ℕ → Type 0
+abbrev pub IsExplanationText : Option JobValue → NameOrigins → List ℕ → List Event → Option JobValue → List ℕ → Type 0
 IsExplanationText old set bytes events new text =
     (why : List ℕ) × (named : List ℕ) × (freed : List ℕ) × (done : List ℕ)
     × IsExplanation old bytes events why × IsNamed old set bytes events named × IsFreeing old events freed × IsGranting old bytes events new done

@@ -2,7 +2,7 @@
 use Rattle.std.specs.Prelude.{◌≡◌, ℕ, List, [], ◌∷◌, Option, Some, None, if◌then◌else◌}
 use Rattle.std.specs.List.{flat_map}
 use Rattle.mvs_model.specs.declared.name.Name.{Name}
-use Rattle.mvs_model.specs.Answers.{Answer, Event, Told}
+use Rattle.mvs_model.specs.Answers.{Answer, Event, AnswerTo}
 use Rattle.mvs_model.specs.Answers as answer
 use Rattle.mvs_model.specs.Job.{JobValue}
 use Rattle.mvs_model.specs.Owners.{is_among_ended}
@@ -31,7 +31,7 @@ end_of t (answer.Region card) = None
 
 -- the task that a line ends, from its events
 abbrev pub ended_by : List Event → Option (Name × List Name)
-ended_by (Told number t a ∷ []) = end_of t a
+ended_by (AnswerTo number t a ∷ []) = end_of t a
 ended_by _ = None
 
 -- the line for a subpool at an end: it is freed, or it remains and the ending task shared it

@@ -11,7 +11,7 @@ use Rattle.mvs_model.specs.declared.line.Statement.TheVariants as says
 use Rattle.mvs_model.specs.declared.line.Written.{Written}
 use Rattle.mvs_model.specs.declared.line.Written.TheVariants.{Obtain, ObtainList, Release, ReleaseArea, ReleaseList, ReleaseWhole, Build, Get, Free, Delete, Attach, Return, Abend, Show, Put, Move}
 use Rattle.mvs_model.specs.declared.name.Name.{Name}
-use Rattle.mvs_model.specs.Answers.{Answer, Event, Told}
+use Rattle.mvs_model.specs.Answers.{Answer, Event, AnswerTo}
 use Rattle.mvs_model.specs.Answers as answer
 use Rattle.mvs_model.specs.Finite.{has}
 use Rattle.mvs_model.specs.Job.{JobValue}
@@ -25,7 +25,7 @@ use Rattle.mvs_model.specs.State.{State}
 use Rattle.job_script.specs.FactTexts.{fact_line}
 use Rattle.request_forms.specs.Facts.{listed}
 use Rattle.request_forms.specs.SubpoolLabels.{free_above, free_below, label_had, label_meant}
-use Rattle.mvs_job.specs.declared.granting.Before.{Before}
+use Rattle.mvs_job.specs.declared.granting.Baseline.{Baseline}
 
 -- ---- the step before
 
@@ -34,7 +34,7 @@ abbrev pub parts_at : State → Name → ℕ
 parts_at st name = unwrap_or (option_map (λ pool. length pool.parts) (get st.pools name)) 0
 
 -- what is looked at before a request: how many pages hold nothing, whether the task means a subpool, and the parts of a pool
-abbrev pub looked_at : JobValue → Bool → ℕ → Before
+abbrev pub looked_at : JobValue → Bool → ℕ → Baseline
 looked_at job had parts = record { below = free_below job.state; above = free_above job.state; had = had; parts = parts }
 
 -- whether a task means a subpool by a number
@@ -42,7 +42,7 @@ abbrev pub means : JobValue → Name → ℕ → Bool
 means job t number = is_some (label_meant job.state.owners t number)
 
 -- what is looked up before the request of a task; nothing, if its changes are not reported
-abbrev pub before_request : JobValue → Name → Written → Option Before
+abbrev pub before_request : JobValue → Name → Written → Option Baseline
 before_request job t (Obtain form number ask variable area) = Some (looked_at job (means job t number) 0)
 before_request job t (ObtainList form number lengths start areas) = Some (looked_at job (means job t number) 0)
 before_request job t (Release form number location n) = Some (looked_at job true 0)
@@ -61,7 +61,7 @@ before_request job t (Put to bytes) = None
 before_request job t (Move to from n) = None
 
 -- the same before a line: nothing before the first step
-abbrev pub before_line : Option JobValue → Line → Option Before
+abbrev pub before_line : Option JobValue → Line → Option Baseline
 before_line None l = None
 before_line (Some job) line.Nothing = None
 before_line (Some job) (line.Statement t (says.Request a)) = before_request job t a
@@ -83,11 +83,11 @@ area_facts new t number (area ∷ areas) [] = []
 area_facts new t number (area ∷ areas) (n ∷ lengths) = listed (area_fact new t number area n n) ++ area_facts new t number areas lengths
 
 -- that no greater length had a place, where less was obtained than the greatest length
-abbrev pub greater_fact : Before → JobValue → Name → ℕ → Option Fact
+abbrev pub greater_fact : Baseline → JobValue → Name → ℕ → Option Fact
 greater_fact b new area most = if has (λ p. nat_lt p.len (round8 most)) (get new.names area) then Some (NoGreater b.below b.above) else None
 
 -- a subpool that the task did not mean by the number before
-abbrev pub subpool_fact : Before → JobValue → Name → ℕ → Option Fact
+abbrev pub subpool_fact : Baseline → JobValue → Name → ℕ → Option Fact
 subpool_fact b new t number = if b.had then None else option_map (λ l. NewSubpool l.0 l.1) (label_meant new.state.owners t number)
 
 -- how many pages hold nothing
@@ -95,11 +95,11 @@ abbrev pub free_in : JobValue → ℕ
 free_in job = free_below job.state + free_above job.state
 
 -- the pages that were taken
-abbrev pub taken_fact : Before → JobValue → Fact
+abbrev pub taken_fact : Baseline → JobValue → Fact
 taken_fact b new = PagesTaken (b.below + b.above - free_in new)
 
 -- the pages that hold nothing any more, if there are some
-abbrev pub freed_fact : Before → JobValue → Option Fact
+abbrev pub freed_fact : Baseline → JobValue → Option Fact
 freed_fact b new = if free_in new - (b.below + b.above) == 0 then None else Some (PagesFreed (free_in new - (b.below + b.above)))
 
 -- the subpool that the task means by the number, which holds nothing any more
@@ -111,11 +111,11 @@ abbrev pub last_part : Name → Pool → Option Fact
 last_part name pool = option_map (λ part. PartAdded name part.count pool.cell_size part.place) (slice_get pool.parts (length pool.parts - 1))
 
 -- a pool that has another number of parts than before
-abbrev pub part_fact : Before → JobValue → Name → Option Fact
+abbrev pub part_fact : Baseline → JobValue → Name → Option Fact
 part_fact b new name = option_and_then (λ pool. if length pool.parts == b.parts then None else last_part name pool) (get new.state.pools name)
 
 -- the pages that were taken for it
-abbrev pub part_pages : Before → JobValue → Name → Option Fact
+abbrev pub part_pages : Baseline → JobValue → Name → Option Fact
 part_pages b new name = option_map (λ _. taken_fact b new) (part_fact b new name)
 
 -- a cell that was taken
@@ -127,7 +127,7 @@ abbrev pub subtask_fact : JobValue → Name → Name → ℕ → Option Fact
 subtask_fact new mother name n = option_map (λ l. if same_name l.1 name then Given name l.0 mother else Shared name l.0 l.1) (label_had new.state.owners name n)
 
 -- what a task's request did that was granted
-abbrev pub facts_of : Before → Name → Written → JobValue → List Fact
+abbrev pub facts_of : Baseline → Name → Written → JobValue → List Fact
 facts_of b t (Obtain form number ask variable area) new =
     listed (area_fact new t number area ask.least ask.most) ++ listed (greater_fact b new area ask.most) ++ listed (subpool_fact b new t number) ++ taken_fact b new ∷ []
 facts_of b t (ObtainList form number lengths start areas) new = area_facts new t number areas lengths ++ listed (subpool_fact b new t number) ++ taken_fact b new ∷ []
@@ -169,11 +169,11 @@ is_grant (answer.Region card) = false
 
 -- whether the events of a line say so
 abbrev pub reports_grant : List Event → Bool
-reports_grant (Told number t a ∷ []) = is_grant a
+reports_grant (AnswerTo number t a ∷ []) = is_grant a
 reports_grant _ = false
 
 -- the lines for the changes of a line with this meaning, from the step after it
-abbrev pub done_text : Option Before → Line → Option JobValue → List ℕ
+abbrev pub done_text : Option Baseline → Line → Option JobValue → List ℕ
 done_text None l new = []
 done_text (Some b) l None = []
 done_text (Some b) line.Nothing (Some new) = []
@@ -184,7 +184,7 @@ done_text (Some b) (line.Statement t says.ReportSubpools) (Some new) = []
 done_text (Some b) (line.Statement t says.ReportMap) (Some new) = []
 
 -- the same where the events say that a request was granted
-abbrev pub granted_text : Option Before → Line → List Event → Option JobValue → List ℕ
+abbrev pub granted_text : Option Baseline → Line → List Event → Option JobValue → List ℕ
 granted_text b l events new = if reports_grant events then done_text b l new else []
 
 -- The text is the changes of the next line, if it has these events: from the steps before and after it.

@@ -6,7 +6,7 @@ pub mod Facts
 pub mod Granting
 pub mod Explaining
 pub mod Giving
-pub mod Naming
+pub mod NamedAddress
 pub mod Observing
 pub mod Serving
 pub mod Sessions

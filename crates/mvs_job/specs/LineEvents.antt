@@ -10,7 +10,7 @@ use Rattle.mvs_model.specs.declared.line.Statement.{Statement}
 use Rattle.mvs_model.specs.declared.line.Statement.TheVariants as says
 use Rattle.mvs_model.specs.declared.answer.Answer.{Answer as Short}
 use Rattle.mvs_model.specs.declared.answer.Answer.TheVariants as short
-use Rattle.mvs_model.specs.Answers.{Answer, NotRun, Region, Event, Told, StepEnded, Faulted}
+use Rattle.mvs_model.specs.Answers.{Answer, NotRun, Region, Event, AnswerTo, StepEnded, Faulted}
 use Rattle.mvs_model.specs.Card.{CardValue}
 use Rattle.mvs_model.specs.Changes.{Granted}
 use Rattle.mvs_model.specs.Job.{JobValue}
@@ -28,7 +28,7 @@ use Rattle.mvs_model.specs.Resolving.{resolved}
 use Rattle.mvs_model.specs.Runs.{Condition, Any, Makes, job_machine}
 use Rattle.mvs_model.specs.State.{State, state_code}
 use Rattle.mvs_model.specs.Walk.{ServesLine, is_first}
-use Rattle.mvs_job.specs.declared.walk.Stopped.{Stopped}
+use Rattle.mvs_job.specs.declared.walk.OutOfMemoryAt.{OutOfMemoryAt}
 use Rattle.mvs_job.specs.declared.walk.LineEvent.{LineEvent}
 use Rattle.mvs_job.specs.declared.walk.LineEvent.TheVariants as told
 
@@ -81,8 +81,8 @@ full_answer_in (Some job) fallen t a = full_answer job.state fallen t a
 -- the events of the line with this number, after which the job is in this state
 abbrev pub events_of_line : ℕ → WalkValue → LineEvent → List Event
 events_of_line number w told.Nothing = []
-events_of_line number w (told.Began end card) = ended end ++ Told number card.name (Region card) ∷ []
-events_of_line number w (told.Answered t a) = Told number t (full_answer_in w.step (ended_with_in w.reply) t a) ∷ []
+events_of_line number w (told.StepBegan end card) = ended end ++ AnswerTo number card.name (Region card) ∷ []
+events_of_line number w (told.Answered t a) = AnswerTo number t (full_answer_in w.step (ended_with_in w.reply) t a) ∷ []
 events_of_line number w (told.Faulted fault) = Faulted number fault ∷ []
 
 -- The line has this result: it has a fault, and the step is as before; or it is executed, by a step that meets the condition if it
@@ -140,7 +140,7 @@ IsAvailable w (told.Answered t a) = (job : JobValue) × (w.step ≡ Some job) ×
 IsAvailable w _ = Unit {0}
 
 -- whether a job continues after a line
-abbrev pub continues : Result LineEvent Stopped → Bool
+abbrev pub continues : Result LineEvent OutOfMemoryAt → Bool
 continues (Ok (told.Faulted fault)) = false
 continues (Ok told) = true
 continues (Err stopped) = false

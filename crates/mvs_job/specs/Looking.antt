@@ -9,7 +9,7 @@ use Rattle.mvs_job.specs.declared.explained.Explained.{Explained}
 use Rattle.mvs_job.specs.Consuming.{Known}
 use Rattle.mvs_job.specs.Explained.{set_by_entries}
 use Rattle.mvs_job.specs.Granting.{IsReadIn, before_line}
-use Rattle.mvs_job.specs.Naming.{IsNamingOf, SetLines, reason_address}
+use Rattle.mvs_job.specs.NamedAddress.{IsNamingOf, NameOrigins, reason_address}
 use Rattle.mvs_job.specs.Why.{IsSurvey, KeepsWhy}
 
 -- What is kept of a refusal that is heard of: why, and the name that has the address of the reason.
@@ -19,7 +19,7 @@ pub record KeepsExplained (old : Explained) (job : JobValue) (t : Name) (request
   pub lines : new.lines ≡ old.lines
 
 -- What is looked at before a line, which comes after lines that set these names in the step.
-pub record IsLooking (step : Option JobValue) (set : SetLines) (line : List ℕ) (new : Explained) : Type 0 where
+pub record IsLooking (step : Option JobValue) (set : NameOrigins) (line : List ℕ) (new : Explained) : Type 0 where
   pub read : IsReadIn step line new.why.read
   pub before : new.why.before ≡ before_line step new.why.read
   pub subpools : IsSurvey step new.why.read new.why.subpools

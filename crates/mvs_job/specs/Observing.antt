@@ -133,7 +133,7 @@ Observes heard before job t says.ReportMap answer after = after ≡ before
 -- The same of a line in a step, with what it says: one that is not a statement of a step makes no request.
 abbrev pub ObservesLine : {O : Type 0} → Hearing O → O → Option JobValue → List ℕ → LineEvent → WalkValue → O → Type 0
 ObservesLine heard before step bytes told.Nothing new after = LineOf (is_first step) bytes line.Nothing × (after ≡ before)
-ObservesLine heard before step bytes (told.Began end card) new after = (t : Name) × (s : Statement) × LineOf (is_first step) bytes (line.Statement t s) × (region_card t s ≡ Some card) × (after ≡ before)
+ObservesLine heard before step bytes (told.StepBegan end card) new after = (t : Name) × (s : Statement) × LineOf (is_first step) bytes (line.Statement t s) × (region_card t s ≡ Some card) × (after ≡ before)
 ObservesLine heard before step bytes (told.Answered t a) new after =
     (s : Statement) × (job : JobValue) × (later : JobValue) × LineOf (is_first step) bytes (line.Statement t s) × (step ≡ Some job) × (new.step ≡ Some later)
     × Observes heard before job t s (full_answer later.state (ended_with_in new.reply) t a) after

@@ -13,8 +13,8 @@ use Rattle.mvs_job.specs.declared.printing.Stop.{Stop}
 use Rattle.mvs_job.specs.declared.printing.Stop.TheVariants as stop
 use Rattle.mvs_job.specs.declared.run.RunFault.{RunFault}
 use Rattle.mvs_job.specs.declared.run.RunFault.TheVariants.{Read, Write, Memory, ReadTooLong}
-use Rattle.mvs_job.specs.declared.stream.Turn.{Turn}
-use Rattle.mvs_job.specs.declared.stream.Turn.TheVariants.{On, Ended}
+use Rattle.mvs_job.specs.declared.stream.Progress.{Progress}
+use Rattle.mvs_job.specs.declared.stream.Progress.TheVariants.{On, Ended}
 use Rattle.mvs_job.specs.Consuming.{HasRun, IsFront, IsShort, IsWritten, Known, Leaves, Piece, Written, keeps_nothing}
 use Rattle.mvs_job.specs.Exchanging.{Exchanges}
 use Rattle.mvs_job.specs.LineEvents.{WalkValue}
@@ -105,7 +105,7 @@ abbrev pub HasGivenUp : {S : Type 0} → Piece → Known S → Option (List ℕ)
 HasGivenUp piece knows unread left start now most s fault = Exchanges unread left start now (λ consumed script text. GivesUp piece knows most consumed script text s fault)
 
 -- The effect of one read of at most a number of bytes on a job that had consumed count bytes.
-abbrev pub Takes : {S : Type 0} → Piece → Known S → Option (List ℕ) → Option (List ℕ) → Option (List ℕ) → Option (List ℕ) → ℕ → ℕ → WalkValue → List ℕ → S → Turn → Type 0
+abbrev pub Takes : {S : Type 0} → Piece → Known S → Option (List ℕ) → Option (List ℕ) → Option (List ℕ) → Option (List ℕ) → ℕ → ℕ → WalkValue → List ℕ → S → Progress → Type 0
 Takes piece knows unread left start now count room w kept s (On n) = IsUnderWay piece knows unread left start now (count + n) w kept s
 Takes piece knows unread left start now count room w kept s (Ended outcome) = HasEnded piece knows unread left start now (count + room) s outcome
 

@@ -5,20 +5,20 @@ use Rattle.std.specs.Io.KnownBytes.{Appends}
 use Rattle.mvs_model.specs.declared.answer.Answer.{Answer as Short}
 use Rattle.mvs_model.specs.declared.answer.Answer.TheVariants as short
 use Rattle.mvs_model.specs.declared.outcome.Outcome.{Outcome}
-use Rattle.mvs_model.specs.Answers.{Answer, Event, Told, StepEnded, Faulted}
+use Rattle.mvs_model.specs.Answers.{Answer, Event, AnswerTo, StepEnded, Faulted}
 use Rattle.mvs_model.specs.Answers as answer
 use Rattle.mvs_laws.specs.Going.{Reaches}
 use Rattle.mvs_model.specs.Job.{JobValue}
 use Rattle.mvs_model.specs.Lines.{lines_of}
 use Rattle.mvs_model.specs.Runs.{IsRun}
 use Rattle.mvs_model.specs.Texts.{printing}
-use Rattle.mvs_job.specs.declared.strict.Unserved.{Unserved}
-use Rattle.mvs_job.specs.declared.strict.Unserved.TheVariants as why
+use Rattle.mvs_job.specs.declared.strict.SkipReason.{SkipReason}
+use Rattle.mvs_job.specs.declared.strict.SkipReason.TheVariants as why
 use Rattle.mvs_job.specs.Consuming.{Piece, Written}
 use Rattle.mvs_job.specs.Trace.{Ends, Entry, IsTrace, events_of}
 
 -- why a line that is answered so was not served, if it was not
-abbrev pub why_skipped : Answer → Option Unserved
+abbrev pub why_skipped : Answer → Option SkipReason
 why_skipped answer.NotRun = Some why.NotRun
 why_skipped answer.NoName = Some why.NoName
 why_skipped (answer.At addr) = None
@@ -42,7 +42,7 @@ serves a = not (is_some (why_skipped a))
 
 -- whether an event is not that of a line that was not executed
 abbrev pub is_of_served : Event → Bool
-is_of_served (Told number t a) = serves a
+is_of_served (AnswerTo number t a) = serves a
 is_of_served (StepEnded abended) = true
 is_of_served (Faulted number fault) = true
 
@@ -50,7 +50,7 @@ is_of_served (Faulted number fault) = true
 pub record Skipped : Type 0 where
   pub number : ℕ
   pub line : List ℕ
-  pub why : Unserved
+  pub why : SkipReason
 
 -- a known list grows by some items, in their order
 abbrev pub Grows : {A : Type 0} → Option (List A) → Option (List A) → List A → Type 0
@@ -59,7 +59,7 @@ Grows (Some xs) None more = ⊥
 Grows (Some xs) (Some ys) more = ys ≡ xs ++ more
 
 -- the same by its short answer
-abbrev pub why_unserved : Short → Option Unserved
+abbrev pub why_unserved : Short → Option SkipReason
 why_unserved short.NotRun = Some why.NotRun
 why_unserved short.NoName = Some why.NoName
 why_unserved (short.At addr) = None
@@ -77,13 +77,13 @@ why_unserved short.Subpools = None
 why_unserved short.Map = None
 
 -- a line of a number, if it was not served
-abbrev pub skipped_for : ℕ → List ℕ → Option Unserved → List Skipped
+abbrev pub skipped_for : ℕ → List ℕ → Option SkipReason → List Skipped
 skipped_for number line None = []
 skipped_for number line (Some why) = record { number = number; line = line; why = why } ∷ []
 
 -- the line that was not executed, for its event, where each number has a line
 abbrev pub skipped_in : (ℕ → List ℕ) → Event → List Skipped
-skipped_in line (Told number t a) = skipped_for number (line number) (why_skipped a)
+skipped_in line (AnswerTo number t a) = skipped_for number (line number) (why_skipped a)
 skipped_in line (StepEnded abended) = []
 skipped_in line (Faulted number fault) = []
 

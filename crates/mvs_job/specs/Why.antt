@@ -22,7 +22,7 @@ use Rattle.mvs_model.specs.declared.reason.Reason.{Reason}
 use Rattle.mvs_model.specs.declared.reason.Reason.TheVariants.{NotActive}
 use Rattle.mvs_model.specs.declared.reason.LineReason.{LineReason}
 use Rattle.mvs_model.specs.declared.reason.LineReason.TheVariants.{NotSet, Refused}
-use Rattle.mvs_model.specs.Answers.{Event, Told}
+use Rattle.mvs_model.specs.Answers.{Event, AnswerTo}
 use Rattle.mvs_model.specs.Consequences.{reply_to}
 use Rattle.mvs_model.specs.Job.{JobValue}
 use Rattle.mvs_model.specs.Owners.{is_active}
@@ -73,7 +73,7 @@ OfLine job (line.Statement t says.ReportMap) r = OfStatement job t says.ReportMa
 
 -- whether the events of a line say that it was refused
 abbrev pub reports_refusal : List Event → Bool
-reports_refusal (Told number t answer ∷ []) = is_refusal answer
+reports_refusal (AnswerTo number t answer ∷ []) = is_refusal answer
 reports_refusal _ = false
 
 -- Why the line that was read as this is refused, which has these events: there is a reason just where they say so.

@@ -5,14 +5,14 @@ ghost use Rattle.std.specs.Io.KnownBytes.{Appends};
 ghost use Rattle.mvs_model.specs.Memory.{StopsForMemory};
 ghost use Rattle.mvs_model.specs.Texts.{printing};
 ghost use Rattle.mvs_job.specs.Apart.{AppendsExplanation};
-ghost use Rattle.mvs_job.specs.Naming.{KeepsLines, no_lines};
+ghost use Rattle.mvs_job.specs.NamedAddress.{RecordsOrigins, no_lines};
 ghost use Rattle.mvs_job.specs.Serving.{RunsLine};
 ghost use Rattle.mvs_job.specs.LineEvents.{IsAvailable, ServesAs, ended, events_of_line};
 ghost use Rattle.mvs_job.specs.Why.{OfNext};
 
 use crate::explained::Explained;
 use crate::printing::Stop;
-use crate::walk::{LineEvent, Stopped, Walk};
+use crate::walk::{LineEvent, OutOfMemoryAt, Walk};
 use mvs_model::reason::LineReason;
 use mvs_model::watched::Watched;
 use std::alloc::Global;
@@ -55,7 +55,7 @@ impl Explainer {
         &mut self,
         walk: &mut Walk,
         line: &[u8],
-    ) -> Result<(LineEvent, Option<LineReason>), Stopped>
+    ) -> Result<(LineEvent, Option<LineReason>), OutOfMemoryAt>
         requires { walk.old.number + 1 < 2 ^ 32 }
         ensures told { MatchResult result (λ r. ServesAs walk.old line.now r.0 walk.new)
             (λ stopped. StopsForMemory walk.old.number walk.old.step (line.now ∷ [])
@@ -63,7 +63,7 @@ impl Explainer {
         ensures reason { IfOk result
             (λ r. OfNext walk.old.step line.now (events_of_line walk.old.number walk.new r.0) r.1) }
         ensures lines { IfOk result
-            (λ r. KeepsLines walk.old self.old line.now walk.new r.0 self.new) }
+            (λ r. RecordsOrigins walk.old self.old line.now walk.new r.0 self.new) }
         ensures full_answer { IfOk result (λ r. IsAvailable walk.new r.0) }
         ensures number { walk.new.number ≡ walk.old.number + 1 }
     {
@@ -91,7 +91,7 @@ impl Explainer {
             (AppendsExplanation (V.contents behind.old.inner) (V.contents behind.new.inner) walk.old
             self.old line.now walk.new) }
         ensures lines { IfOk result
-            (λ told. KeepsLines walk.old self.old line.now walk.new told self.new) }
+            (λ told. RecordsOrigins walk.old self.old line.now walk.new told self.new) }
         ensures full_answer { IfOk result (IsAvailable walk.new) }
         ensures number { walk.new.number ≡ walk.old.number + 1 }
         // Memory is exhausted only at a REGION statement, and at a granted request that sets a name; then one writer has what is printed

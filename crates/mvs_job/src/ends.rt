@@ -39,7 +39,7 @@ pub(crate) fn no_subpools() -> OwnedSubpools
 }
 
 /// Puts all subpools that tasks own in the place of others, and whether a task has them.
-pub(crate) fn put_owned(job: &Job, task: &Name, subpools: &mut OwnedSubpools)
+pub(crate) fn collect_owned_subpools(job: &Job, task: &Name, subpools: &mut OwnedSubpools)
     ensures { subpools.new ≡ owned_subpools job.now.state task.now }
 {
     let machine = job.step().machine();
@@ -159,6 +159,6 @@ pub(crate) fn print_frees<W: Write>(
         LineEvent::Answered { task, answer } => {
             print_end(writer, task, walk.fallen(), answer, subpools)
         }
-        LineEvent::Nothing | LineEvent::Began { .. } | LineEvent::Faulted(_) => Ok(()),
+        LineEvent::Nothing | LineEvent::StepBegan { .. } | LineEvent::Faulted(_) => Ok(()),
     }
 }

@@ -8,7 +8,7 @@ ghost use Rattle.mvs_model.specs.Memory.{StopsForMemory};
 ghost use Rattle.mvs_job.specs.Explained.{explained};
 ghost use Rattle.mvs_job.specs.Explaining.{IsExplanationText, explanation_text, text_of_event};
 ghost use Rattle.mvs_job.specs.Granting.{reports_grant};
-ghost use Rattle.mvs_job.specs.Naming.{IsNamingOf, KeepsLines, SetsSome, reason_address, no_lines, names_after};
+ghost use Rattle.mvs_job.specs.NamedAddress.{IsNamingOf, RecordsOrigins, SetsSome, reason_address, no_lines, names_after};
 ghost use Rattle.mvs_job.specs.Serving.{ReturnsEvent};
 ghost use Rattle.mvs_job.specs.LineEvents.{IsAvailable, ServesAs, ended, events_of_line};
 ghost use Rattle.mvs_job.specs.Why.{OfNext, line_reason};
@@ -16,10 +16,10 @@ ghost use Rattle.mvs_job.specs.Why.{OfNext, line_reason};
 use crate::consumer::{Consumer, End};
 use crate::ends::print_frees;
 use crate::job::Job;
-use crate::naming::{Naming, SetLines, reason_address, print_named};
+use crate::name_origins::{NamedAddress, NameOrigins, reason_address, print_named};
 use crate::observer::Observer;
 use crate::printing::{Stop, print_closing, print_ended, print_line};
-use crate::walk::{LineEvent, Stopped, Walk};
+use crate::walk::{LineEvent, OutOfMemoryAt, Walk};
 use crate::why::Why;
 use mvs_model::error::OutOfMemory;
 use mvs_model::name::Name;
@@ -37,8 +37,8 @@ pub struct Explained {
     pub(crate) why: Why,
     /// Why the line was not executed as it asks.
     pub(crate) reason: Option<LineReason>,
-    pub(crate) naming: Option<Naming>,
-    pub(crate) lines: SetLines,
+    pub(crate) naming: Option<NamedAddress>,
+    pub(crate) lines: NameOrigins,
 }
 
 impl Observer for Explained {
@@ -107,12 +107,12 @@ impl Explained {
             why: Why::new(),
             reason: None,
             naming: None,
-            lines: SetLines::new(alloc),
+            lines: NameOrigins::new(alloc),
         }
     }
 
     // Returns the name that has the address in the reason of a request.
-    fn name(&self, job: &Job) -> Option<Naming>
+    fn name(&self, job: &Job) -> Option<NamedAddress>
         ensures { IsNamingOf job.now self.now.lines
             (option_and_then (reason_address self.now.why.request) self.now.why.reason) result }
     {
@@ -158,13 +158,13 @@ impl Explained {
     }
 
     /// Looks at a line, executes it, and keeps why it was not executed as it asks.
-    pub(crate) fn serve(&mut self, walk: &mut Walk, line: &[u8]) -> Result<LineEvent, Stopped>
+    pub(crate) fn serve(&mut self, walk: &mut Walk, line: &[u8]) -> Result<LineEvent, OutOfMemoryAt>
         requires { walk.old.number + 1 < 2 ^ 32 }
         ensures told { MatchResult result (λ told. ServesAs walk.old line.now told walk.new)
             (λ stopped. StopsForMemory walk.old.number walk.old.step (line.now ∷ [])
             (ended stopped.ended)) }
         ensures lines { IfOk result
-            (λ told. KeepsLines walk.old self.old.lines line.now walk.new told self.new.lines) }
+            (λ told. RecordsOrigins walk.old self.old.lines line.now walk.new told self.new.lines) }
         ensures behind { IfOk result
             (λ told. let events = events_of_line walk.old.number walk.new told in
             IsExplanationText walk.old.step self.old.lines line.now events walk.new.step
@@ -184,7 +184,7 @@ impl Explained {
         };
         match self.keep(number, walk, &told) {
             Ok(()) => Ok(told),
-            Err(_) => Err(Stopped { ended: None }),
+            Err(_) => Err(OutOfMemoryAt { ended: None }),
         }
     }
 
@@ -199,7 +199,7 @@ impl Explained {
         ensures ran { ReturnsEvent (W.contents writer.old.inner) (W.contents writer.new.inner)
             walk.old line.now walk.new result }
         ensures lines { IfOk result
-            (λ told. KeepsLines walk.old self.old.lines line.now walk.new told self.new.lines) }
+            (λ told. RecordsOrigins walk.old self.old.lines line.now walk.new told self.new.lines) }
         ensures behind { IfOk result
             (λ told. let events = events_of_line walk.old.number walk.new told in
             IsExplanationText walk.old.step self.old.lines line.now events walk.new.step

@@ -13,7 +13,7 @@ use crate::explained::Explained;
 use crate::laws::explained_are_printings;
 use crate::run::{RunFault, run_source};
 use crate::source::Source;
-use crate::hints::Told;
+use crate::hints::AddressHints;
 use mvs_model::outcome::Outcome;
 use mvs_model::want::Placement;
 use mvs_model::watched::Watched;
@@ -28,7 +28,7 @@ pub fn explain_from<S: Source, W: Write>(
     reader: &mut S,
     writer: &mut Watched<W>,
     placement: Placement,
-    hints: Told,
+    hints: AddressHints,
 ) -> Result<Outcome, RunFault>
     requires reader { S.failed reader.old ≡ false }
     requires writer { writer.old.failed ≡ false }

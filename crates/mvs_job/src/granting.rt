@@ -27,7 +27,7 @@ use std::io::Write;
 
 /// What is looked at before a request.
 #[derive(Clone, Copy, Debug, PartialEq, Eq)]
-pub(crate) struct Before {
+pub(crate) struct Baseline {
     /// How many pages of each region hold nothing.
     pub(crate) below: u16,
     pub(crate) above: u16,
@@ -43,11 +43,11 @@ const MOST_FACTS: usize = 160;
 pub(crate) type Facts = ShortList<Fact, 0, MOST_FACTS>;
 
 // What is looked up before a request: whether the task has the subpool, and the number of parts of the pool.
-fn looked_at(job: &Job, had: bool, parts: u32) -> Before
+fn looked_at(job: &Job, had: bool, parts: u32) -> Baseline
     ensures { result ≡ looked_at job.now had parts }
 {
     let free = job.step().machine().free_pages();
-    Before {
+    Baseline {
         below: free.below,
         above: free.above,
         had,
@@ -73,7 +73,7 @@ fn parts_at(job: &Job, pool: &Name) -> u32
 }
 
 /// Returns what is looked up before the request of a task, or None if its changes are not reported.
-pub(crate) fn before_request(job: &Job, task: &Name, written: &Written) -> Option<Before>
+pub(crate) fn before_request(job: &Job, task: &Name, written: &Written) -> Option<Baseline>
     ensures { result ≡ before_request job.now task.now written.now }
 {
     match written {
@@ -86,7 +86,7 @@ pub(crate) fn before_request(job: &Job, task: &Name, written: &Written) -> Optio
         | Written::ReleaseWhole { .. }
         | Written::Delete { .. } => Some(looked_at(job, true, 0)),
         Written::Get { pool, .. } => Some(looked_at(job, true, parts_at(job, pool))),
-        Written::Attach { .. } => Some(Before {
+        Written::Attach { .. } => Some(Baseline {
             below: 0,
             above: 0,
             had: true,
@@ -122,7 +122,7 @@ fn area_fact(job: &Job, task: &Name, number: u8, area: &Name, least: u32, most: 
 }
 
 // That no greater length had a place.
-fn greater_fact(before: &Before, job: &Job, area: &Name, most: u32) -> Option<Fact>
+fn greater_fact(before: &Baseline, job: &Job, area: &Name, most: u32) -> Option<Fact>
     requires { most < 2 ^ 31 }
     ensures { result ≡ greater_fact before.now job.now area.now most }
 {
@@ -139,7 +139,7 @@ fn greater_fact(before: &Before, job: &Job, area: &Name, most: u32) -> Option<Fa
 }
 
 // A subpool that the task did not mean by the number before.
-fn subpool_fact(before: &Before, job: &Job, task: &Name, number: u8) -> Option<Fact>
+fn subpool_fact(before: &Baseline, job: &Job, task: &Name, number: u8) -> Option<Fact>
     ensures { result ≡ subpool_fact before.now job.now task.now number }
 {
     if before.had {
@@ -167,14 +167,14 @@ fn free_in(job: &Job) -> u32
 }
 
 // The pages that were taken.
-fn taken_fact(before: &Before, job: &Job) -> Fact
+fn taken_fact(before: &Baseline, job: &Job) -> Fact
     ensures { result ≡ taken_fact before.now job.now }
 {
     Fact::PagesTaken(sum(before.below, before.above).saturating_sub(free_in(job)))
 }
 
 // The pages that hold nothing any more.
-fn freed_fact(before: &Before, job: &Job) -> Option<Fact>
+fn freed_fact(before: &Baseline, job: &Job) -> Option<Fact>
     ensures { result ≡ freed_fact before.now job.now }
 {
     let freed = free_in(job).saturating_sub(sum(before.below, before.above));
@@ -195,7 +195,7 @@ fn emptied_fact(job: &Job, task: &Name, number: u8) -> Option<Fact>
 }
 
 // The last part of a pool that has another number of parts than before.
-fn part_fact(before: &Before, job: &Job, pool: &Name) -> Option<Fact>
+fn part_fact(before: &Baseline, job: &Job, pool: &Name) -> Option<Fact>
     ensures { result ≡ part_fact before.now job.now pool.now }
 {
     let Some(newest) = job.step().machine().newest(pool) else {
@@ -213,7 +213,7 @@ fn part_fact(before: &Before, job: &Job, pool: &Name) -> Option<Fact>
 }
 
 // The pages that were taken for it.
-fn part_pages(before: &Before, job: &Job, pool: &Name) -> Option<Fact>
+fn part_pages(before: &Baseline, job: &Job, pool: &Name) -> Option<Fact>
     ensures { result ≡ part_pages before.now job.now pool.now }
 {
     match part_fact(before, job, pool) {
@@ -315,7 +315,7 @@ fn put_subtask(facts: &mut Facts, job: &Job, mother: &Name, subtask: &Name)
 /// Puts what a task's request did that was granted in the place of other facts.
 pub(crate) fn put_facts(
     facts: &mut Facts,
-    before: &Before,
+    before: &Baseline,
     task: &Name,
     written: &Written,
     job: &Job,

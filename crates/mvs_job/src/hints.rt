@@ -9,14 +9,14 @@ use std::collections::HashMap;
 /// order, for CPOOL BUILD that of the first cell of the pool, for CPOOL GET that of the cell and, after it, that of the first cell
 /// of a part that is added for it. Other lines do not use hints.
 #[derive(Drop)]
-pub struct Told {
+pub struct AddressHints {
     lines: HashMap<u32, Vec<Addr>>,
 }
 
-impl Told {
+impl AddressHints {
     /// Makes an empty list of hints. It allocates no memory.
-    pub fn nothing(alloc: Global) -> Told {
-        Told {
+    pub fn nothing(alloc: Global) -> AddressHints {
+        AddressHints {
             lines: HashMap::new(alloc),
         }
     }

@@ -139,7 +139,7 @@ pub fn print_line<W: Write>(
 {
     match told {
         LineEvent::Nothing => Ok(()),
-        LineEvent::Began { ended: end, card } => {
+        LineEvent::StepBegan { ended: end, card } => {
             print_ended(writer, *end)?;
             print_region(writer, line_number, card)
         }

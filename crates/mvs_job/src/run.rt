@@ -14,8 +14,8 @@ ghost use Rattle.mvs_job.specs.Streams.{HasEnded, HasGivenUp};
 use crate::consumer::Consumer;
 use crate::printer::Printer;
 use crate::source::Source;
-use crate::stream::{Stream, Turn};
-use crate::hints::Told;
+use crate::stream::{Stream, Progress};
+use crate::hints::AddressHints;
 use mvs_model::numbers::MOST_SCRIPT_BYTES;
 use mvs_model::outcome::Outcome;
 use mvs_model::want::Placement;
@@ -61,7 +61,7 @@ pub fn run_source<S: Source, W: Write, C: Consumer>(
     reader: &mut S,
     writer: &mut Watched<W>,
     placement: Placement,
-    hints: Told,
+    hints: AddressHints,
     consumer: &mut C,
 ) -> Result<Outcome, RunFault>
     requires reader { S.failed reader.old ≡ false }
@@ -88,12 +88,12 @@ pub fn run_source<S: Source, W: Write, C: Consumer>(
     let mut count = 0usize;
     'reading: while count < MOST_SCRIPT_BYTES {
         let room = (MOST_SCRIPT_BYTES - count).min(CHUNK);
-        match stream.turn(reader, writer, consumer, &mut chunk[..room])? {
-            Turn::On(told) => count += told,
-            Turn::Ended(outcome) => return Ok(outcome),
+        match stream.pump(reader, writer, consumer, &mut chunk[..room])? {
+            Progress::On(told) => count += told,
+            Progress::Ended(outcome) => return Ok(outcome),
         }
     }
-    stream.last_turn(reader, writer, consumer)
+    stream.finish_stream(reader, writer, consumer)
 }
 
 /// Runs a script as it comes from any source, and prints it, as `run_job` does from a reader.
@@ -102,7 +102,7 @@ pub fn run_from<S: Source, W: Write>(
     reader: &mut S,
     writer: &mut Watched<W>,
     placement: Placement,
-    hints: Told,
+    hints: AddressHints,
 ) -> Result<Outcome, RunFault>
     requires reader { S.failed reader.old ≡ false }
     requires writer { writer.old.failed ≡ false }
@@ -157,7 +157,7 @@ pub fn run_job<R: Read, W: Write>(
     reader: &mut Watched<R>,
     writer: &mut Watched<W>,
     placement: Placement,
-    hints: Told,
+    hints: AddressHints,
 ) -> Result<Outcome, RunFault>
     requires reader { reader.old.failed ≡ false }
     requires writer { writer.old.failed ≡ false }

@@ -14,7 +14,7 @@ ghost use Rattle.mvs_job.specs.Why.{OfNext};
 ghost use Rattle.mvs_job.specs.Valued.{RequestsOf, WritesOf};
 
 use crate::apart::Explainer;
-use crate::walk::{Closing, LineEvent, Stopped, Walk};
+use crate::walk::{JobEnd, LineEvent, OutOfMemoryAt, Walk};
 use mvs_model::name::Name;
 use mvs_model::place::Place;
 use mvs_model::reason::LineReason;
@@ -77,7 +77,7 @@ impl Session {
 
     /// Executes one line, which is given without its newline, and returns its events. A fault ends the job, and so does want of
     /// memory.
-    pub fn line(&mut self, line: &[u8]) -> Result<LineEvent, Stopped>
+    pub fn line(&mut self, line: &[u8]) -> Result<LineEvent, OutOfMemoryAt>
         requires continues { self.old.continues ≡ true }
         requires number { self.old.walk.number + 1 < 2 ^ 32 }
         ensures told { MatchResult result (λ told. ServesAs self.old.walk line.now told self.new.walk)
@@ -104,7 +104,7 @@ impl Session {
         &mut self,
         explainer: &mut Explainer,
         line: &[u8],
-    ) -> Result<(LineEvent, Option<LineReason>), Stopped>
+    ) -> Result<(LineEvent, Option<LineReason>), OutOfMemoryAt>
         requires continues { self.old.continues ≡ true }
         requires number { self.old.walk.number + 1 < 2 ^ 32 }
         ensures told { MatchResult result
@@ -149,7 +149,7 @@ impl Session {
     }
 
     /// Ends a job that has no more lines, and answers how it ends.
-    pub fn close(&mut self) -> Closing
+    pub fn close(&mut self) -> JobEnd
         requires { self.old.continues ≡ true }
         ensures closed { Closes machine self.old.walk.number self.old.walk.step
             (closing self.old.walk.number result.ended) result.outcome }

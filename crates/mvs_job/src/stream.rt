@@ -11,7 +11,7 @@ use crate::driver::{run_end, run_entry};
 use crate::printing::Stop;
 use crate::run::RunFault;
 use crate::source::Source;
-use crate::hints::Told;
+use crate::hints::AddressHints;
 use crate::walk::Walk;
 use job_script::{LineBuffer, Pushed};
 use memchr::memchr;
@@ -23,7 +23,7 @@ use std::io::Write;
 
 /// What one read did.
 #[derive(Clone, Copy, Debug, PartialEq, Eq)]
-pub enum Turn {
+pub enum Progress {
     /// This number of bytes was consumed, and the job continues.
     On(usize),
     /// The job has ended.
@@ -36,7 +36,7 @@ pub struct Stream {
     walk: Walk,
     /// The consumed bytes of an incomplete line.
     line: LineBuffer,
-    told: Told,
+    told: AddressHints,
 }
 
 // What is written is passed on before a read that may wait.
@@ -85,7 +85,7 @@ pub(crate) fn fault_of(stop: Stop) -> RunFault
 
 impl Stream {
     /// A job before its first line.
-    pub fn new(alloc: Global, placement: Placement, told: Told) -> Stream
+    pub fn new(alloc: Global, placement: Placement, told: AddressHints) -> Stream
         ensures walk { result.walk ≡ new_walk }
         ensures line { result.line ≡ [] }
     {
@@ -287,29 +287,29 @@ impl Stream {
     }
 
     /// Reads into the chunk once, and consumes the bytes.
-    pub fn turn<S: Source, W: Write, C: Consumer>(
+    pub fn pump<S: Source, W: Write, C: Consumer>(
         &mut self,
         reader: &mut S,
         writer: &mut Watched<W>,
         consumer: &mut C,
         chunk: &mut [u8],
-    ) -> Result<Turn, RunFault>
+    ) -> Result<Progress, RunFault>
         requires room { length self.old.line < 256 }
         requires number { self.old.walk.number + length chunk.old + 1 < 2 ^ 32 }
         requires chunk { 0 < length chunk.old }
-        ensures turn { (first : C) (unread start : Option (List ℕ)) (count : ℕ)
+        ensures pump { (first : C) (unread start : Option (List ℕ)) (count : ℕ)
             → IsUnderWay C.piece (C.knows first) unread (S.left reader.old) start
             (W.contents writer.old.inner) count self.old.walk self.old.line consumer.old
             → MatchResult result
-            (λ turn. Takes C.piece (C.knows first) unread (S.left reader.new) start
+            (λ pump. Takes C.piece (C.knows first) unread (S.left reader.new) start
             (W.contents writer.new.inner) count (length chunk.old) self.new.walk
-            self.new.line consumer.new turn)
+            self.new.line consumer.new pump)
             (λ fault. HasGivenUp C.piece (C.knows first) unread (S.left reader.new) start
             (W.contents writer.new.inner) (count + length chunk.old) consumer.new fault) }
-        ensures on { (n : ℕ) → result ≡ Ok (Turn.On n)
+        ensures on { (n : ℕ) → result ≡ Ok (Progress.On n)
             → (0 < n) × (n ≤ length chunk.old) × (self.new.walk.number ≤ self.old.walk.number + n)
             × (length self.new.line < 256) }
-        ensures end { (outcome : Outcome) → result ≡ Ok (Turn.Ended outcome)
+        ensures end { (outcome : Outcome) → result ≡ Ok (Progress.Ended outcome)
             → (outcome ≢ Outcome.ScriptFault) → S.is_at_end reader.new }
         ensures since { (start : Option (List ℕ)) → S.since start reader.old → S.since start reader.new }
         ensures healthy { OnOk result
@@ -324,26 +324,26 @@ impl Stream {
         };
         if count == 0 {
             return match self.finish(writer, consumer) {
-                Ok(outcome) => Ok(Turn::Ended(outcome)),
+                Ok(outcome) => Ok(Progress::Ended(outcome)),
                 Err(stop) => Err(fault_of(stop)),
             };
         }
         match self.feed_all(&chunk[..count], writer, consumer) {
-            Ok(true) => Ok(Turn::On(count)),
-            Ok(false) => Ok(Turn::Ended(Outcome::ScriptFault)),
+            Ok(true) => Ok(Progress::On(count)),
+            Ok(false) => Ok(Progress::Ended(Outcome::ScriptFault)),
             Err(stop) => Err(fault_of(stop)),
         }
     }
 
     /// Makes the last read, of one byte: there is none, or the script is too long.
-    pub fn last_turn<S: Source, W: Write, C: Consumer>(
+    pub fn finish_stream<S: Source, W: Write, C: Consumer>(
         &mut self,
         reader: &mut S,
         writer: &mut Watched<W>,
         consumer: &mut C,
     ) -> Result<Outcome, RunFault>
         requires { self.old.walk.number + 1 < 2 ^ 32 }
-        ensures turn { (first : C) (unread start : Option (List ℕ)) (count : ℕ)
+        ensures pump { (first : C) (unread start : Option (List ℕ)) (count : ℕ)
             → IsUnderWay C.piece (C.knows first) unread (S.left reader.old) start
             (W.contents writer.old.inner) count self.old.walk self.old.line consumer.old
             → MatchResult result

@@ -28,7 +28,7 @@ use std::io::Write;
 
 /// Why a line was not served.
 #[derive(Clone, Copy, Debug, PartialEq, Eq)]
-pub enum Unserved {
+pub enum SkipReason {
     /// Its task was not active.
     NotRun,
     /// A name in it was not set.
@@ -36,30 +36,30 @@ pub enum Unserved {
 }
 
 /// An observer of lines that were not executed.
-pub trait Hears {
+pub trait SkipObserver {
     // The lines that were heard of, where that is known.
     ghost heard: { Self → Option (List Skipped) };
 
     /// Is called for a line, with its text without the newline and its number. The job is as before the line.
-    fn hear(&mut self, walk: &Walk, line_number: u32, line: &[u8], why: Unserved)
+    fn on_skipped(&mut self, walk: &Walk, line_number: u32, line: &[u8], why: SkipReason)
         ensures { Grows (heard self.old) (heard self.new)
             (record { number = line_number; line = line.now; why = why } ∷ []) };
 }
 
 /// How a job ended, and whether each line was served.
 #[derive(Clone, Copy, Debug, PartialEq, Eq)]
-pub struct StrictEnd {
+pub struct StrictOutcome {
     pub outcome: Outcome,
     pub all_served: bool,
 }
 
 // Why a statement that is answered so was not served, if it was not.
-fn why_unserved(answer: &Answer) -> Option<Unserved>
+fn why_unserved(answer: &Answer) -> Option<SkipReason>
     ensures { result ≡ why_unserved answer.now }
 {
     match answer {
-        Answer::NotRun => Some(Unserved::NotRun),
-        Answer::NoName => Some(Unserved::NoName),
+        Answer::NotRun => Some(SkipReason::NotRun),
+        Answer::NoName => Some(SkipReason::NoName),
         Answer::At(_)
         | Answer::Rc0
         | Answer::Granted(_)
@@ -77,7 +77,7 @@ fn why_unserved(answer: &Answer) -> Option<Unserved>
 }
 
 // Returns why a line was not executed, by its events, if it was not.
-fn why_of(walk: &Walk, told: &LineEvent) -> Option<Unserved>
+fn why_of(walk: &Walk, told: &LineEvent) -> Option<SkipReason>
     requires { IsAvailable walk.now told.now }
     ensures served { (number : ℕ)
         → list_all is_of_served (events_of_line number walk.now told.now) ≡ not (is_some result) }
@@ -87,7 +87,7 @@ fn why_of(walk: &Walk, told: &LineEvent) -> Option<Unserved>
 {
     match told {
         LineEvent::Answered { answer, .. } => why_unserved(answer),
-        LineEvent::Nothing | LineEvent::Began { .. } | LineEvent::Faulted(_) => None,
+        LineEvent::Nothing | LineEvent::StepBegan { .. } | LineEvent::Faulted(_) => None,
     }
 }
 
@@ -121,7 +121,7 @@ impl<'a, C, H> Strict<'a, C, H> {
     }
 }
 
-impl<'a, C: Consumer, H: Hears> Observer for Strict<'a, C, H> {
+impl<'a, C: Consumer, H: SkipObserver> Observer for Strict<'a, C, H> {
     ghost heard = { λ old job t request refusal left new.
         C.heard old.consumer.now job t request refusal left new.consumer.now
         × (new.hearer ≡ old.hearer) × (new.all_served ≡ old.all_served) };
@@ -138,7 +138,7 @@ impl<'a, C: Consumer, H: Hears> Observer for Strict<'a, C, H> {
     }
 }
 
-impl<'a, C: Consumer, H: Hears> Consumer for Strict<'a, C, H> {
+impl<'a, C: Consumer, H: SkipObserver> Consumer for Strict<'a, C, H> {
     ghost piece = { C.piece };
 
     ghost knows = { λ first. record {
@@ -167,7 +167,7 @@ impl<'a, C: Consumer, H: Hears> Consumer for Strict<'a, C, H> {
     ) -> Result<(), Stop> {
         self.consumer.entry(writer, line_number, line, walk, told)?;
         if let Some(why) = why_of(walk, told) {
-            self.hearer.hear(walk, line_number, line, why);
+            self.hearer.on_skipped(walk, line_number, line, why);
             self.all_served = false;
         }
         Ok(())
@@ -185,14 +185,14 @@ impl<'a, C: Consumer, H: Hears> Consumer for Strict<'a, C, H> {
 
 /// Runs a script, gives each entry of the run to a consumer, and lets each line be heard of that was not executed. The script has
 /// at most 16,777,215 bytes.
-pub fn run_observed<W: Write, H: Hears, C: Consumer>(
+pub fn run_observed<W: Write, H: SkipObserver, C: Consumer>(
     alloc: Global,
     script: &[u8],
     writer: &mut Watched<W>,
     placement: Placement,
     consumer: &mut C,
     hearer: &mut H,
-) -> Result<StrictEnd, Stop>
+) -> Result<StrictOutcome, Stop>
     requires script { length script.now ≤ most_script_bytes }
     requires new { (C.knows consumer.old).has consumer.old [] }
     // What is written is what the consumer writes for a trace of the script, in which each line was executed, or not; and what is heard
@@ -211,20 +211,20 @@ pub fn run_observed<W: Write, H: Hears, C: Consumer>(
 {
     let mut strict = Strict::new(consumer, hearer);
     let outcome = run_lines(alloc, script, writer, placement, &mut strict)?;
-    Ok(StrictEnd {
+    Ok(StrictOutcome {
         outcome,
         all_served: strict.all_served,
     })
 }
 
 /// Runs a script, prints what it prints, and lets each line be heard of that was not served. It takes 16,777,215 bytes at most.
-pub fn run_strictly<W: Write, H: Hears>(
+pub fn run_strictly<W: Write, H: SkipObserver>(
     alloc: Global,
     script: &[u8],
     writer: &mut Watched<W>,
     placement: Placement,
     hearer: &mut H,
-) -> Result<StrictEnd, Stop>
+) -> Result<StrictOutcome, Stop>
     requires { length script.now ≤ most_script_bytes }
     // What is written is the printing of a run of the script, in which each line was served, or not; and what is heard of is each line that
     // was not, by its number, its text and the cause, in their order, and nothing else.

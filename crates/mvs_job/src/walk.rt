@@ -38,7 +38,7 @@ pub enum LineEvent {
     Nothing,
     /// A REGION statement: the step that ran, if one did, has ended, and a task of it had abended or not; and another one has
     /// begun.
-    Began { ended: Option<bool>, card: Card },
+    StepBegan { ended: Option<bool>, card: Card },
     /// A statement of a task, in a step.
     Answered { task: Name, answer: Answer },
     /// The line has a fault, which ends the job.
@@ -49,14 +49,14 @@ pub enum LineEvent {
 /// abended.
 #[derive(Clone, Copy, Debug, PartialEq, Eq, Error)]
 #[error("{}", RunFault::Memory)]
-pub struct Stopped {
+pub struct OutOfMemoryAt {
     pub ended: Option<bool>,
 }
 
 /// How a job ends that has no more lines: its step ends, and a task of it had abended or not; where no step has begun, the
 /// script lacks its REGION statement.
 #[derive(Clone, Copy, Debug, PartialEq, Eq)]
-pub struct Closing {
+pub struct JobEnd {
     pub ended: Option<bool>,
     pub outcome: Outcome,
 }
@@ -129,7 +129,7 @@ fn begin(
     alloc: Global,
     placement: Placement,
     card: &Card,
-) -> Result<Option<bool>, Stopped>
+) -> Result<Option<bool>, OutOfMemoryAt>
     requires { IsCard card.now }
     ensures { MatchResult result
         (λ ended. (ended ≡ end_of_step job.old)
@@ -144,7 +144,7 @@ fn begin(
             *job = Some(next);
             Ok(ended)
         }
-        Err(_) => Err(Stopped { ended }),
+        Err(_) => Err(OutOfMemoryAt { ended }),
     }
 }
 
@@ -222,7 +222,7 @@ impl Walk {
 
     /// Executes one line, which is given without its newline. Areas and cells are placed at the hinted addresses if the machine
     /// allows that.
-    pub fn line(&mut self, line: &[u8], told: &[Addr]) -> Result<LineEvent, Stopped>
+    pub fn line(&mut self, line: &[u8], told: &[Addr]) -> Result<LineEvent, OutOfMemoryAt>
         requires { self.old.number + 1 < 2 ^ 32 }
         ensures told { MatchResult result (λ answered. ServesAsUnder (Takes told.now) self.old line.now answered self.new)
             (λ stopped. StopsForMemory self.old.number self.old.step (line.now ∷ [])
@@ -241,7 +241,7 @@ impl Walk {
         line: &[u8],
         told: &[Addr],
         observer: &mut O,
-    ) -> Result<LineEvent, Stopped>
+    ) -> Result<LineEvent, OutOfMemoryAt>
         requires { self.old.number + 1 < 2 ^ 32 }
         ensures told { MatchResult result (λ answered. ServesAsUnder (Takes told.now) self.old line.now answered self.new)
             (λ stopped. StopsForMemory self.old.number self.old.step (line.now ∷ [])
@@ -265,7 +265,7 @@ impl Walk {
         };
         if let Some(card) = card_of(task, statement) {
             return match begin(&mut self.job, self.alloc, self.placement, &card) {
-                Ok(ended) => Ok(LineEvent::Began { ended, card }),
+                Ok(ended) => Ok(LineEvent::StepBegan { ended, card }),
                 Err(stopped) => Err(stopped),
             };
         }
@@ -281,7 +281,7 @@ impl Walk {
             observer,
         );
         let Ok(answer) = served else {
-            return Err(Stopped { ended: None });
+            return Err(OutOfMemoryAt { ended: None });
         };
         Ok(LineEvent::Answered {
             task: *task,
@@ -290,7 +290,7 @@ impl Walk {
     }
 
     /// How the job ends, if it has no more lines.
-    pub fn close(&self) -> Closing
+    pub fn close(&self) -> JobEnd
         ensures { Closes machine self.now.number self.now.step
             (closing self.now.number result.ended) result.outcome }
     {
@@ -299,7 +299,7 @@ impl Walk {
             Some(job) if job.any_abended() => Outcome::SomeAbend,
             Some(_) => Outcome::Clean,
         };
-        Closing {
+        JobEnd {
             ended: end_of(&self.job),
             outcome,
         }

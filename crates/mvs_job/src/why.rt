@@ -7,8 +7,8 @@ ghost use Rattle.mvs_job.specs.Granting.{IsReadIn, before_line, granted_text, re
 ghost use Rattle.mvs_job.specs.LineEvents.{IsAvailable, WalkValue, events_of_line};
 ghost use Rattle.mvs_job.specs.Why.{IsRequestOf, IsSurvey, KeepsWhy, line_reason, unset_of};
 
-use crate::ends::{OwnedSubpools, no_subpools, put_owned};
-use crate::granting::{Before, Facts, before_request, is_grant, no_facts, print_facts, put_facts};
+use crate::ends::{OwnedSubpools, no_subpools, collect_owned_subpools};
+use crate::granting::{Baseline, Facts, before_request, is_grant, no_facts, print_facts, put_facts};
 use crate::job::Job;
 use crate::observer::Observer;
 use crate::walk::{LineEvent, Walk};
@@ -24,7 +24,7 @@ use mvs_model::watched::{Failed, Watched};
 use std::io::Write;
 
 // Returns what is looked up before a line, to report its changes.
-fn before_line(job: &Job, read: &Line) -> Option<Before>
+fn before_line(job: &Job, read: &Line) -> Option<Baseline>
     ensures { result ≡ before_line (Some job.now) read.now }
 {
     match read {
@@ -47,7 +47,7 @@ pub(crate) fn reports_grant(told: &LineEvent) -> bool
 {
     match told {
         LineEvent::Answered { answer, .. } => is_grant(answer),
-        LineEvent::Nothing | LineEvent::Began { .. } | LineEvent::Faulted(_) => false,
+        LineEvent::Nothing | LineEvent::StepBegan { .. } | LineEvent::Faulted(_) => false,
     }
 }
 
@@ -82,7 +82,7 @@ pub struct Why {
     pub(crate) request: Request,
     pub(crate) facts: Facts,
     /// What is looked up before the request, to report its changes.
-    pub(crate) before: Option<Before>,
+    pub(crate) before: Option<Baseline>,
     /// The subpools that tasks own before a task ends.
     pub(crate) subpools: OwnedSubpools,
     /// Why the request was refused.
@@ -103,7 +103,7 @@ impl Observer for Why {
         self.reason = Some(job.step().details(task, request, refusal, left));
         resolve(job, &self.read, &mut self.request);
         if let Consequence::Abend(_) = reply_to(request, refusal) {
-            put_owned(job, task, &mut self.subpools);
+            collect_owned_subpools(job, task, &mut self.subpools);
         }
     }
 }
@@ -136,7 +136,7 @@ impl Why {
         };
         self.before = before_line(job, &self.read);
         if let Line::Statement(task, Statement::Request(Written::Return)) = &self.read {
-            put_owned(job, task, &mut self.subpools);
+            collect_owned_subpools(job, task, &mut self.subpools);
         }
     }
 

@@ -14,7 +14,7 @@ use Rattle.mvs_model.specs.State.{State, Holding, subpool_in}
 use Rattle.mvs_model.specs.Start.{start}
 use Rattle.mvs_model.specs.Requests.{IsRequest}
 use Rattle.mvs_model.specs.WellFormed.{PoolsSized}
-use Rattle.mvs_model.specs.Answers.{Answer, NotRun, Region, Event, Told, Faulted}
+use Rattle.mvs_model.specs.Answers.{Answer, NotRun, Region, Event, AnswerTo, Faulted}
 use Rattle.mvs_model.specs.Texts.{printing}
 use Rattle.mvs_model.specs.Job.{JobValue}
 use Rattle.mvs_model.specs.Lines.{lines_of, card_of, IsStatement, IsLine}
@@ -123,7 +123,7 @@ does_some old t s i r all =
 step_served : (number : ℕ) (job : JobValue) (t : Name) (s : Statement) → IsOfStep s → IsStatement false t s → PoolsSized job.state → (events : List Event) × (new : Option JobValue) × Serves machine number (Some job) (line.Statement t s) events new
 step_served number job t s i r all =
     let d = does_some job t s i r all in
-    (_, _, steps_serve machine number job t s (Told number t d.0 ∷ []) (Some d.1) i (d.0, d.1, d.2, refl, refl))
+    (_, _, steps_serve machine number job t s (AnswerTo number t d.0 ∷ []) (Some d.1) i (d.0, d.1, d.2, refl, refl))
 
 serves_some : (number : ℕ) (old : Option JobValue) (l : Line) → IsLine (is_first old) (Ok l) → Sized old → (events : List Event) × (new : Option JobValue) × Serves machine number old l events new
 serves_some number old line.Nothing r all = ([], old, (refl, refl))
@@ -207,7 +207,7 @@ module _ (all : List (List ℕ)) where
     at : (old : Option JobValue) (said : Line) → Reaches all events number old (l ∷ lines) → LineOf (is_first old) l said → TakesMemory old said more → Front (printing events ++ printing more)
     at old (line.Statement t (says.Region below above fill residence)) r is e =
         let card = card_of t below above fill residence in
-        let told = Told number t (Region card) ∷ [] in
+        let told = AnswerTo number t (Region card) ∷ [] in
         let said = line.Statement t (says.Region below above fill residence) in
         front_in_line events (ending machine old ++ told) (printing more) (printing told) number old _ l lines (printed_both (ending machine old) told ∙ ap (λ x. printing x ++ printing told) (sym e)) r (said, is, (refl, refl))
     at (Some job) (line.Statement t (says.Request a)) r is h = none (Some job) r h.0

@@ -24,7 +24,7 @@ use Rattle.mvs_model.specs.Consequences.{Refuses}
 use Rattle.mvs_model.specs.Steps.{Step}
 use Rattle.mvs_model.specs.WellFormed.{PoolsSized}
 use Rattle.mvs_laws.specs.Going.{Sized}
-use Rattle.mvs_model.specs.Answers.{Answer, Region, Event, Told}
+use Rattle.mvs_model.specs.Answers.{Answer, Region, Event, AnswerTo}
 use Rattle.mvs_model.specs.Answers as tells
 use Rattle.mvs_model.specs.Job.{JobValue, job_at}
 use Rattle.mvs_model.specs.Lines.{card_of, IsWritten}
@@ -118,7 +118,7 @@ lines_full [] (s ∷ ss) number old r all sized = absurd r
 lines_full (l ∷ lines) [] number old r all sized = absurd r
 lines_full (l ∷ lines) ((t, says.Request a) ∷ ss) number old r all sized =
     let d = does_full old t a all.0 all.1 sized in
-    let first = Told number t d.0 ∷ [] in
+    let first = AnswerTo number t d.0 ∷ [] in
     let serves : ServesLine (job_machine InFull) number (Some old) l first (Some d.1) = (line.Statement t (says.Request a), r.0, (d.0, d.1, d.2, refl, refl)) in
     let more = lines_full lines ss (number + 1) d.1 r.1 all.2 (line_sized number (Some old) l first (Some d.1) serves sized) in
     (first ++ more.0, more.1, inr (Some d.1, first, more.0, serves, refl, more.2))
@@ -185,8 +185,8 @@ full_from [] r = absurd r
 full_from (l ∷ []) r = absurd r.1
 full_from (l ∷ k ∷ lines) r =
     let d = obtain_does in
-    let began = Told 1 job (Region (card_of job 1 0 0 Below)) ∷ [] in
-    let first = Told 2 job d.0 ∷ [] in
+    let began = AnswerTo 1 job (Region (card_of job 1 0 0 Below)) ∷ [] in
+    let first = AnswerTo 2 job d.0 ∷ [] in
     let serves : ServesLine (job_machine InFull) 2 (Some at_start) k first (Some d.1) = (line.Statement job (says.Request obtain_x), r.1.0, (d.0, d.1, d.2, refl, refl)) in
     let more = lines_full lines _ 3 d.1 r.1.1 (tt, tt, (tt, tt, (tt, tt, (tt, tt, (tt, tt, tt))))) (line_sized 2 (Some at_start) k first (Some d.1) serves (start_sized (card_of job 1 0 0 Below))) in (
       began ++ (first ++ more.0),

@@ -3,7 +3,7 @@ use Rattle.std.proofs.Common.{◌≡◌, ℕ, ◌+◌, inl, inr, Bool, List, [],
 use Rattle.mvs_laws.proofs.Types.{Name, Line, Statement, Outcome}
 use Rattle.mvs_model.specs.declared.line.Line.TheVariants as line
 use Rattle.mvs_model.specs.Card.{CardValue}
-use Rattle.mvs_model.specs.Answers.{Answer, Event, Told, Faulted}
+use Rattle.mvs_model.specs.Answers.{Answer, Event, AnswerTo, Faulted}
 use Rattle.mvs_model.specs.Walk.{Machine, is_first, Serves, ServesLine, Faults, Walks, JobEnds}
 use Rattle.mvs_laws.proofs.Walking.{IsOfStep, served_first, served_in}
 use Rattle.mvs_model.proofs.Reading.{one_reading}
@@ -30,7 +30,7 @@ module _ {J : Type 0} (starts : CardValue → Bool → J) (abended former : J �
       (λ below above fill residence y x. (x.0 ∙ sym y.0, x.1 ∙ sym y.1))
       (λ s of_step y x. served_in n (λ s. IsOfStep s × does number j t s x.0 x.1) (λ _. (events ≡ other) × (a ≡ b)) number j t s other b y (of_step, x.2)
       (λ below above fill residence i y. absurd i.0)
-      (λ s of_step i y. let d = alike number j t s x.0 y.0 x.1 y.1 i.1 y.2 in (x.3 ∙ ap (λ answer. Told number t answer ∷ []) d.0 ∙ sym y.3, x.4 ∙ ap Some d.1 ∙ sym y.4)))
+      (λ s of_step i y. let d = alike number j t s x.0 y.0 x.1 y.1 i.1 y.2 in (x.3 ∙ ap (λ answer. AnswerTo number t answer ∷ []) d.0 ∙ sym y.3, x.4 ∙ ap Some d.1 ∙ sym y.4)))
 
   -- a line says one thing or has one fault
   pub line_one : Alike → (number : ℕ) (old : Option J) (l : List ℕ) (events other : List Event) (a b : Option J) → ServesLine m number old l events a → ServesLine n number old l other b → (events ≡ other) × (a ≡ b)

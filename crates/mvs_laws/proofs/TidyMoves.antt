@@ -12,7 +12,7 @@ use Rattle.mvs_model.specs.declared.line.Statement.TheVariants as says
 use Rattle.mvs_model.specs.declared.line.Written.TheVariants as written
 use Rattle.mvs_model.specs.declared.code.Form.TheVariants as form
 use Rattle.mvs_model.specs.Answers as tells
-use Rattle.mvs_model.specs.Answers.{Answer, Region, Event, Told, StepEnded}
+use Rattle.mvs_model.specs.Answers.{Answer, Region, Event, AnswerTo, StepEnded}
 use Rattle.mvs_model.specs.Walk.{ServesLine, Walks, JobEnds}
 use Rattle.mvs_model.specs.Name.{name_cmp}
 use Rattle.mvs_model.specs.Finite.{all_below, has}
@@ -41,7 +41,7 @@ Answers old (s ∷ ss) (a ∷ answers) new = IsOfStep s.1 × IsTidy old s.0 s.1 
 abbrev pub told : ℕ → List (Name × Statement) → List Answer → List Event
 told number [] answers = []
 told number (s ∷ ss) [] = []
-told number (s ∷ ss) (a ∷ answers) = Told number s.0 a ∷ told (number + 1) ss answers
+told number (s ∷ ss) (a ∷ answers) = AnswerTo number s.0 a ∷ told (number + 1) ss answers
 
 -- what a line says that is read so is tidy
 line_tidy : (m : Labels) (l : List ℕ) (t : Name) (s : Statement) → LineOf false l (line.Statement t s) → IsTidy m t s → TidyLine (Some m) l
@@ -59,10 +59,10 @@ walked (l ∷ lines) [] answers number old new r w = absurd r
 walked (l ∷ lines) (s ∷ ss) [] number old new r w = absurd w
 walked (l ∷ lines) (s ∷ ss) (a ∷ answers) number old new r w =
     let mid = w.2.0 in
-    let serves : ServesLine label_machine number (Some old) l (Told number s.0 a ∷ []) (Some mid) = (line.Statement s.0 s.1, r.0, steps_serve label_machine number old s.0 s.1 (Told number s.0 a ∷ []) (Some mid) w.0 (a, mid, w.2.1, refl, refl)) in
+    let serves : ServesLine label_machine number (Some old) l (AnswerTo number s.0 a ∷ []) (Some mid) = (line.Statement s.0 s.1, r.0, steps_serve label_machine number old s.0 s.1 (AnswerTo number s.0 a ∷ []) (Some mid) w.0 (a, mid, w.2.1, refl, refl)) in
     let rest = walked lines ss answers (number + 1) mid new r.1 w.2.2 in (
-      (line_tidy old l s.0 s.1 r.0 w.1, λ events later h. subst (λ m. TidyLines (number + 1) m lines) (line_one number (Some old) l (Told number s.0 a ∷ []) events (Some mid) later serves h).1 rest.0),
-      inr (Some mid, Told number s.0 a ∷ [], told (number + 1) ss answers ++ StepEnded new.abended ∷ [], serves, refl, rest.1),
+      (line_tidy old l s.0 s.1 r.0 w.1, λ events later h. subst (λ m. TidyLines (number + 1) m lines) (line_one number (Some old) l (AnswerTo number s.0 a ∷ []) events (Some mid) later serves h).1 rest.0),
+      inr (Some mid, AnswerTo number s.0 a ∷ [], told (number + 1) ss answers ++ StepEnded new.abended ∷ [], serves, refl, rest.1),
     )
 
 -- the labels at the start of the examples
@@ -71,7 +71,7 @@ moves_start = first_labels (card_of job 1 0 0 Below) false
 
 -- all that is told of an example
 abbrev pub all_told : List (Name × Statement) → List Answer → Bool → List Event
-all_told ss answers abended = Told 1 job (Region (card_of job 1 0 0 Below)) ∷ told 2 ss answers ++ StepEnded abended ∷ []
+all_told ss answers abended = AnswerTo 1 job (Region (card_of job 1 0 0 Below)) ∷ told 2 ss answers ++ StepEnded abended ∷ []
 
 pub shows : (ss : List (Name × Statement)) (answers : List Answer) (new : Labels) (abended : Bool) → new.abended ≡ abended → Answers moves_start ss answers new
     → ShowsTidy ((job, one_page) ∷ ss) (printing (all_told ss answers abended))
@@ -79,9 +79,9 @@ shows ss answers new abended e w script r = at (lines_of script) r where
   at : (lines : List (List ℕ)) → ReadsAs true lines ((job, one_page) ∷ ss) → TidyLines 1 None lines × ((told : List Event) × (outcome : Outcome) × Walks label_machine (JobEnds label_machine outcome) 1 None lines told × (printing (all_told ss answers abended) ≡ printing told))
   at [] r = absurd r
   at (l ∷ lines) r =
-      let serves : ServesLine label_machine 1 None l (Told 1 job (Region (card_of job 1 0 0 Below)) ∷ []) (Some moves_start) = (line.Statement job one_page, r.0, (refl, refl)) in
+      let serves : ServesLine label_machine 1 None l (AnswerTo 1 job (Region (card_of job 1 0 0 Below)) ∷ []) (Some moves_start) = (line.Statement job one_page, r.0, (refl, refl)) in
       let rest = walked lines ss answers 2 moves_start new r.1 w in (
-        (tt, λ told later h. subst (λ m. TidyLines 2 m lines) (line_one 1 None l (Told 1 job (Region (card_of job 1 0 0 Below)) ∷ []) told (Some moves_start) later serves h).1 rest.0),
+        (tt, λ told later h. subst (λ m. TidyLines 2 m lines) (line_one 1 None l (AnswerTo 1 job (Region (card_of job 1 0 0 Below)) ∷ []) told (Some moves_start) later serves h).1 rest.0),
         (all_told ss answers new.abended, outcome_of new, inr (Some moves_start, _, _, serves, refl, rest.1), ap (λ b. printing (all_told ss answers b)) (sym e)),
       )
 

@@ -6,7 +6,7 @@ use Rattle.mvs_model.specs.declared.line.Line.TheVariants as line
 use Rattle.mvs_model.specs.declared.line.Statement.TheVariants as says
 use Rattle.mvs_model.specs.Card.{CardValue}
 use Rattle.mvs_model.specs.Lines.{card_of}
-use Rattle.mvs_model.specs.Answers.{Answer, Region, Event, Told}
+use Rattle.mvs_model.specs.Answers.{Answer, Region, Event, AnswerTo}
 use Rattle.mvs_model.specs.Walk.{Machine, has_abended, ending, Serves, ServesLine, Stop, Walks, Arrives, Leads}
 
 -- a statement other than REGION
@@ -17,11 +17,11 @@ IsOfStep s = Unit {0}
 module _ {J : Type 0} (m : Machine J) where
   -- a REGION statement is served so
   abbrev pub Turns : ℕ → Option J → Name → CardValue → List Event → Option J → Type 0
-  Turns number old t card events new = (events ≡ ending m old ++ Told number t (Region card) ∷ []) × (new ≡ Some (m.starts card (has_abended m old)))
+  Turns number old t card events new = (events ≡ ending m old ++ AnswerTo number t (Region card) ∷ []) × (new ≡ Some (m.starts card (has_abended m old)))
 
   -- and every other one so
   abbrev pub Steps : ℕ → J → Name → Statement → List Event → Option J → Type 0
-  Steps number step t s events new = (answer : Answer) × (later : J) × m.does number step t s answer later × (events ≡ Told number t answer ∷ []) × (new ≡ Some later)
+  Steps number step t s events new = (answer : Answer) × (later : J) × m.does number step t s answer later × (events ≡ AnswerTo number t answer ∷ []) × (new ≡ Some later)
 
   pub served_first : (Q : Statement → Type 0) (R : Statement → Type 0) (number : ℕ) (t : Name) (s : Statement) (events : List Event) (new : Option J)
       → Serves m number None (line.Statement t s) events new → Q s

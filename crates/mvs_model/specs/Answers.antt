@@ -29,6 +29,6 @@ pub data Answer : Type 0 where
 -- An event of a job: the answer to a statement, with the number of its line and its task; the end of a step, and whether a task of
 -- it abended; the fault of a line, which ends the job.
 pub data Event : Type 0 where
-  Told : ℕ → Name → Answer → Event
+  AnswerTo : ℕ → Name → Answer → Event
   StepEnded : Bool → Event
   Faulted : ℕ → Fault → Event

@@ -11,7 +11,7 @@ use Rattle.mvs_model.specs.declared.report.MapRun.{MapRun}
 use Rattle.mvs_model.specs.Name.{trimmed}
 use Rattle.mvs_model.specs.Card.{CardValue}
 use Rattle.mvs_model.specs.Numbers.{line_bytes}
-use Rattle.mvs_model.specs.Answers.{Answer, NotRun, NoName, At, Rc0, Granted, Rc4, Cell, NoCell, Attached, Ended, Done, Data, Abended, Subpools, Map, Region, Event, Told, StepEnded, Faulted}
+use Rattle.mvs_model.specs.Answers.{Answer, NotRun, NoName, At, Rc0, Granted, Rc4, Cell, NoCell, Attached, Ended, Done, Data, Abended, Subpools, Map, Region, Event, AnswerTo, StepEnded, Faulted}
 
 -- the glyph of a digit, in upper case
 abbrev pub glyph : ℕ → ℕ
@@ -115,7 +115,7 @@ fault_text number fault = decimal number ++ codes " JS0" ++ decimal (fault_numbe
 
 -- what is printed for an event
 abbrev pub text_of : Event → List ℕ
-text_of (Told number t answer) = answer_text number t answer
+text_of (AnswerTo number t answer) = answer_text number t answer
 text_of (StepEnded abended) = step_ended abended
 text_of (Faulted number fault) = fault_text number fault
 

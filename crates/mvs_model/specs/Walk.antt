@@ -10,7 +10,7 @@ use Rattle.mvs_model.specs.declared.line.Fault.TheVariants.{OutOfPlace}
 use Rattle.mvs_model.specs.declared.outcome.Outcome.{Outcome}
 use Rattle.mvs_model.specs.declared.outcome.Outcome.TheVariants.{Clean, SomeAbend, ScriptFault}
 use Rattle.mvs_model.specs.Card.{CardValue}
-use Rattle.mvs_model.specs.Answers.{Answer, Region, Event, Told, StepEnded, Faulted}
+use Rattle.mvs_model.specs.Answers.{Answer, Region, Event, AnswerTo, StepEnded, Faulted}
 use Rattle.mvs_model.specs.Lines.{card_of}
 use Rattle.mvs_model.specs.Reading.{LineOf, FaultOf}
 
@@ -43,11 +43,11 @@ ending m (Some step) = StepEnded (m.abended step) ∷ []
 abbrev pub Serves : {J : Type 0} → Machine J → ℕ → Option J → Line → List Event → Option J → Type 0
 Serves m number old line.Nothing events new = (events ≡ []) × (new ≡ old)
 Serves m number old (line.Statement t (says.Region below above fill residence)) events new =
-    (events ≡ ending m old ++ Told number t (Region (card_of t below above fill residence)) ∷ [])
+    (events ≡ ending m old ++ AnswerTo number t (Region (card_of t below above fill residence)) ∷ [])
     × (new ≡ Some (m.starts (card_of t below above fill residence) (has_abended m old)))
 Serves m number None (line.Statement t s) events new = ⊥
 Serves {J} m number (Some step) (line.Statement t s) events new =
-    (answer : Answer) × (later : J) × m.does number step t s answer later × (events ≡ Told number t answer ∷ []) × (new ≡ Some later)
+    (answer : Answer) × (later : J) × m.does number step t s answer later × (events ≡ AnswerTo number t answer ∷ []) × (new ≡ Some later)
 
 -- the events of the text of a line
 abbrev pub ServesLine : {J : Type 0} → Machine J → ℕ → Option J → List ℕ → List Event → Option J → Type 0

@@ -5,7 +5,7 @@ ghost use Rattle.std.specs.Option.{option_map};
 ghost use Rattle.mvsjob.specs.Endings.{cause_of, gave_up, strict_ending, status_of, text_of};
 
 use judge::Finding;
-use mvs_job::{RunFault, Stop, StrictEnd};
+use mvs_job::{RunFault, Stop, StrictOutcome};
 use mvs_model::outcome::Outcome;
 use std::io::ErrorKind;
 use thiserror::Error;
@@ -120,7 +120,7 @@ pub enum Ending {
 
 impl Ending {
     /// Returns how a strict run ends.
-    pub fn of_strict(end: StrictEnd) -> Ending
+    pub fn of_strict(end: StrictOutcome) -> Ending
         ensures { result ≡ strict_ending end.outcome end.all_served }
     {
         match end.outcome {

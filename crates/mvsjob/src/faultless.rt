@@ -11,7 +11,7 @@ ghost use Rattle.mvsjob.specs.Faultless.{HasRead, StopsWithin, Writes, WritesPar
 
 use crate::faulty::is_blank_or_comment;
 use job_script::{LineBuffer, read_line};
-use mvs_job::{Consumer, Printer, RunFault, Source, Told, run_source};
+use mvs_job::{Consumer, Printer, RunFault, Source, AddressHints, run_source};
 use mvs_model::line::{Fault, Line};
 use mvs_model::numbers::MOST_SCRIPT_BYTES;
 use mvs_model::outcome::Outcome;
@@ -26,13 +26,13 @@ const ROOM: usize = 256;
 /// Who listens to how the lines come.
 pub trait Listens {
     /// A line is awaited, which has this number if it has no fault.
-    fn await_line(&mut self, line_number: u32);
+    fn on_prompt(&mut self, line_number: u32);
 
     /// A line has this fault, and is skipped. If it is too long, these are its first 256 bytes.
-    fn hear(&mut self, line_number: u32, line: &[u8], fault: Fault);
+    fn on_fault(&mut self, line_number: u32, line: &[u8], fault: Fault);
 
     /// There is no more.
-    fn end(&mut self);
+    fn on_eof(&mut self);
 }
 
 /// The line that comes.
@@ -98,7 +98,7 @@ impl Lines {
                 self.number = self.number.saturating_add(1);
             }
             Err(fault) => {
-                listener.hear(self.number, self.line.bytes(), fault);
+                listener.on_fault(self.number, self.line.bytes(), fault);
                 self.line.clear();
             }
         }
@@ -138,7 +138,7 @@ impl Lines {
     // Says that a line is awaited, where nothing of it was read.
     fn announce<L: Listens>(&self, listener: &mut L) {
         if self.line.bytes().is_empty() {
-            listener.await_line(self.number);
+            listener.on_prompt(self.number);
         }
     }
 
@@ -216,7 +216,7 @@ impl<R: Read, L: Listens> Faultless<R, L> {
     {
         let mut byte = [0u8; 1];
         if self.inner.read(&mut byte)? == 0 {
-            self.listener.end();
+            self.listener.on_eof();
             self.lines.end(&mut self.listener);
             return Ok(false);
         }
@@ -331,7 +331,7 @@ pub fn run_faultless_to<R: Read + Drop, L: Listens + Drop, W: Write, C: Consumer
     ensures write { IsErrOf result.ended RunFault.Write → writer.new.failed ≡ true }
 {
     let mut faultless = Faultless::new(reader, listener);
-    let hints = Told::nothing(alloc);
+    let hints = AddressHints::nothing(alloc);
     let ended = run_source(alloc, &mut faultless, writer, placement, hints, consumer);
     End {
         ended: limited(faultless.is_long(), ended),

@@ -19,7 +19,7 @@ use crate::judging::judge_output;
 use crate::through::Through;
 use event_json::EventLines;
 use job_script::write_all;
-use mvs_job::{Consumer, Explained, Hears, RunFault, StrictEnd, run_observed, run_strictly};
+use mvs_job::{Consumer, Explained, SkipObserver, RunFault, StrictOutcome, run_observed, run_strictly};
 use mvs_model::outcome::Outcome;
 use mvs_model::want::Placement;
 use mvs_model::watched::Watched;
@@ -102,7 +102,7 @@ fn page<'a, W: Write>(
 }
 
 // Returns what a run did whose lines were observed.
-fn of_strict(script: &[u8], end: StrictEnd) -> Served<'_>
+fn of_strict(script: &[u8], end: StrictOutcome) -> Served<'_>
     requires { length script.now ≤ most_script_bytes }
     ensures ending { result.ending ≡ strict_ending end.outcome end.all_served }
     ensures faulty { IsFaultOf script.now end.outcome result.faulty }
@@ -114,7 +114,7 @@ fn of_strict(script: &[u8], end: StrictEnd) -> Served<'_>
 }
 
 // Runs a script, and reports each line that was not executed to an observer.
-fn run_strict<'a, W: Write, H: Hears>(
+fn run_strict<'a, W: Write, H: SkipObserver>(
     alloc: Global,
     script: &'a [u8],
     writer: &mut Watched<W>,
@@ -132,7 +132,7 @@ fn run_strict<'a, W: Write, H: Hears>(
 }
 
 // Runs a script, gives each entry of the run to a consumer, and reports each line that was not executed to an observer.
-fn consume_strict<'a, W: Write, C: Consumer, H: Hears>(
+fn consume_strict<'a, W: Write, C: Consumer, H: SkipObserver>(
     alloc: Global,
     script: &'a [u8],
     writer: &mut Watched<W>,
@@ -190,7 +190,7 @@ fn write_text<W: Write>(
 }
 
 // Runs a script as the settings have it.
-fn run<'a, W: Write, H: Hears>(
+fn run<'a, W: Write, H: SkipObserver>(
     alloc: Global,
     settings: &Settings<'_>,
     script: &'a [u8],
@@ -228,7 +228,7 @@ fn run<'a, W: Write, H: Hears>(
 }
 
 /// Serves a script that was read whole, and the output that is judged, as the settings have it.
-pub fn serve_script<'a, W: Write, H: Hears>(
+pub fn serve_script<'a, W: Write, H: SkipObserver>(
     alloc: Global,
     settings: &Settings<'_>,
     script: &'a [u8],

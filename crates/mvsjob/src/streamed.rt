@@ -10,7 +10,7 @@ ghost use Rattle.mvs_job.specs.Streams.{StopsText};
 ghost use Rattle.mvsjob.specs.Faultless.{Writes, WritesPart};
 
 use crate::recorder::LineRecorder;
-use mvs_job::{Consumer, RunFault, Told, run_job, run_source};
+use mvs_job::{Consumer, RunFault, AddressHints, run_job, run_source};
 use mvs_model::outcome::Outcome;
 use mvs_model::want::Placement;
 use mvs_model::watched::Watched;
@@ -62,7 +62,7 @@ pub fn run_streamed<R: Read + Drop, W: Write>(
     ensures write { IsErrOf result.ended RunFault.Write → writer.new.failed ≡ true }
 {
     let mut reader = Watched::new(reader);
-    let ended = run_job(alloc, &mut reader, writer, placement, Told::nothing(alloc));
+    let ended = run_job(alloc, &mut reader, writer, placement, AddressHints::nothing(alloc));
     Streamed { ended, reader }
 }
 
@@ -94,7 +94,7 @@ pub fn stream_to<R: Read + Drop, W: Write, C: Consumer>(
     ensures write { IsErrOf result.ended RunFault.Write → writer.new.failed ≡ true }
 {
     let mut reader = Watched::new(reader);
-    let hints = Told::nothing(alloc);
+    let hints = AddressHints::nothing(alloc);
     let ended = run_source(alloc, &mut reader, writer, placement, hints, consumer);
     Streamed { ended, reader }
 }

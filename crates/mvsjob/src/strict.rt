@@ -5,7 +5,7 @@ ghost use Rattle.std.specs.Prelude.{None};
 use crate::clues::{Needed, Makers, unset};
 use diagnosis::{Clue, NotServed, PlainName};
 use job_script::read_line;
-use mvs_job::{Hears, Job, Unserved, Walk};
+use mvs_job::{SkipObserver, Job, SkipReason, Walk};
 use mvs_model::line::Line;
 
 /// Reports lines of a script on standard error that were not executed.
@@ -49,7 +49,7 @@ impl<'a> Teller<'a> {
         job: &Job,
         line_number: u32,
         line: &'b [u8],
-        why: Unserved,
+        why: SkipReason,
     ) -> Option<NotServed<'b>> {
         let mut read = Line::Nothing;
         let Ok(()) = read_line(line, false, &mut read) else {
@@ -59,12 +59,12 @@ impl<'a> Teller<'a> {
             return None;
         };
         match why {
-            Unserved::NotRun => {
+            SkipReason::NotRun => {
                 let lacked = Needed::Task(*task);
                 let clue = self.clue(job, line_number, lacked);
                 Some(NotServed::without_task(line, *task, clue))
             }
-            Unserved::NoName => {
+            SkipReason::NoName => {
                 let name = unset(job, statement)?;
                 let lacked = Needed::Name(name);
                 let clue = self.clue(job, line_number, lacked);
@@ -74,11 +74,11 @@ impl<'a> Teller<'a> {
     }
 }
 
-impl Hears for Teller<'_> {
+impl SkipObserver for Teller<'_> {
     ghost heard = { λ _. None };
 
     // A failure to report changes nothing.
-    fn hear(&mut self, walk: &Walk, line_number: u32, line: &[u8], why: Unserved) {
+    fn on_skipped(&mut self, walk: &Walk, line_number: u32, line: &[u8], why: SkipReason) {
         let Some(job) = walk.job() else {
             return;
         };

@@ -10,7 +10,7 @@ use crate::opened::Opened;
 use crate::strict::Teller;
 use crate::{Output, passed_on, tell};
 use event_json::EventLines;
-use mvs_job::{Consumer, Explained, Printer, RunFault, Strict, StrictEnd};
+use mvs_job::{Consumer, Explained, Printer, RunFault, Strict, StrictOutcome};
 use mvs_model::line::Fault;
 use mvs_model::watched::Watched;
 use std::io::{IsTerminal, Read};
@@ -30,12 +30,12 @@ impl<'a> Prompter<'a> {
 
 impl Listens for Prompter<'_> {
     // A failure to ask changes nothing.
-    fn await_line(&mut self, line_number: u32) {
+    fn on_prompt(&mut self, line_number: u32) {
         let rt = self.rt;
         let _ = eprint!(rt; "{line_number}> ");
     }
 
-    fn hear(&mut self, line_number: u32, line: &[u8], fault: Fault) {
+    fn on_fault(&mut self, line_number: u32, line: &[u8], fault: Fault) {
         let faulty = Faulty {
             number: line_number,
             line,
@@ -45,7 +45,7 @@ impl Listens for Prompter<'_> {
     }
 
     // Leaves the line of the prompt.
-    fn end(&mut self) {
+    fn on_eof(&mut self) {
         let rt = self.rt;
         let _ = eprintln!(rt);
     }
@@ -125,7 +125,7 @@ fn end_typed<R: Read + Drop>(
     let failure = end.reader.into_inner().failure();
     let faulty = Faulty::behind(end.number);
     match passed_on(rt, settings, writer, end.ended, failure, &faulty)? {
-        Ending::Ran(outcome) => Ok(Ending::of_strict(StrictEnd {
+        Ending::Ran(outcome) => Ok(Ending::of_strict(StrictOutcome {
             outcome,
             all_served,
         })),

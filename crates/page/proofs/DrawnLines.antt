@@ -11,7 +11,7 @@ use Rattle.mvs_model.specs.declared.name.Name.{Name}
 use Rattle.mvs_model.specs.declared.request.Reply.TheVariants as reply
 use Rattle.mvs_model.specs.declared.request.Request.{Request}
 use Rattle.mvs_model.specs.declared.request.Request.TheVariants as request
-use Rattle.mvs_model.specs.Answers.{Answer, Event, StepEnded, Told}
+use Rattle.mvs_model.specs.Answers.{Answer, Event, StepEnded, AnswerTo}
 use Rattle.mvs_model.specs.Answers as answer
 use Rattle.mvs_model.specs.Changes.{Writes}
 use Rattle.mvs_model.specs.Codes.{no_access}

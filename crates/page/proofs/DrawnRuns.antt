@@ -12,7 +12,7 @@ use Rattle.mvs_model.specs.declared.request.Reply.{Reply}
 use Rattle.mvs_model.specs.declared.request.Reply.TheVariants as reply
 use Rattle.mvs_model.specs.declared.request.Request.{Request}
 use Rattle.mvs_model.specs.declared.request.Request.TheVariants as request
-use Rattle.mvs_model.specs.Answers.{Answer, Event, Region, StepEnded, Told}
+use Rattle.mvs_model.specs.Answers.{Answer, Event, Region, StepEnded, AnswerTo}
 use Rattle.mvs_model.specs.Answers as answer
 use Rattle.mvs_model.specs.Card.{CardValue}
 use Rattle.mvs_laws.specs.Going.{Holds}
@@ -125,11 +125,11 @@ abbrev KeptStep : Option JobValue → Type 0
 KeptStep step = Holds IsKept step
 
 region_shown : (number : ℕ) (old : Option JobValue) (t u : Name) (s : Statement) (card : CardValue) (former : Bool) (new : Option JobValue) (events : List Event) (p : Picture)
-    → events ≡ ending machine old ++ Told number u (Region card) ∷ [] → new ≡ Some (job_at card former) → Shows (replayed_all p (changes_of (line.Statement t s) events new)) new
+    → events ≡ ending machine old ++ AnswerTo number u (Region card) ∷ [] → new ≡ Some (job_at card former) → Shows (replayed_all p (changes_of (line.Statement t s) events new)) new
 region_shown number old t u s card former new events p e n =
     subst (λ events. Shows (replayed_all p (changes_of (line.Statement t s) events new)) new) (sym e)
-    (subst (λ new. Shows (replayed_all p (changes_of (line.Statement t s) (ending machine old ++ Told number u (Region card) ∷ []) new)) new) (sym n) (at old)) where
-      at : (old : Option JobValue) → Shows (replayed_all p (changes_of (line.Statement t s) (ending machine old ++ Told number u (Region card) ∷ []) (Some (job_at card former)))) (Some (job_at card former))
+    (subst (λ new. Shows (replayed_all p (changes_of (line.Statement t s) (ending machine old ++ AnswerTo number u (Region card) ∷ []) new)) new) (sym n) (at old)) where
+      at : (old : Option JobValue) → Shows (replayed_all p (changes_of (line.Statement t s) (ending machine old ++ AnswerTo number u (Region card) ∷ []) (Some (job_at card former)))) (Some (job_at card former))
       at None = begin_shown card former p
       at (Some job) = begin_shown card former p
 
@@ -144,7 +144,7 @@ serves_shown number (Some job) (line.Statement t s) events new p fit before behi
     (λ below above fill residence _ x. region_shown number (Some job) t t (says.Region below above fill residence) (card_of t below above fill residence) _ new events p x.0 x.1)
     (λ s _ fit x.
     subst (λ events. Shows (replayed_all p (changes_of (line.Statement t s) events new)) new) (sym x.3)
-    (subst (λ new. Shows (replayed_all p (changes_of (line.Statement t s) (Told number t x.0 ∷ []) new)) new) (sym x.4)
+    (subst (λ new. Shows (replayed_all p (changes_of (line.Statement t s) (AnswerTo number t x.0 ∷ []) new)) new) (sym x.4)
     (subst (λ cs. ShowsBy (Means x.1.state.owners) (replayed_all p cs) x.1) (sym (said_is t t s x.0 x.1 (does_region job x.1 t s x.0 x.2)))
     (does_shown job x.1 t x.0 p shows s fit before (subst KeptStep x.4 behind) x.2))))
 

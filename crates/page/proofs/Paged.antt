@@ -20,7 +20,7 @@ use Rattle.job_script.specs.Writing.{AppendsFront}
 use Rattle.job_script.proofs.Appending.{Appends-kept}
 use Rattle.mvs_job.specs.declared.printing.Stop.{Stop}
 use Rattle.mvs_job.specs.declared.printing.Stop.TheVariants as stop
-use Rattle.mvs_job.specs.Naming.{SetLines, no_lines}
+use Rattle.mvs_job.specs.NamedAddress.{NameOrigins, no_lines}
 use Rattle.page.specs.Changes.{answer_in, changes_of}
 use Rattle.page.specs.Lines.{change_lines}
 use Rattle.page.specs.Markup.{Inside, class_of, answer_class, escaped, escaped_byte, fault_of, head_of, is_plain, item_of, pre_texts, reply_of, tail_of}
@@ -29,11 +29,11 @@ use Rattle.page.proofs.Plain.{Shows, both_shown, head_shown, none_shown, note_of
 
 -- ---- the lines so far
 
-pub so_far_start : (start after : Option (List ℕ)) (frame script : List ℕ) (set : SetLines) → set ≡ no_lines → Appends start after frame → SoFar start after frame script 1 None set script
+pub so_far_start : (start after : Option (List ℕ)) (frame script : List ℕ) (set : NameOrigins) → set ≡ no_lines → Appends start after frame → SoFar start after frame script 1 None set script
 so_far_start start after frame script set e a =
     ([], subst (Appends start after) (sym (append-nil frame)) a, λ how text h. subst (λ set. Items how 1 None set (lines_of script) text) e h)
 
-module _ (start before after : Option (List ℕ)) (frame script left : List ℕ) (number : ℕ) (step : Option JobValue) (set : SetLines) (s : SoFar start before frame script number step set left) where
+module _ (start before after : Option (List ℕ)) (frame script left : List ℕ) (number : ℕ) (step : Option JobValue) (set : NameOrigins) (s : SoFar start before frame script number step set left) where
   both : (x : List ℕ) → Appends before after x → Appends start after (frame ++ (s.0 ++ x))
   both x a = subst (Appends start after) (append_assoc frame s.0 x) (Appends-trans start before after (frame ++ s.0) x s.1 a)
 
@@ -45,16 +45,16 @@ module _ (start before after : Option (List ℕ)) (frame script left : List ℕ)
     here : (how : Result Outcome Stop) (text : List ℕ) → Items how number step set (l ∷ lines) text → Items how 1 None no_lines (lines_of script) (s.0 ++ text)
     here how text h = s.2 how text (subst (λ ls. Items how number step set ls text) (sym cut) h)
 
-    pub so_far_fault : (new : Option JobValue) (later : SetLines) → WritesItem before after number step set l new later (Ok false) → WritesPage start after frame script (Ok ScriptFault)
+    pub so_far_fault : (new : Option JobValue) (later : NameOrigins) → WritesItem before after number step set l new later (Ok false) → WritesPage start after frame script (Ok ScriptFault)
     so_far_fault new later x = ends (Ok ScriptFault) x.0 x.1 (here (Ok ScriptFault) x.0 (inl (x.2, refl)))
 
-    pub so_far_stopped : (new : Option JobValue) (later : SetLines) (why : Stop) → WritesItem before after number step set l new later (Err why) → WritesPage start after frame script (Err why)
+    pub so_far_stopped : (new : Option JobValue) (later : NameOrigins) (why : Stop) → WritesItem before after number step set l new later (Err why) → WritesPage start after frame script (Err why)
     so_far_stopped new later stop.Write (text, a, inl none) = ends (Err stop.Write) text a (here (Err stop.Write) text (inl (inl none)))
     so_far_stopped new later stop.Write (text, a, inr next) = ends (Err stop.Write) text a (here (Err stop.Write) text (inl (inr next)))
     so_far_stopped new later stop.Memory (kept, needs) =
         (frame ++ s.0, Appends-kept start before after (frame ++ s.0) s.1 kept, inl (s.0, refl, subst (Items (Err stop.Memory) 1 None no_lines (lines_of script)) (append-nil s.0) (here (Err stop.Memory) [] (inl (refl, needs)))))
 
-  pub so_far_next : (new : Option JobValue) (later : SetLines) (l more : List ℕ) (next : ℕ) → lines_of left ≡ l ∷ lines_of more → next ≡ number + 1 → WritesItem before after number step set l new later (Ok true) → SoFar start after frame script next new later more
+  pub so_far_next : (new : Option JobValue) (later : NameOrigins) (l more : List ℕ) (next : ℕ) → lines_of left ≡ l ∷ lines_of more → next ≡ number + 1 → WritesItem before after number step set l new later (Ok true) → SoFar start after frame script next new later more
   so_far_next new later l more next cut e x = (
     s.0 ++ x.0,
     both x.0 x.1,
@@ -82,7 +82,7 @@ pub in_frame : (start after : Option (List ℕ)) (frame script : List ℕ) → A
 in_frame start after frame script f = (f.0, f.3, inr (refl, (f.1, f.2)))
 
 -- the line of a script at an index
-module _ (start before after : Option (List ℕ)) (frame script rest : List ℕ) (at end number : ℕ) (step new : Option JobValue) (set later : SetLines) (is : rest ≡ drop at script) (cut : lines_of rest ≡ take end rest ∷ lines_of (drop (end + 1) rest))
+module _ (start before after : Option (List ℕ)) (frame script rest : List ℕ) (at end number : ℕ) (step new : Option JobValue) (set later : NameOrigins) (is : rest ≡ drop at script) (cut : lines_of rest ≡ take end rest ∷ lines_of (drop (end + 1) rest))
     (s : SoFar start before frame script number step set (drop at script)) where
   here_cut : lines_of (drop at script) ≡ take end rest ∷ lines_of (drop (end + 1) rest)
   here_cut = ap lines_of (sym is) ∙ cut
@@ -155,7 +155,7 @@ shown_both events more = ap escaped (printed_both events more) ∙ flat_map-appe
 abbrev Seen : Outcome → ℕ → Option JobValue → List (List ℕ) → List ℕ → Type 0
 Seen outcome number old lines text = (events : List Event) × Walks machine (JobEnds machine outcome) number old lines events × Shows text (shown_of events)
 
-seen_so : (outcome : Outcome) (lines : List (List ℕ)) (number : ℕ) (old : Option JobValue) (set : SetLines) (text : List ℕ) → Items (Ok outcome) number old set lines text → Seen outcome number old lines text
+seen_so : (outcome : Outcome) (lines : List (List ℕ)) (number : ℕ) (old : Option JobValue) (set : NameOrigins) (text : List ℕ) → Items (Ok outcome) number old set lines text → Seen outcome number old lines text
 seen_so outcome [] number old set text h = (h.0, h.1, subst (λ t. Shows t (shown_of h.0)) (sym h.2) (reply_shown (printing h.0)))
 seen_so outcome (l ∷ lines) number old set text (inl ((events, faults, e), out)) = (events, inl (faults, out), subst (λ t. Shows t (shown_of events)) (sym e) (fault_shown number l events))
 seen_so outcome (l ∷ lines) number old set text (inr (mid, later, item, rest, (read, events, behind, reads, serves, sets, is, e), cut, more)) =

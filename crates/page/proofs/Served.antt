@@ -4,7 +4,7 @@ use Rattle.std.specs.Io.KnownBytes.{Appends}
 use Rattle.std.proofs.KnownBytes.{Keeps-refl}
 use Rattle.mvs_model.specs.declared.line.Line.{Line}
 use Rattle.mvs_model.specs.declared.line.Line.TheVariants as line
-use Rattle.mvs_model.specs.Answers.{Event, Region, Told}
+use Rattle.mvs_model.specs.Answers.{Event, Region, AnswerTo}
 use Rattle.mvs_model.specs.FullAnswers.{ended_with_in}
 use Rattle.mvs_model.specs.Memory.{StopsForMemory, TakesMemory}
 use Rattle.mvs_model.specs.Runs.{machine}
@@ -20,7 +20,7 @@ use Rattle.mvs_job.specs.declared.walk.LineEvent.{LineEvent}
 use Rattle.mvs_job.specs.declared.walk.LineEvent.TheVariants as told
 use Rattle.mvs_job.specs.Apart.{AppendsExplanation}
 use Rattle.mvs_job.specs.Explaining.{IsExplanationText}
-use Rattle.mvs_job.specs.Naming.{KeepsLines, SetLines}
+use Rattle.mvs_job.specs.NamedAddress.{RecordsOrigins, NameOrigins}
 use Rattle.mvs_job.specs.LineEvents.{ServesAs, WalkValue, ended, events_of_line, full_answer_in}
 use Rattle.mvs_job.specs.Why.{OfRead}
 use Rattle.mvs_model.specs.Texts.{printing}
@@ -30,23 +30,23 @@ use Rattle.page.specs.Markup.{class_of, head_of, note_of, reply_of, tail_of}
 use Rattle.page.specs.Pages.{IsFaultItem, IsItem, IsNext, IsReadAs, WritesItem}
 use Rattle.page.specs.Items.{continues, item_of_event}
 
-module _ (w w' : WalkValue) (set later : SetLines) (l : List ℕ) (read : Line) (behind item : List ℕ) (reads : IsReadAs w.step l read) where
+module _ (w w' : WalkValue) (set later : NameOrigins) (l : List ℕ) (read : Line) (behind item : List ℕ) (reads : IsReadAs w.step l read) where
   -- the item of a line that tells something else than a fault
-  item_is : (t : LineEvent) → ServesAs w l t w' → KeepsLines w set l w' t later → AppendsExplanation (Some []) (Some behind) w set l w' t → continues t ≡ true → item ≡ item_of_event w.number l read w' t behind → IsItem w.number w.step set l w'.step later item
+  item_is : (t : LineEvent) → ServesAs w l t w' → RecordsOrigins w set l w' t later → AppendsExplanation (Some []) (Some behind) w set l w' t → continues t ≡ true → item ≡ item_of_event w.number l read w' t behind → IsItem w.number w.step set l w'.step later item
   item_is (told.Faulted fault) tells kept stands so e = absurd (let f : false ≡ true = so in cc)
   item_is told.Nothing tells kept (text, is, h) so e = (read, events_of_line w.number w' told.Nothing, behind, reads, tells, kept, subst (IsExplanationText w.step set l (events_of_line w.number w' told.Nothing) w'.step) (sym is) h, e)
-  item_is (told.Began end card) tells kept (text, is, h) so e =
-      (read, events_of_line w.number w' (told.Began end card), behind, reads, tells, kept, subst (IsExplanationText w.step set l (events_of_line w.number w' (told.Began end card)) w'.step) (sym is) h, e)
+  item_is (told.StepBegan end card) tells kept (text, is, h) so e =
+      (read, events_of_line w.number w' (told.StepBegan end card), behind, reads, tells, kept, subst (IsExplanationText w.step set l (events_of_line w.number w' (told.StepBegan end card)) w'.step) (sym is) h, e)
   item_is (told.Answered t a) tells kept (text, is, h) so e =
       (read, events_of_line w.number w' (told.Answered t a), behind, reads, tells, kept, subst (IsExplanationText w.step set l (events_of_line w.number w' (told.Answered t a)) w'.step) (sym is) h, e)
 
   fault_is : (t : LineEvent) → ServesAs w l t w' → continues t ≡ false → item ≡ item_of_event w.number l read w' t behind → IsFaultItem w.number w.step l item
   fault_is (told.Faulted fault) tells so e = (events_of_line w.number w' (told.Faulted fault), (fault, tells.0, refl), e)
   fault_is told.Nothing tells so e = absurd (let f : true ≡ false = so in cc)
-  fault_is (told.Began end card) tells so e = absurd (let f : true ≡ false = so in cc)
+  fault_is (told.StepBegan end card) tells so e = absurd (let f : true ≡ false = so in cc)
   fault_is (told.Answered t a) tells so e = absurd (let f : true ≡ false = so in cc)
 
-  module _ (t : LineEvent) (tells : ServesAs w l t w') (kept : KeepsLines w set l w' t later) (stands : AppendsExplanation (Some []) (Some behind) w set l w' t) (e : item ≡ item_of_event w.number l read w' t behind) where
+  module _ (t : LineEvent) (tells : ServesAs w l t w') (kept : RecordsOrigins w set l w' t later) (stands : AppendsExplanation (Some []) (Some behind) w set l w' t) (e : item ≡ item_of_event w.number l read w' t behind) where
     pub item_written : (before after : Option (List ℕ)) (b : Bool) → b ≡ continues t → Appends before after item → WritesItem before after w.number w.step set l w'.step later (Ok b)
     item_written before after true so a = (item, a, item_is t tells kept stands (sym so) e)
     item_written before after false so a = (item, a, fault_is t tells (sym so) e)
@@ -60,7 +60,7 @@ module _ (w w' : WalkValue) (set later : SetLines) (l : List ℕ) (read : Line) 
 
 -- ---- a line that is blank or a comment
 
-module _ (w w' : WalkValue) (set later : SetLines) (l : List ℕ) (nothing : LineOf (is_first w.step) l line.Nothing) where
+module _ (w w' : WalkValue) (set later : NameOrigins) (l : List ℕ) (nothing : LineOf (is_first w.step) l line.Nothing) where
   -- it has no events
   no_events : (events : List Event) → ServesLine machine w.number w.step l events w'.step → events ≡ []
   no_events events (said, of, serves) = (subst (λ x. Serves machine w.number w.step x events w'.step) (one_reading.one_line (is_first w.step) l said line.Nothing of nothing) serves).0
@@ -72,8 +72,8 @@ module _ (w w' : WalkValue) (set later : SetLines) (l : List ℕ) (nothing : Lin
   told_nothing : (t : LineEvent) → ServesAs w l t w' → t ≡ told.Nothing
   told_nothing told.Nothing tells = refl
   told_nothing (told.Faulted fault) tells = absurd (one_reading.not_both (is_first w.step) l line.Nothing fault nothing tells.0)
-  told_nothing (told.Began end card) tells = absurd (some_events (ended end) (Told w.number card.name (Region card)) (no_events _ tells))
-  told_nothing (told.Answered t a) tells = absurd (some_events [] (Told w.number t (full_answer_in w'.step (ended_with_in w'.reply) t a)) (no_events _ tells))
+  told_nothing (told.StepBegan end card) tells = absurd (some_events (ended end) (AnswerTo w.number card.name (Region card)) (no_events _ tells))
+  told_nothing (told.Answered t a) tells = absurd (some_events [] (AnswerTo w.number t (full_answer_in w'.step (ended_with_in w'.reply) t a)) (no_events _ tells))
 
   -- nothing is explained of it
   unexplained : (step : Option JobValue) → LineOf (is_first step) l line.Nothing → IsExplanationText step set l [] w'.step []
@@ -82,13 +82,13 @@ module _ (w w' : WalkValue) (set later : SetLines) (l : List ℕ) (nothing : Lin
       let read : OfRead job line.Nothing [] None = (refl, refl) in
       ([], [], [], [], inl (line.Nothing, of, (None, read, refl)), (None, inl (line.Nothing, of, (None, read, refl)), (None, refl, refl)), refl, inl (line.Nothing, of, refl), refl)
 
-  noted : (t : LineEvent) → t ≡ told.Nothing → ServesAs w l t w' → KeepsLines w set l w' t later → IsItem w.number w.step set l w'.step later (note_of w.number l)
+  noted : (t : LineEvent) → t ≡ told.Nothing → ServesAs w l t w' → RecordsOrigins w set l w' t later → IsItem w.number w.step set l w'.step later (note_of w.number l)
   noted told.Nothing is tells kept = (line.Nothing, [], [], inl nothing, tells, kept, unexplained w.step nothing, refl)
   noted (told.Faulted fault) is tells kept = absurd (let f : told.Faulted fault ≡ told.Nothing = is in cc)
-  noted (told.Began end card) is tells kept = absurd (let f : told.Began end card ≡ told.Nothing = is in cc)
+  noted (told.StepBegan end card) is tells kept = absurd (let f : told.StepBegan end card ≡ told.Nothing = is in cc)
   noted (told.Answered t a) is tells kept = absurd (let f : told.Answered t a ≡ told.Nothing = is in cc)
 
-  module _ (t : LineEvent) (tells : ServesAs w l t w') (kept : KeepsLines w set l w' t later) where
+  module _ (t : LineEvent) (tells : ServesAs w l t w') (kept : RecordsOrigins w set l w' t later) where
     is_noted : IsItem w.number w.step set l w'.step later (note_of w.number l)
     is_noted = noted t (told_nothing t tells) tells kept
 
@@ -105,7 +105,7 @@ pub faulted_is : (number : ℕ) (l : List ℕ) (read : Line) (w : WalkValue) (t 
     → head_of number (codes "js") l ++ (reply_of printed ++ codes "<p>The job ends here.</p>\n</article>\n") ≡ item_of_event number l read w t behind
 faulted_is number l read w (told.Faulted g) fault behind printed is e = ap (λ x. head_of number (codes "js") l ++ (reply_of x ++ codes "<p>The job ends here.</p>\n</article>\n")) e
 faulted_is number l read w told.Nothing fault behind printed is e = absurd (let f : told.Nothing ≡ told.Faulted fault = is in cc)
-faulted_is number l read w (told.Began end card) fault behind printed is e = absurd (let f : told.Began end card ≡ told.Faulted fault = is in cc)
+faulted_is number l read w (told.StepBegan end card) fault behind printed is e = absurd (let f : told.StepBegan end card ≡ told.Faulted fault = is in cc)
 faulted_is number l read w (told.Answered t a) fault behind printed is e = absurd (let f : told.Answered t a ≡ told.Faulted fault = is in cc)
 
 -- the item of a statement
@@ -121,8 +121,8 @@ pub stated_is : (number : ℕ) (l : List ℕ) (read : Line) (w : WalkValue) (t :
 stated_is number l read w told.Nothing behind how printed changes below some other e f g h = absurd (some refl)
 stated_is number l read w (told.Faulted fault) behind how printed changes below some other e f g h = absurd (other fault refl)
 stated_is number l read w (told.Answered t a) behind how printed changes below some other e f g h = ap (λ x. item_by number l x how printed changes) h ∙ by_parts number l behind how _ printed _ changes _ e f g
-stated_is number l read w (told.Began None card) behind how printed changes below some other e f g h = ap (λ x. item_by number l x how printed changes) h ∙ by_parts number l behind how _ printed _ changes _ e f g
-stated_is number l read w (told.Began (Some abended) card) behind how printed changes below some other e f g h = ap (λ x. item_by number l x how printed changes) h ∙ by_parts number l behind how _ printed _ changes _ e f g
+stated_is number l read w (told.StepBegan None card) behind how printed changes below some other e f g h = ap (λ x. item_by number l x how printed changes) h ∙ by_parts number l behind how _ printed _ changes _ e f g
+stated_is number l read w (told.StepBegan (Some abended) card) behind how printed changes below some other e f g h = ap (λ x. item_by number l x how printed changes) h ∙ by_parts number l behind how _ printed _ changes _ e f g
 
 -- what was written to memory that held nothing
 pub all_written : (old new text : List ℕ) → old ≡ [] → new ≡ old ++ text → new ≡ text

@@ -11,7 +11,7 @@ use Rattle.mvs_model.specs.declared.line.Written.TheVariants as written
 use Rattle.mvs_model.specs.declared.name.Name.{Name}
 use Rattle.mvs_model.specs.declared.request.Request.{Request}
 use Rattle.mvs_model.specs.declared.request.Request.TheVariants as request
-use Rattle.mvs_model.specs.Answers.{Answer, Event, Told, StepEnded}
+use Rattle.mvs_model.specs.Answers.{Answer, Event, AnswerTo, StepEnded}
 use Rattle.mvs_model.specs.Answers as answer
 use Rattle.mvs_model.specs.Card.{CardValue}
 use Rattle.mvs_model.specs.Job.{JobValue}
@@ -165,8 +165,8 @@ begin_changes card = change.Step card.below card.above card.fill ∷ change.Firs
 
 -- the task and the answer of some events; the end of a step may come before it
 abbrev pub answer_in : List Event → Option (Name × Answer)
-answer_in (Told number t said ∷ []) = Some (t, said)
-answer_in (StepEnded abended ∷ (Told number t said ∷ [])) = Some (t, said)
+answer_in (AnswerTo number t said ∷ []) = Some (t, said)
+answer_in (StepEnded abended ∷ (AnswerTo number t said ∷ [])) = Some (t, said)
 answer_in _ = None
 
 -- what a line did that says this, and is answered so

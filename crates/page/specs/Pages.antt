@@ -16,7 +16,7 @@ use Rattle.mvs_model.specs.Walk.{ServesLine, Faults, Closes, is_first}
 use Rattle.mvs_job.specs.declared.printing.Stop.{Stop}
 use Rattle.mvs_job.specs.declared.printing.Stop.TheVariants as stop
 use Rattle.mvs_job.specs.Explaining.{IsExplanationText}
-use Rattle.mvs_job.specs.Naming.{AreNamesAfter, SetLines, no_lines}
+use Rattle.mvs_job.specs.NamedAddress.{AreNamesAfter, NameOrigins, no_lines}
 use Rattle.page.specs.Markup.{Inside, closing_of, escaped, fault_of, item_of, pre_texts}
 
 -- A line was read as this; one with a fault, as anything.
@@ -25,7 +25,7 @@ IsReadAs old l read = LineOf (is_first old) l read ⊎ ((fault : Fault) × Fault
 
 -- The item is that of the line with this number, which is executed and leads from one step to another, and from the lines that have
 -- set names before it to those after it.
-abbrev pub IsItem : ℕ → Option JobValue → SetLines → List ℕ → Option JobValue → SetLines → List ℕ → Type 0
+abbrev pub IsItem : ℕ → Option JobValue → NameOrigins → List ℕ → Option JobValue → NameOrigins → List ℕ → Type 0
 IsItem number old set l new later item =
     (read : Line) × (events : List Event) × (behind : List ℕ)
     × IsReadAs old l read × ServesLine machine number old l events new × AreNamesAfter number old set l events later × IsExplanationText old set l events new behind
@@ -40,9 +40,9 @@ abbrev pub IsClosing : ℕ → Option JobValue → Outcome → List ℕ → Type
 IsClosing number old outcome item = (events : List Event) × Closes machine number old events outcome × (item ≡ closing_of events)
 
 -- the item that may come next, of these lines
-abbrev pub IsNext : ℕ → Option JobValue → SetLines → List (List ℕ) → List ℕ → Type 0
+abbrev pub IsNext : ℕ → Option JobValue → NameOrigins → List (List ℕ) → List ℕ → Type 0
 IsNext number old set [] item = (outcome : Outcome) × IsClosing number old outcome item
-IsNext number old set (l ∷ lines) item = ((new : Option JobValue) × (later : SetLines) × IsItem number old set l new later item) ⊎ IsFaultItem number old l item
+IsNext number old set (l ∷ lines) item = ((new : Option JobValue) × (later : NameOrigins) × IsItem number old set l new later item) ⊎ IsFaultItem number old l item
 
 -- Memory may be needed for the next item: the next of these lines is answered, or the job ends. A blank line and a comment need none.
 abbrev pub NeedsMemory : Option JobValue → List (List ℕ) → Type 0
@@ -52,7 +52,7 @@ NeedsMemory old (l ∷ lines) = LineOf (is_first old) l line.Nothing → ⊥
 -- How a page may end, with the number of the next line, in this step or before the first, with these lines left: with the end of
 -- the job, or with a line that has a fault; with the beginning of the next item, if a write fails; and before an item that needs
 -- memory, if that is exhausted.
-abbrev pub EndsSo : Result Outcome Stop → ℕ → Option JobValue → SetLines → List (List ℕ) → List ℕ → Type 0
+abbrev pub EndsSo : Result Outcome Stop → ℕ → Option JobValue → NameOrigins → List (List ℕ) → List ℕ → Type 0
 EndsSo (Ok outcome) number old set [] text = IsClosing number old outcome text
 EndsSo (Ok outcome) number old set (l ∷ lines) text = IsFaultItem number old l text × (outcome ≡ ScriptFault)
 EndsSo (Err stop.Write) number old set lines text = (text ≡ []) ⊎ ((rest : List ℕ) × IsNext number old set lines (text ++ rest))
@@ -60,11 +60,11 @@ EndsSo (Err stop.Memory) number old set lines text = (text ≡ []) × NeedsMemor
 
 -- From the line with this number on, these are the items: the page ends before the first of the lines, or that line has its item,
 -- and the page continues after it.
-abbrev pub Items : Result Outcome Stop → ℕ → Option JobValue → SetLines → List (List ℕ) → List ℕ → Type 0
+abbrev pub Items : Result Outcome Stop → ℕ → Option JobValue → NameOrigins → List (List ℕ) → List ℕ → Type 0
 Items how number old set [] text = EndsSo how number old set [] text
 Items how number old set (l ∷ lines) text =
     EndsSo how number old set (l ∷ lines) text
-    ⊎ ((mid : Option JobValue) × (later : SetLines) × (item : List ℕ) × (rest : List ℕ)
+    ⊎ ((mid : Option JobValue) × (later : NameOrigins) × (item : List ℕ) × (rest : List ℕ)
     × IsItem number old set l mid later item × (text ≡ item ++ rest) × Items how (number + 1) mid later lines rest)
 
 -- The text is the page of a run of the script, which ends so: the fixed part, and an item for each line; or a front of the fixed
@@ -92,7 +92,7 @@ WritesShown before after frame script outcome = (items : List ℕ) × Appends be
 
 -- The effect of the call for one line, between two moments of a writer: it writes the item, and the job continues or has ended; or
 -- it stops and has written nothing, or the beginning of the item if a write fails.
-abbrev pub WritesItem : Option (List ℕ) → Option (List ℕ) → ℕ → Option JobValue → SetLines → List ℕ → Option JobValue → SetLines → Result Bool Stop → Type 0
+abbrev pub WritesItem : Option (List ℕ) → Option (List ℕ) → ℕ → Option JobValue → NameOrigins → List ℕ → Option JobValue → NameOrigins → Result Bool Stop → Type 0
 WritesItem before after number old set l new later (Ok true) = (item : List ℕ) × Appends before after item × IsItem number old set l new later item
 WritesItem before after number old set l new later (Ok false) = (item : List ℕ) × Appends before after item × IsFaultItem number old l item
 WritesItem before after number old set l new later (Err stop.Write) =
@@ -101,7 +101,7 @@ WritesItem before after number old set l new later (Err stop.Memory) = Keeps bef
 
 -- The text between two moments of a writer is written after the fixed part for the lines before, in whatever way the page ends
 -- after it.
-abbrev pub SoFar : Option (List ℕ) → Option (List ℕ) → List ℕ → List ℕ → ℕ → Option JobValue → SetLines → List ℕ → Type 0
+abbrev pub SoFar : Option (List ℕ) → Option (List ℕ) → List ℕ → List ℕ → ℕ → Option JobValue → NameOrigins → List ℕ → Type 0
 SoFar before after frame script number step set left =
     (written : List ℕ) × Appends before after (frame ++ written)
     × ((how : Result Outcome Stop) (text : List ℕ) → Items how number step set (lines_of left) text → Items how 1 None no_lines (lines_of script) (written ++ text))

@@ -436,7 +436,7 @@ pub fn changes_of(read: &Line, walk: &Walk, told: &LineEvent, request: &mut Requ
         → result ≡ changes_of read.now (events_of_line number walk.now told.now) walk.now.step }
 {
     match told {
-        LineEvent::Began { card, .. } => begin_changes(card),
+        LineEvent::StepBegan { card, .. } => begin_changes(card),
         LineEvent::Answered { task, answer } => match (read, walk.job()) {
             (Line::Statement(_, statement), Some(job)) => {
                 statement_changes(task, statement, answer, job, fallen(walk), request)

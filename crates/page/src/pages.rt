@@ -5,7 +5,7 @@ ghost use Rattle.mvs_model.specs.Numbers.{most_script_bytes};
 ghost use Rattle.mvs_model.specs.Reading.{LineOf};
 ghost use Rattle.mvs_model.specs.Texts.{printing};
 ghost use Rattle.mvs_job.specs.Apart.{AppendsExplanation};
-ghost use Rattle.mvs_job.specs.Naming.{KeepsLines, no_lines};
+ghost use Rattle.mvs_job.specs.NamedAddress.{RecordsOrigins, no_lines};
 ghost use Rattle.mvs_job.specs.LineEvents.{IsAvailable, ServesAs, closing, events_of_line};
 ghost use Rattle.mvs_model.specs.Walk.{is_first};
 ghost use Rattle.page.specs.Markup.{closing_of};
@@ -96,7 +96,7 @@ impl Maker {
             (λ served. AppendsExplanation (Some []) (Some served.behind.items) walk.old
             self.old.explainer line.now walk.new served.told) }
         ensures lines { IfOk result
-            (λ served. KeepsLines walk.old self.old.explainer line.now walk.new served.told
+            (λ served. RecordsOrigins walk.old self.old.explainer line.now walk.new served.told
             self.new.explainer) }
         ensures full_answer { IfOk result (λ served. IsAvailable walk.new served.told) }
         ensures read { self.new.read ≡ self.old.read }

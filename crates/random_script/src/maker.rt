@@ -215,7 +215,7 @@ impl Maker {
                 | Answer::Subpools
                 | Answer::Map => self.take(change),
             },
-            LineEvent::Nothing | LineEvent::Began { .. } | LineEvent::Faulted(_) => {}
+            LineEvent::Nothing | LineEvent::StepBegan { .. } | LineEvent::Faulted(_) => {}
         }
     }
 

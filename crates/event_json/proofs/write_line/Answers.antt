@@ -1,13 +1,13 @@
 use Rattle.std.proofs.Common.{[], ◌∷◌, refl}
 use Rattle.std.proofs.KnownBytes.{Keeps-refl}
-use Rattle.mvs_model.specs.Answers.{Region, Told}
+use Rattle.mvs_model.specs.Answers.{Region, AnswerTo}
 use Rattle.mvs_model.specs.FullAnswers.{ended_with_in}
 use Rattle.mvs_job.specs.LineEvents.{ended, full_answer_in}
 use Rattle.event_json.proofs.Written.{statement_lines, text_written}
 use Rattle.event_json.proofs.write_line.Goals as goal
 
 pub returns-in-Err-clause-written : goal.returns-in-Err-clause-written
-returns-in-Err-clause-written g c = rw (c.in-Began.is) ((ended c.in-Began.ended, c.args.line.now.number, c.in-Began.card.name, Region c.in-Began.card, refl), Keeps-refl _)
+returns-in-Err-clause-written g c = rw (c.in-StepBegan.is) ((ended c.in-StepBegan.ended, c.args.line.now.number, c.in-StepBegan.card.name, Region c.in-StepBegan.card, refl), Keeps-refl _)
 
 pub returns-in-Ok-answer_line-clause-written : goal.returns-in-Ok-answer_line-clause-written
 returns-in-Ok-answer_line-clause-written g c =
@@ -16,7 +16,7 @@ returns-in-Ok-answer_line-clause-written g c =
     let a = full_answer_in c.args.walk.now.step (ended_with_in c.args.walk.now.reply) t c.in-Answered.answer in
     let text = c.in-Ok-answer_line.text.items in
     rw (c.in-Answered.is)
-    (text_written _ _ (Told n t a ∷ []) text (statement_lines n t a text c.in-Ok-answer_line.ensures) c.write_text-in-Ok-answer_line.result (rw (c.deref-in-Ok-answer_line.ensures.value) at c.write_text-in-Ok-answer_line.ensures.text.bytes) c.write_text-in-Ok-answer_line.ensures.memory)
+    (text_written _ _ (AnswerTo n t a ∷ []) text (statement_lines n t a text c.in-Ok-answer_line.ensures) c.write_text-in-Ok-answer_line.result (rw (c.deref-in-Ok-answer_line.ensures.value) at c.write_text-in-Ok-answer_line.ensures.text.bytes) c.write_text-in-Ok-answer_line.ensures.memory)
 
 pub returns-in-Err-answer_line-clause-written : goal.returns-in-Err-answer_line-clause-written
 returns-in-Err-answer_line-clause-written g c =

@@ -4,7 +4,7 @@ use Rattle.std.proofs.lemmas.List.{take_rest}
 use Rattle.std.proofs.lemmas.Slice.Eq.{slice_eq-Decides}
 use Rattle.judge.specs.declared.Finding.TheVariants.{Accepted}
 use Rattle.judge.specs.Deciding.{HasReached}
-use Rattle.judge.proofs.GrantQuestion.{asked_decides}
+use Rattle.judge.proofs.Asked.{asked_decides}
 use Rattle.judge.proofs.Decided.{same_test}
 use Rattle.judge.proofs.Found.{IsSaid, followed_ended, followed_on, found_ended, found_parted}
 use Rattle.judge.proofs.judge_run.Goals as goal

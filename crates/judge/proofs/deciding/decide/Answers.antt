@@ -2,7 +2,7 @@ use Rattle.std.proofs.Common.{[], ◌∷◌, ◌+◌, drop, refl, subst, sym, ta
 use Rattle.mvs_model.specs.Lines.{lines_of}
 use Rattle.judge.specs.Judging.{IsOpen}
 use Rattle.judge.specs.Deciding.{IsServed}
-use Rattle.judge.proofs.GrantQuestion.{open_other}
+use Rattle.judge.proofs.Asked.{open_other}
 use Rattle.judge.proofs.Decided.{closed_asked, decides_before}
 use Rattle.judge.proofs.deciding.decide.Goals as goal
 

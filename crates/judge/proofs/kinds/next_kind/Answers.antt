@@ -1,6 +1,6 @@
 use Rattle.std.proofs.Common.{subst}
 use Rattle.mvs_model.specs.Reading.{LineOf}
-use Rattle.judge.proofs.GrantQuestion.{kind_is}
+use Rattle.judge.proofs.Asked.{kind_is}
 use Rattle.judge.proofs.kinds.next_kind.Goals as goal
 
 pub returns-in-Ok : goal.returns-in-Ok

@@ -20,7 +20,7 @@ pub reading-preserved : goal.reading-preserved
 reading-preserved g c =
     let on = c.in_ok-told.ensures.on c.in-On.told (ap (λ x. Ok x) c.in-On.is) in
     record {
-      under_way = rw (c.in-On.is) at (c.in_ok-told.ensures.turn c.args.consumer.now _ _ _ c.reading.invariant.under_way);
+      under_way = rw (c.in-On.is) at (c.in_ok-told.ensures.pump c.args.consumer.now _ _ _ c.reading.invariant.under_way);
       room = on.3;
       number = omega (arith, on.2);
       small = grind (arith, common_steps);
@@ -32,18 +32,18 @@ reading-preserved g c =
 pub returns-in_err-told-clause-fault : goal.returns-in_err-told-clause-fault
 returns-in_err-told-clause-fault g c =
     let p = err_from_is_err_and c.from_residual.result c.from_residual.ensures.1 in
-    rw (p.1, p.2) (given_up g.C.Consumer.piece (g.C.Consumer.knows c.args.consumer.now) _ _ _ _ 16777215 _ _ _ (c.in_err-told.ensures.turn c.args.consumer.now _ _ _ c.reading.invariant.under_way) (grind (arith, common_steps)) (λ e. c.in_err-told.ensures.not_long (ap (λ x. Err x) e)))
+    rw (p.1, p.2) (given_up g.C.Consumer.piece (g.C.Consumer.knows c.args.consumer.now) _ _ _ _ 16777215 _ _ _ (c.in_err-told.ensures.pump c.args.consumer.now _ _ _ c.reading.invariant.under_way) (grind (arith, common_steps)) (λ e. c.in_err-told.ensures.not_long (ap (λ x. Err x) e)))
 
 pub returns-in-Ended-clause-ok : goal.returns-in-Ended-clause-ok
 returns-in-Ended-clause-ok g c =
-    ended_within g.C.Consumer.piece (g.C.Consumer.knows c.args.consumer.now) _ _ _ _ _ _ c.in-Ended.outcome (rw (c.in-Ended.is) at (c.in_ok-told.ensures.turn c.args.consumer.now _ _ _ c.reading.invariant.under_way)) (grind (arith, common_steps))
+    ended_within g.C.Consumer.piece (g.C.Consumer.knows c.args.consumer.now) _ _ _ _ _ _ c.in-Ended.outcome (rw (c.in-Ended.is) at (c.in_ok-told.ensures.pump c.args.consumer.now _ _ _ c.reading.invariant.under_way)) (grind (arith, common_steps))
 
 pub returns-clause-ok : goal.returns-clause-ok
 returns-clause-ok g c =
-    if_ok c.last_turn.result _ (λ o. HasEnded g.C.Consumer.piece (g.C.Consumer.knows c.args.consumer.now) (g.S.Source.left c.args.reader.now) (g.S.Source.left c.last_turn.new.reader) (g.W.Write.contents c.args.writer.now.inner) (g.W.Write.contents c.last_turn.new.writer.inner) 16777215 c.last_turn.new.consumer o) _
-    (c.last_turn.ensures.turn c.args.consumer.now _ _ _ c.reading.invariant.under_way) (λ o h. ended_within g.C.Consumer.piece (g.C.Consumer.knows c.args.consumer.now) _ _ _ _ _ _ o h (omega (arith, c.reading.invariant.small)))
+    if_ok c.finish_stream.result _ (λ o. HasEnded g.C.Consumer.piece (g.C.Consumer.knows c.args.consumer.now) (g.S.Source.left c.args.reader.now) (g.S.Source.left c.finish_stream.new.reader) (g.W.Write.contents c.args.writer.now.inner) (g.W.Write.contents c.finish_stream.new.writer.inner) 16777215 c.finish_stream.new.consumer o) _
+    (c.finish_stream.ensures.pump c.args.consumer.now _ _ _ c.reading.invariant.under_way) (λ o h. ended_within g.C.Consumer.piece (g.C.Consumer.knows c.args.consumer.now) _ _ _ _ _ _ o h (omega (arith, c.reading.invariant.small)))
 
 pub returns-clause-fault : goal.returns-clause-fault
 returns-clause-fault g c =
-    if_err c.last_turn.result _ _ (λ fault. HasGivenUp g.C.Consumer.piece (g.C.Consumer.knows c.args.consumer.now) (g.S.Source.left c.args.reader.now) (g.S.Source.left c.last_turn.new.reader) (g.W.Write.contents c.args.writer.now.inner) (g.W.Write.contents c.last_turn.new.writer.inner) 16777215 c.last_turn.new.consumer fault)
-    (c.last_turn.ensures.turn c.args.consumer.now _ _ _ c.reading.invariant.under_way) (λ fault h. given_up_within g.C.Consumer.piece (g.C.Consumer.knows c.args.consumer.now) _ _ _ _ _ _ fault h (omega (arith, c.reading.invariant.small)))
+    if_err c.finish_stream.result _ _ (λ fault. HasGivenUp g.C.Consumer.piece (g.C.Consumer.knows c.args.consumer.now) (g.S.Source.left c.args.reader.now) (g.S.Source.left c.finish_stream.new.reader) (g.W.Write.contents c.args.writer.now.inner) (g.W.Write.contents c.finish_stream.new.writer.inner) 16777215 c.finish_stream.new.consumer fault)
+    (c.finish_stream.ensures.pump c.args.consumer.now _ _ _ c.reading.invariant.under_way) (λ fault h. given_up_within g.C.Consumer.piece (g.C.Consumer.knows c.args.consumer.now) _ _ _ _ _ _ fault h (omega (arith, c.reading.invariant.small)))

@@ -4,7 +4,7 @@ use Rattle.mvs_job.specs.declared.printing.Stop.TheVariants.{Memory, Write}
 use Rattle.mvs_job.specs.declared.walk.LineEvent.{LineEvent}
 use Rattle.mvs_job.specs.Serving.{RunsLine}
 use Rattle.mvs_job.specs.Explaining.{explanation_text}
-use Rattle.mvs_job.specs.Naming.{KeepsLines}
+use Rattle.mvs_job.specs.NamedAddress.{RecordsOrigins}
 use Rattle.mvs_job.specs.LineEvents.{events_of_line}
 use Rattle.mvs_job.proofs.Behind.{stands_behind}
 use Rattle.mvs_job.proofs.apart.Explainer.serve.Goals.{in-Ok-print_explanation, in-Err-print_explanation}
@@ -19,7 +19,7 @@ returns g c = elim c.match-print_explanation.branch [
         told = c.in-Ok.ensures.ran.0;
         printed = c.in-Ok.ensures.ran.1;
         behind = stands_behind _ _ c.args.walk.now set c.args.line.now c.tell.new.walk c.in-Ok.told (explanation_text c.tell.new.self (events_of_line c.args.walk.now.number c.tell.new.walk c.in-Ok.told) c.tell.new.walk.step) p.bytes c.in-Ok.ensures.behind;
-        lines = subst (λ later. KeepsLines c.args.walk.now set c.args.line.now c.tell.new.walk c.in-Ok.told later) (sym c.print_explanation.ensures.lines) c.in-Ok.ensures.lines;
+        lines = subst (λ later. RecordsOrigins c.args.walk.now set c.args.line.now c.tell.new.walk c.in-Ok.told later) (sym c.print_explanation.ensures.lines) c.in-Ok.ensures.lines;
         full_answer = c.in-Ok.ensures.full_answer;
         number = c.in-Ok.ensures.number;
         memory = λ e. absurd (is_ok Memory e);

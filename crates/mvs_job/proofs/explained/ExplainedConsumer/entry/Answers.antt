@@ -4,7 +4,7 @@ use Rattle.mvs_job.specs.Explained.{set_by_entries}
 use Rattle.mvs_job.specs.Explaining.{text_of_event}
 use Rattle.mvs_job.specs.Granting.{IsReadIn}
 use Rattle.mvs_job.specs.Looking.{IsLooking}
-use Rattle.mvs_job.specs.Naming.{names_after}
+use Rattle.mvs_job.specs.NamedAddress.{names_after}
 use Rattle.mvs_job.specs.LineEvents.{events_of_line}
 use Rattle.mvs_job.proofs.Behind.{line_keeps}
 use Rattle.mvs_job.proofs.ExplainedLine.{explained_text, needs_names, set_next}

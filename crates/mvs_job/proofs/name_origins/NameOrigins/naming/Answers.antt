@@ -1,8 +1,8 @@
 use Rattle.std.proofs.Common.{◌≡◌, [], None, sym, ap, ◌∙◌}
 use Rattle.std.specs.List.{fold}
-use Rattle.mvs_job.specs.Naming.{later}
+use Rattle.mvs_job.specs.NamedAddress.{later}
 use Rattle.mvs_job.proofs.Latest.{naming_is}
-use Rattle.mvs_job.proofs.naming.SetLines.naming.Goals as goal
+use Rattle.mvs_job.proofs.name_origins.NameOrigins.naming.Goals as goal
 
 pub returns : goal.returns
 returns c =

@@ -3,8 +3,8 @@ use Rattle.mvs_model.specs.Reports.{each_below}
 use Rattle.request_forms.specs.Facts.{listed, owned_at}
 use Rattle.mvs_job.proofs.Freeing.{none_more, one_more, passed}
 use Rattle.mvs_job.proofs.Numbers.{each_none}
-use Rattle.mvs_job.proofs.ends.put_owned.Goals as goal
-use Rattle.mvs_job.proofs.ends.put_owned.Goals.{in-Some-owned, in_default-owned}
+use Rattle.mvs_job.proofs.ends.collect_owned_subpools.Goals as goal
+use Rattle.mvs_job.proofs.ends.collect_owned_subpools.Goals.{in-Some-owned, in_default-owned}
 
 pub loop-next-init : goal.loop-next-init
 loop-next-init c = record {

@@ -8,7 +8,7 @@ ghost use Rattle.mvs_model.specs.Storage.{has_address};
 ghost use Rattle.job_script.specs.ReasonTexts.{cell_of};
 ghost use Rattle.job_script.specs.Writing.{Prints};
 ghost use Rattle.mvs_job.specs.Granting.{reports_grant};
-ghost use Rattle.mvs_job.specs.Naming.{HasLengths, IsNaming, SetsSome, reason_address, first_of, comes_later, later, lines_before, naming_at, naming_text, no_lines, names_after, set_by};
+ghost use Rattle.mvs_job.specs.NamedAddress.{HasLengths, IsNaming, SetsSome, reason_address, first_of, comes_later, later, lines_before, naming_at, naming_text, no_lines, names_after, set_by};
 ghost use Rattle.mvs_job.specs.LineEvents.{IsAvailable, WalkValue, events_of_line};
 
 use crate::job::Job;
@@ -29,7 +29,7 @@ use std::marker::Model;
 
 /// A name that has an address in its place, and the number of the line that set it last.
 #[derive(Clone, Copy, Debug, PartialEq, Eq)]
-pub(crate) struct Naming {
+pub(crate) struct NamedAddress {
     pub(crate) addr: Addr,
     pub(crate) name: Name,
     pub(crate) place: Place,
@@ -38,11 +38,11 @@ pub(crate) struct Naming {
 
 /// The names that were set in a step, each with the number of the line that set it last.
 #[derive(Drop)]
-pub(crate) struct SetLines {
+pub(crate) struct NameOrigins {
     numbers: HashMap<Name, u32>,
 }
 
-impl Model for SetLines {
+impl Model for NameOrigins {
     ghost use Rattle.std.specs.FinMap as map;
     ghost use Rattle.std.specs.Coded.{coded_ℕ};
     ghost use Rattle.std.specs.Prelude.{ℕ};
@@ -103,14 +103,14 @@ fn has_address(place: Place, addr: Addr) -> bool
 }
 
 // What a name says of an address, if it has it in its place.
-fn naming_at(job: &Job, addr: Addr, name: &Name, number: u32) -> Option<Naming>
+fn naming_at(job: &Job, addr: Addr, name: &Name, number: u32) -> Option<NamedAddress>
     ensures { result ≡ naming_at job.now addr (name.now, number) }
 {
     let Some(place) = job.place_of(name) else {
         return None;
     };
     if has_address(place, addr) {
-        return Some(Naming {
+        return Some(NamedAddress {
             addr,
             name: *name,
             place,
@@ -121,7 +121,7 @@ fn naming_at(job: &Job, addr: Addr, name: &Name, number: u32) -> Option<Naming>
 }
 
 // Returns whether a line is after that of another name, if there is one.
-fn comes_later(latest: &Option<Naming>, number: u32) -> bool
+fn comes_later(latest: &Option<NamedAddress>, number: u32) -> bool
     ensures { result ≡ comes_later latest.now number }
 {
     match latest {
@@ -131,7 +131,7 @@ fn comes_later(latest: &Option<Naming>, number: u32) -> bool
 }
 
 // The later one of a name and the next, of those that have an address in their places.
-fn later(latest: Option<Naming>, job: &Job, addr: Addr, name: &Name, number: u32) -> Option<Naming>
+fn later(latest: Option<NamedAddress>, job: &Job, addr: Addr, name: &Name, number: u32) -> Option<NamedAddress>
     ensures { result ≡ later job.now addr latest (name.now, number) }
 {
     if !comes_later(&latest, number) {
@@ -152,12 +152,12 @@ fn has_lengths(written: &Written)
     }
 }
 
-impl SetLines {
+impl NameOrigins {
     /// Makes the record of a step in which no name was set. It allocates no memory.
-    pub(crate) fn new(alloc: Global) -> SetLines
+    pub(crate) fn new(alloc: Global) -> NameOrigins
         ensures { result ≡ no_lines }
     {
-        SetLines {
+        NameOrigins {
             numbers: HashMap::new(alloc),
         }
     }
@@ -236,7 +236,7 @@ impl SetLines {
     }
 
     /// A name that was set last of those that have an address in their places.
-    pub(crate) fn naming(&self, job: &Job, addr: Addr) -> Option<Naming>
+    pub(crate) fn naming(&self, job: &Job, addr: Addr) -> Option<NamedAddress>
         ensures { IsNaming job.now self.now addr result }
     {
         let mut latest = None;
@@ -250,7 +250,7 @@ impl SetLines {
 /// Prints which name has an address in its place, if one has.
 pub(crate) fn print_named<W: Write>(
     writer: &mut Watched<W>,
-    naming: &Option<Naming>,
+    naming: &Option<NamedAddress>,
 ) -> Result<(), Failed>
     ensures { Prints W.contents writer.old writer.new result (naming_text naming.now) }
 {

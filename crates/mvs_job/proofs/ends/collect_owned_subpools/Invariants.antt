@@ -1,7 +1,7 @@
 use Rattle.std.proofs.Common.{◌≡◌, ◌≤◌, ◌-◌, length}
 use Rattle.mvs_model.specs.Reports.{each_below}
 use Rattle.request_forms.specs.Facts.{listed, owned_at}
-use Rattle.mvs_job.proofs.ends.put_owned.Given as goal
+use Rattle.mvs_job.proofs.ends.collect_owned_subpools.Given as goal
 
 abbrev pub invariant-loop-next : goal.invariant-loop-next
 invariant-loop-next l = record {

@@ -23,7 +23,7 @@ use Rattle.mvs_model.specs.Resolving.{names_set, resolved}
 use Rattle.mvs_model.specs.Storage.{has_address}
 use Rattle.job_script.specs.NamingTexts.{naming_line}
 use Rattle.job_script.specs.ReasonTexts.{cell_of}
-use Rattle.mvs_job.specs.declared.naming.Naming.{Naming}
+use Rattle.mvs_job.specs.declared.name_origins.NamedAddress.{NamedAddress}
 use Rattle.mvs_job.specs.declared.walk.LineEvent.{LineEvent}
 use Rattle.mvs_job.specs.declared.walk.LineEvent.TheVariants as told
 use Rattle.mvs_job.specs.Granting.{reports_grant}
@@ -33,26 +33,26 @@ use Rattle.mvs_job.specs.Why.{OfRead, spoken}
 -- ---- the lines that set names
 
 -- the names that were set in a step, each with the number of the line that set it last
-abbrev pub SetLines : Type 0
-SetLines = FinMap name_cmp ℕ
+abbrev pub NameOrigins : Type 0
+NameOrigins = FinMap name_cmp ℕ
 
 -- no name was set
-abbrev pub no_lines : SetLines
+abbrev pub no_lines : NameOrigins
 no_lines = empty
 
 -- the names after a line with this number that sets these names
-abbrev pub set_by : ℕ → SetLines → List Name → SetLines
+abbrev pub set_by : ℕ → NameOrigins → List Name → NameOrigins
 set_by number set [] = set
 set_by number set (name ∷ names) = set_by number (insert set name number) names
 
 -- the names after a line with this meaning and these events: a step begins with none, and a granted request sets its names
-abbrev pub names_after : ℕ → SetLines → Line → List Event → SetLines
+abbrev pub names_after : ℕ → NameOrigins → Line → List Event → NameOrigins
 names_after number set (line.Statement t (says.Region below above fill residence)) events = no_lines
 names_after number set (line.Statement t (says.Request a)) events = if reports_grant events then set_by number set (names_set a) else set
 names_after number set l events = set
 
 -- The names after the next line, which has no fault: before the first step there are none.
-abbrev pub AreNamesAfter : ℕ → Option JobValue → SetLines → List ℕ → List Event → SetLines → Type 0
+abbrev pub AreNamesAfter : ℕ → Option JobValue → NameOrigins → List ℕ → List Event → NameOrigins → Type 0
 AreNamesAfter number None set bytes events new = new ≡ no_lines
 AreNamesAfter number (Some job) set bytes events new = (l : Line) × LineOf false bytes l × (new ≡ names_after number set l events)
 
@@ -102,42 +102,42 @@ IsAddress job bytes events a =
 -- ---- the name that has it
 
 -- The name has this place, and the line of this number set it last.
-abbrev pub IsSetTo : JobValue → SetLines → Name → PlaceValue → ℕ → Type 0
+abbrev pub IsSetTo : JobValue → NameOrigins → Name → PlaceValue → ℕ → Type 0
 IsSetTo job set name p number = (get job.names name ≡ Some p) × (get set name ≡ Some number)
 
 -- Of the names that have the address in their places it is one that was set last; or none has.
-abbrev pub IsNaming : JobValue → SetLines → ℕ → Option Naming → Type 0
+abbrev pub IsNaming : JobValue → NameOrigins → ℕ → Option NamedAddress → Type 0
 IsNaming job set a None = (name : Name) (p : PlaceValue) (number : ℕ) → IsSetTo job set name p number → has_address p a ≡ true → ⊥
 IsNaming job set a (Some n) =
     (n.addr ≡ a) × IsSetTo job set n.name n.place n.number × (has_address n.place a ≡ true)
     × ((name : Name) (p : PlaceValue) (number : ℕ) → IsSetTo job set name p number → has_address p a ≡ true → number ≤ n.number)
 
 -- the name that has an address, if there is an address
-abbrev pub IsNamingOf : JobValue → SetLines → Option ℕ → Option Naming → Type 0
+abbrev pub IsNamingOf : JobValue → NameOrigins → Option ℕ → Option NamedAddress → Type 0
 IsNamingOf job set None n = n ≡ None
 IsNamingOf job set (Some a) n = IsNaming job set a n
 
 -- what is printed of it
-abbrev pub naming_text : Option Naming → List ℕ
+abbrev pub naming_text : Option NamedAddress → List ℕ
 naming_text None = []
 naming_text (Some n) = naming_line n.addr n.name n.place n.number
 
 -- The text is the name that has the address in the reason of the next line, which has these events: empty before the first step.
-abbrev pub IsNamed : Option JobValue → SetLines → List ℕ → List Event → List ℕ → Type 0
+abbrev pub IsNamed : Option JobValue → NameOrigins → List ℕ → List Event → List ℕ → Type 0
 IsNamed None set bytes events text = text ≡ []
-IsNamed (Some job) set bytes events text = (a : Option ℕ) × IsAddress job bytes events a × ((n : Option Naming) × IsNamingOf job set a n × (text ≡ naming_text n))
+IsNamed (Some job) set bytes events text = (a : Option ℕ) × IsAddress job bytes events a × ((n : Option NamedAddress) × IsNamingOf job set a n × (text ≡ naming_text n))
 
 -- ---- what calls do
 
 -- the lines that set names before a line: none before the first step
-abbrev pub lines_before : Option JobValue → SetLines → SetLines
+abbrev pub lines_before : Option JobValue → NameOrigins → NameOrigins
 lines_before None set = no_lines
 lines_before (Some job) set = set
 
 -- the lines that set names are recorded after a line that has no fault
-abbrev pub KeepsLines : WalkValue → SetLines → List ℕ → WalkValue → LineEvent → SetLines → Type 0
-KeepsLines w set bytes new (told.Faulted fault) later = Unit {0}
-KeepsLines w set bytes new t later = AreNamesAfter w.number w.step set bytes (events_of_line w.number new t) later
+abbrev pub RecordsOrigins : WalkValue → NameOrigins → List ℕ → WalkValue → LineEvent → NameOrigins → Type 0
+RecordsOrigins w set bytes new (told.Faulted fault) later = Unit {0}
+RecordsOrigins w set bytes new t later = AreNamesAfter w.number w.step set bytes (events_of_line w.number new t) later
 
 -- A list has a length.
 abbrev pub HasLengths : Written → Type 0
@@ -168,19 +168,19 @@ SetsSome (line.Statement t says.ReportMap) = ⊥
 SetsSome line.Nothing = ⊥
 
 -- what a name says of an address, if it has it in its place
-abbrev pub naming_at : JobValue → ℕ → Name × ℕ → Option Naming
+abbrev pub naming_at : JobValue → ℕ → Name × ℕ → Option NamedAddress
 naming_at job a e = option_and_then (λ p. if has_address p a then Some (record { addr = a; name = e.0; place = p; number = e.1 }) else None) (get job.names e.0)
 
 -- whether a line is after that of another name, if there is one
-abbrev pub comes_later : Option Naming → ℕ → Bool
+abbrev pub comes_later : Option NamedAddress → ℕ → Bool
 comes_later None number = true
 comes_later (Some n) number = nat_lt n.number number
 
 -- one of two
-abbrev pub first_of : Option Naming → Option Naming → Option Naming
+abbrev pub first_of : Option NamedAddress → Option NamedAddress → Option NamedAddress
 first_of None other = other
 first_of (Some n) other = Some n
 
 -- the later one of a name and the next
-abbrev pub later : JobValue → ℕ → Option Naming → Name × ℕ → Option Naming
+abbrev pub later : JobValue → ℕ → Option NamedAddress → Name × ℕ → Option NamedAddress
 later job a latest e = if comes_later latest e.1 then first_of (naming_at job a e) latest else latest
