@@ -26,10 +26,10 @@ as_answered tail (Some a) answered end is = end ∙ ap blank_end is
 abbrev pub SoFar : Option (List ℕ) → Option (List ℕ) → List ℕ → List ℕ → Type 0
 SoFar start now script rest = (written : List ℕ) × Appends start now written × (blank script ≡ written ++ blank rest)
 
-module _ (start before mid now : Option (List ℕ)) (script text line next statement tail : List ℕ) (answers : Option (List ℕ)) (cut : lines_of text ≡ line ∷ lines_of next) (so_far : SoFar start before script text) (parted : IsPartedAt arrow line statement answers) (end : tail ≡ blank_end (is_some answers)) where
+module _ (start before mid now : Option (List ℕ)) (script text line next statement tail : List ℕ) (answers : Option (List ℕ)) (cut : lines_of text ≡ line ∷ lines_of next) (so_far : SoFar start before script text) (split_once : IsPartedAt arrow line statement answers) (end : tail ≡ blank_end (is_some answers)) where
   of_line : statement ++ tail ≡ blank_line line
   of_line =
-      let p = of_parted arrow line statement answers parted in
+      let p = of_parted arrow line statement answers split_once in
       ap (λ t. statement ++ t) (end ∙ ap blank_end p.1) ∙ ap (λ s. s ++ blank_end (is_some (place_of arrow line))) p.0
 
   whole : blank script ≡ so_far.0 ++ ((statement ++ tail) ++ blank next)

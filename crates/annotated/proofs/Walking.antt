@@ -86,8 +86,8 @@ module _ (number : ℕ) (script next line statement : List ℕ) (printed rest : 
   -- a line with an arrow
   pub step_answers : (answers expected got : List ℕ) → IsPartedAt arrow line statement (Some answers) → expected ≡ trimmed answers → got ≡ got_of number (before_first (λ b. b == 32) statement) printed
       → expected_answers number (lines_of script) printed ≡ onto (Some (record { number = number; expected = expected; got = got })) (expected_answers (number + 1) (lines_of next) rest)
-  step_answers answers expected got parted e g =
-      let p = arrow_parts line statement (Some answers) parted in
+  step_answers answers expected got split_once e g =
+      let p = arrow_parts line statement (Some answers) split_once in
       let is : answers_in line ≡ Some expected = ap (option_map trimmed) p.1 ∙ ap Some (sym e) in
       let of : got_of number (task_of line) printed ≡ got = ap (λ t. got_of number (before_first (λ b. b == 32) t) printed) (sym p.0) ∙ sym g in
       asked_next _ (ap (λ o. expected_by number line o (lines_of next) printed) is ∙ ap (λ t. Some (record { number = number; expected = expected; got = t })) of)
@@ -95,14 +95,14 @@ module _ (number : ℕ) (script next line statement : List ℕ) (printed rest : 
   -- the last line, without an arrow
   pub step_end : (found : Option ExpectedAnswer) → IsPartedAt arrow line statement None → next ≡ [] → found ≡ expected_at_end number (end_in line) rest
       → expected_answers number (lines_of script) printed ≡ onto found (expected_answers (number + 1) (lines_of next) rest)
-  step_end found parted last is =
-      let p = arrow_parts line statement None parted in
+  step_end found split_once last is =
+      let p = arrow_parts line statement None split_once in
       asked_next found (ap (λ o. expected_by number line (option_map trimmed o) (lines_of next) printed) p.1 ∙ ap (λ t. expected_without number line (lines_of t) printed) last ∙ ap (expected_at_end number (end_in line)) (sym after) ∙ sym is)
 
   -- another line without an arrow
   pub step_more : IsPartedAt arrow line statement None → 0 < length next → expected_answers number (lines_of script) printed ≡ onto None (expected_answers (number + 1) (lines_of next) rest)
-  step_more parted some =
-      let p = arrow_parts line statement None parted in
+  step_more split_once some =
+      let p = arrow_parts line statement None split_once in
       asked_next None (ap (λ o. expected_by number line (option_map trimmed o) (lines_of next) printed) p.1 ∙ ap (λ ls. expected_without number line ls printed) (first_line next some))
 
 -- what is so of each value, is so

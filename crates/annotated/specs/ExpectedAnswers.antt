@@ -3,8 +3,8 @@ use Rattle.std.specs.Prelude.{ℕ, ◌+◌, ◌==◌, ◌&&◌, ◌||◌, nat_eq
 use Rattle.std.specs.List.{before_first, count_by}
 use Rattle.std.specs.Cmp.Lexicographic.{pointwise}
 use Rattle.mvs_model.specs.Lines.{ended_text, lines_of}
-use Rattle.annotated.specs.declared.expected.Verdict.{Verdict}
-use Rattle.annotated.specs.declared.expected.Verdict.TheVariants.{Right, Wrong, Open, Empty}
+use Rattle.annotated.specs.declared.expected.AnswerVerdict.{AnswerVerdict}
+use Rattle.annotated.specs.declared.expected.AnswerVerdict.TheVariants.{Right, Wrong, Open, Empty}
 use Rattle.annotated.specs.Blank.{arrow, place_of, up_to}
 
 -- ---- a line of a script
@@ -159,24 +159,24 @@ expected_of script printed = expected_answers 1 (lines_of script) (lines_of prin
 -- ---- verdicts
 
 -- An answer is empty if nothing is after the arrow, open if that is a `?`, right if it is what was printed, and otherwise wrong.
-abbrev pub verdict_of : ExpectedAnswer → Verdict
+abbrev pub verdict_of : ExpectedAnswer → AnswerVerdict
 verdict_of a =
     if length a.expected == 0 then Empty else if pointwise nat_eq a.expected (codes "?") then Open else if pointwise nat_eq a.expected a.got then Right else Wrong
 
-abbrev pub is_right : Verdict → Bool
+abbrev pub is_right : AnswerVerdict → Bool
 is_right Right = true
 is_right _ = false
 
-abbrev pub is_wrong : Verdict → Bool
+abbrev pub is_wrong : AnswerVerdict → Bool
 is_wrong Wrong = true
 is_wrong _ = false
 
 -- whether an answer is missing
-abbrev pub is_missing : Verdict → Bool
+abbrev pub is_missing : AnswerVerdict → Bool
 is_missing Open = true
 is_missing Empty = true
 is_missing _ = false
 
 -- the number of answers with such a verdict
-abbrev pub number_of : (Verdict → Bool) → List ExpectedAnswer → ℕ
+abbrev pub number_of : (AnswerVerdict → Bool) → List ExpectedAnswer → ℕ
 number_of is answers = count_by (λ a. is (verdict_of a)) answers

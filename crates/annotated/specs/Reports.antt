@@ -1,11 +1,11 @@
 -- The report of a comparison. (its form is this project's choice)
 use Rattle.std.specs.Prelude.{ℕ, ◌+◌, ◌==◌, ◌&&◌, ◌||◌, nat_le, nat_lt, Bool, false, if◌then◌else◌, List, [], ◌∷◌, ◌++◌, length, map, codes, decimal, Option, Some, None}
 use Rattle.std.specs.List.{flat_map}
-use Rattle.annotated.specs.declared.expected.Verdict.{Verdict}
-use Rattle.annotated.specs.declared.expected.Verdict.TheVariants.{Right, Wrong, Open, Empty}
+use Rattle.annotated.specs.declared.expected.AnswerVerdict.{AnswerVerdict}
+use Rattle.annotated.specs.declared.expected.AnswerVerdict.TheVariants.{Right, Wrong, Open, Empty}
 use Rattle.annotated.specs.declared.report.Counts.{Counts}
 use Rattle.annotated.specs.declared.report.Format.{Format}
-use Rattle.annotated.specs.declared.report.Format.TheVariants.{Text, Tap, Junit}
+use Rattle.annotated.specs.declared.report.Format.TheVariants.{LineText, Tap, Junit}
 use Rattle.annotated.specs.ExpectedAnswers.{ExpectedAnswer, is_missing, is_right, is_wrong, number_of, verdict_of}
 
 -- ---- bytes
@@ -51,7 +51,7 @@ abbrev pub wrong_message : Bool → ExpectedAnswer → List ℕ
 wrong_message hides a = if hides then codes "wrong" else codes "expected " ++ (shown a.expected ++ (codes ", got " ++ shown a.got))
 
 -- what it has for an answer with this verdict: nothing if it is right
-abbrev pub message_of : Bool → Verdict → ExpectedAnswer → Option (List ℕ)
+abbrev pub message_of : Bool → AnswerVerdict → ExpectedAnswer → Option (List ℕ)
 message_of hides Right a = None
 message_of hides Wrong a = Some (wrong_message hides a)
 message_of hides Open a = Some (codes "not answered")
@@ -96,7 +96,7 @@ junit_case name line None = junit_begin name line ++ codes "\"/>\n"
 junit_case name line (Some message) = junit_begin name line ++ junit_message message
 
 abbrev pub case_of : Format → List ℕ → ℕ → Option ℕ → Option (List ℕ) → List ℕ
-case_of Text name index line message = text_case name line message
+case_of LineText name index line message = text_case name line message
 case_of Tap name index line message = tap_case index line message
 case_of Junit name index line message = junit_case name line message
 
@@ -122,7 +122,7 @@ abbrev pub counts_of : List ExpectedAnswer → Counts
 counts_of answers = record { right = number_of is_right answers; wrong = number_of is_wrong answers; missing = number_of is_missing answers; last = last_line 0 answers }
 
 -- some counts and one more answer
-abbrev pub with_one : Counts → Verdict → ℕ → Counts
+abbrev pub with_one : Counts → AnswerVerdict → ℕ → Counts
 with_one n Right line = record n { right = n.right + 1; last = line }
 with_one n Wrong line = record n { wrong = n.wrong + 1; last = line }
 with_one n _ line = record n { missing = n.missing + 1; last = line }
@@ -154,12 +154,12 @@ abbrev pub suite_numbers : Counts → List ℕ
 suite_numbers n = codes "\" tests=\"" ++ (decimal (tests n) ++ (codes "\" failures=\"" ++ (decimal (failures n) ++ codes "\">\n")))
 
 abbrev pub head : Format → List ℕ → Counts → List ℕ
-head Text name n = []
+head LineText name n = []
 head Tap name n = codes "TAP version 13\n1.." ++ (decimal (tests n) ++ codes "\n")
 head Junit name n = codes "<?xml version=\"1.0\" encoding=\"UTF-8\"?>\n<testsuites>\n<testsuite name=\"" ++ (name ++ suite_numbers n)
 
 abbrev pub foot : Format → Counts → List ℕ
-foot Text n = sum_of n
+foot LineText n = sum_of n
 foot Tap n = codes "# " ++ sum_of n
 foot Junit n = codes "</testsuite>\n</testsuites>\n"
 

@@ -6,13 +6,13 @@ ghost use Rattle.annotated.specs.ExpectedAnswers.{ExpectedAnswer, expected_answe
 
 use crate::lines::{ARROW, end_in, parted_at, trimmed};
 use crate::printed::{last_line, take_own};
-use job_script::parted::parted;
+use job_script::split_once::split_once;
 use std::alloc::{AllocError, Global};
 use std::marker::Model;
 
 /// What an answer is worth.
 #[derive(Clone, Copy, Debug, PartialEq, Eq)]
-pub enum Verdict {
+pub enum AnswerVerdict {
     /// It is what the run printed.
     Right,
     /// The run printed something else.
@@ -25,38 +25,38 @@ pub enum Verdict {
 
 /// An answer that a script expects in a line, and what a run printed there.
 #[derive(Drop)]
-pub struct Answer<'a> {
+pub struct AnswerPair<'a> {
     pub number: u32,
     pub expected: &'a [u8],
     pub got: Vec<u8>,
 }
 
-impl<'a> Model for Answer<'a> {
+impl<'a> Model for AnswerPair<'a> {
     ghost Value = { ExpectedAnswer };
 
     ghost view = { λ a. record { number = a.number; expected = a.expected.now; got = a.got.items } };
 }
 
-impl Answer<'_> {
+impl AnswerPair<'_> {
     /// Returns what it is worth.
-    pub fn verdict(&self) -> Verdict
+    pub fn verdict(&self) -> AnswerVerdict
         ensures { result ≡ verdict_of self.now }
     {
         if self.expected.is_empty() {
-            Verdict::Empty
+            AnswerVerdict::Empty
         } else if self.expected == b"?".as_slice() {
-            Verdict::Open
+            AnswerVerdict::Open
         } else if self.expected == self.got.as_slice() {
-            Verdict::Right
+            AnswerVerdict::Right
         } else {
-            Verdict::Wrong
+            AnswerVerdict::Wrong
         }
     }
 }
 
 /// The answers of a script from a line on, and what a run printed from there on.
 #[derive(Clone, Copy)]
-pub struct Answers<'a> {
+pub struct AnswerPairs<'a> {
     pub script: &'a [u8],
     pub printed: &'a [u8],
     /// The number of the next line.
@@ -69,7 +69,7 @@ fn expected_at_end<'a>(
     number: u32,
     line: &'a [u8],
     printed: &[u8],
-) -> Result<Option<Answer<'a>>, AllocError>
+) -> Result<Option<AnswerPair<'a>>, AllocError>
     ensures { IfOk result
         (λ found. found ≡ expected_at_end number (end_in line.now) (lines_of printed.now)) }
 {
@@ -78,7 +78,7 @@ fn expected_at_end<'a>(
     };
     let mut got = Vec::new(alloc);
     got.extend_from_slice(last_line(printed))?;
-    Ok(Some(Answer {
+    Ok(Some(AnswerPair {
         number,
         expected,
         got,
@@ -95,14 +95,14 @@ fn or_nothing(mut texts: Vec<u8>) -> Result<Vec<u8>, AllocError>
     Ok(texts)
 }
 
-impl<'a> Answers<'a> {
+impl<'a> AnswerPairs<'a> {
     /// Returns the answers of a script, and all that a run printed.
-    pub fn of(script: &'a [u8], printed: &'a [u8]) -> Answers<'a>
+    pub fn of(script: &'a [u8], printed: &'a [u8]) -> AnswerPairs<'a>
         ensures script { result.script.now ≡ script.now }
         ensures printed { result.printed.now ≡ printed.now }
         ensures number { result.number ≡ 1 }
     {
-        Answers {
+        AnswerPairs {
             script,
             printed,
             number: 1,
@@ -110,7 +110,7 @@ impl<'a> Answers<'a> {
     }
 
     // Moves past a line, and returns what it asks for.
-    fn step(&mut self, alloc: Global) -> Result<Option<Answer<'a>>, AllocError>
+    fn step(&mut self, alloc: Global) -> Result<Option<AnswerPair<'a>>, AllocError>
         requires some { 0 < length self.old.script.now }
         requires room { self.old.number + 1 < 2 ^ 32 }
         ensures expected_answers { IfOk result
@@ -120,15 +120,15 @@ impl<'a> Answers<'a> {
         ensures less { OnOk result (length self.new.script.now < length self.old.script.now) }
     {
         let number = self.number;
-        let (line, more) = parted(self.script, b'\n');
+        let (line, more) = split_once(self.script, b'\n');
         let (statement, answers) = parted_at(line, ARROW);
-        let (task, _) = parted(statement, b' ');
+        let (task, _) = split_once(statement, b' ');
         let mut texts = Vec::new(alloc);
         self.printed = take_own(&mut texts, self.printed, number, task)?;
         self.script = more.unwrap_or(&[]);
         self.number += 1;
         match answers {
-            Some(answers) => Ok(Some(Answer {
+            Some(answers) => Ok(Some(AnswerPair {
                 number,
                 expected: trimmed(answers),
                 got: or_nothing(texts)?,
@@ -139,7 +139,7 @@ impl<'a> Answers<'a> {
     }
 
     /// Returns the next answer, if there is one.
-    pub fn next(&mut self, alloc: Global) -> Result<Option<Answer<'a>>, AllocError>
+    pub fn next(&mut self, alloc: Global) -> Result<Option<AnswerPair<'a>>, AllocError>
         requires { self.old.number + length self.old.script.now < 2 ^ 32 }
         ensures expected_answers { IfOk result
             (λ found. expected_answers self.old.number (lines_of self.old.script.now) (lines_of self.old.printed.now)

@@ -15,11 +15,11 @@ mod printed;
 mod report;
 mod shown;
 
-use job_script::parted::parted;
+use job_script::split_once::split_once;
 use job_script::write_all;
 use lines::{ARROW, parted_at, statement_of};
 use mvs_model::watched::{Failed, Watched};
-pub use report::{Counts, Form, Format, Report, report_answers};
+pub use report::{Counts, Format, Report, ReportForm, report_answers};
 use std::alloc::{AllocError, Global};
 use std::io::Write;
 
@@ -30,7 +30,7 @@ pub fn statements(alloc: Global, script: &[u8]) -> Result<Vec<u8>, AllocError>
     let mut run = Vec::new(alloc);
     let mut rest = script;
     'lines: while !rest.is_empty() {
-        let (line, more) = parted(rest, b'\n');
+        let (line, more) = split_once(rest, b'\n');
         run.extend_from_slice(statement_of(line))?;
         run.push(b'\n')?;
         rest = more.unwrap_or(&[]);
@@ -64,7 +64,7 @@ pub fn write_blank<W: Write>(writer: &mut Watched<W>, script: &[u8]) -> Result<(
 {
     let mut rest = script;
     'lines: while !rest.is_empty() {
-        let (line, more) = parted(rest, b'\n');
+        let (line, more) = split_once(rest, b'\n');
         let (statement, answers) = parted_at(line, ARROW);
         write_all(writer, statement)?;
         write_all(writer, blank_end(answers.is_some()))?;

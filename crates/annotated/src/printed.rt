@@ -6,17 +6,17 @@ ghost use Rattle.mvs_model.specs.Lines.{lines_of};
 ghost use Rattle.annotated.specs.ExpectedAnswers.{begins_with, ends_step, after_own, is_own, joined, last_or, numbered, own_texts, text_of, without_task};
 
 use crate::lines::after_prefix;
-use job_script::parted::parted;
-use job_script::text::Text;
+use job_script::split_once::split_once;
+use job_script::text::LineText;
 use std::alloc::AllocError;
 
 // Returns the text of a printed line after its number, if it has this number.
 fn numbered(line: &[u8], number: u32) -> Option<&[u8]>
     ensures { option_map (λ text. text.now) result ≡ numbered number line.now }
 {
-    let mut head = Text::new();
+    let mut head = LineText::new();
     head.push_decimal(number);
-    head.push_all(b" ");
+    head.push_str(b" ");
     after_prefix(line, head.as_slice())
 }
 
@@ -31,7 +31,7 @@ fn ends_step(line: &[u8]) -> bool
 fn begins_with(printed: &[u8], number: u32) -> bool
     ensures { result ≡ begins_with number (lines_of printed.now) }
 {
-    let (line, _) = parted(printed, b'\n');
+    let (line, _) = split_once(printed, b'\n');
     numbered(line, number).is_some()
 }
 
@@ -41,7 +41,7 @@ fn is_own(printed: &[u8], number: u32) -> bool
     ensures own { result ≡ is_own number (lines_of printed.now) }
     ensures some { result ≡ true → printed.now ≢ [] }
 {
-    let (line, more) = parted(printed, b'\n');
+    let (line, more) = split_once(printed, b'\n');
     if numbered(line, number).is_some() {
         return true;
     }
@@ -86,7 +86,7 @@ pub fn last_line(printed: &[u8]) -> &[u8]
     let mut last = b"nothing".as_slice();
     let mut rest = printed;
     'lines: while !rest.is_empty() {
-        let (line, more) = parted(rest, b'\n');
+        let (line, more) = split_once(rest, b'\n');
         last = line;
         rest = more.unwrap_or(&[]);
     }
@@ -107,7 +107,7 @@ pub fn take_own<'a>(
 {
     let mut rest = printed;
     'own: while is_own(rest, number) {
-        let (line, more) = parted(rest, b'\n');
+        let (line, more) = split_once(rest, b'\n');
         push_text(texts, text_of(line, number, task))?;
         rest = more.unwrap_or(&[]);
     }

@@ -7,16 +7,16 @@ ghost use Rattle.mvs_model.specs.Numbers.{most_script_bytes};
 ghost use Rattle.annotated.specs.ExpectedAnswers.{expected_answers, expected_of, verdict_of};
 ghost use Rattle.annotated.specs.Reports.{are_right, case_of, cases, cases_from, counts_of, failures, foot, head, junit_begin, junit_case, junit_message, label_of, message_of, name_in, place_of, report_of, right_of, suite_numbers, sum_of, tap_case, tap_line, tap_message, tests, text_case, total, with_one, wrong_message};
 
-use crate::expected_answers::{Answer, Answers, Verdict};
+use crate::expected::{AnswerPair, AnswerPairs, AnswerVerdict};
 use crate::shown::{push_escaped, push_shown, shown_name};
-use job_script::text::Text as Line;
+use job_script::text::LineText as Line;
 use std::alloc::{AllocError, Global};
 
 /// The form of a report.
 #[derive(Clone, Copy, Debug, PartialEq, Eq)]
 pub enum Format {
     /// A line for each answer that is not right, and a line with the numbers.
-    Text,
+    LineText,
     /// The Test Anything Protocol, version 13.
     Tap,
     /// XML as JUnit writes it.
@@ -25,7 +25,7 @@ pub enum Format {
 
 /// How a comparison is reported.
 #[derive(Clone, Copy, Debug, PartialEq, Eq)]
-pub struct Form {
+pub struct ReportForm {
     pub format: Format,
     /// Whether a wrong answer is reported without what the run printed.
     pub is_hidden: bool,
@@ -42,23 +42,23 @@ pub struct Counts {
 
 impl Counts {
     // Returns these counts and one more answer.
-    fn with(self, verdict: Verdict, line_number: u32) -> Counts
+    fn with(self, verdict: AnswerVerdict, line_number: u32) -> Counts
         requires { total self + 1 < 2 ^ 32 }
         ensures { result ≡ with_one self verdict line_number }
     {
         let last = line_number;
         match verdict {
-            Verdict::Right => Counts {
+            AnswerVerdict::Right => Counts {
                 right: self.right + 1,
                 last,
                 ..self
             },
-            Verdict::Wrong => Counts {
+            AnswerVerdict::Wrong => Counts {
                 wrong: self.wrong + 1,
                 last,
                 ..self
             },
-            Verdict::Open | Verdict::Empty => Counts {
+            AnswerVerdict::Open | AnswerVerdict::Empty => Counts {
                 missing: self.missing + 1,
                 last,
                 ..self
@@ -261,7 +261,7 @@ fn push_case(
         ≡ report.old.items ++ case_of format name.now case.entry.index case.entry.line (option_map (λ m. m.now) case.entry.message)) }
 {
     match format {
-        Format::Text => match case.message {
+        Format::LineText => match case.message {
             Some(message) => push_text_case(report, name, case.line, message),
             None => Ok(()),
         },
@@ -271,7 +271,11 @@ fn push_case(
 }
 
 // Returns what is reported of a wrong answer.
-fn wrong_message(alloc: Global, answer: &Answer<'_>, is_hidden: bool) -> Result<Vec<u8>, AllocError>
+fn wrong_message(
+    alloc: Global,
+    answer: &AnswerPair<'_>,
+    is_hidden: bool,
+) -> Result<Vec<u8>, AllocError>
     ensures { IfOk result (λ message. message.items ≡ wrong_message is_hidden answer.now) }
 {
     let mut message = Vec::new(alloc);
@@ -290,17 +294,17 @@ fn wrong_message(alloc: Global, answer: &Answer<'_>, is_hidden: bool) -> Result<
 fn push_answer(
     alloc: Global,
     report: &mut Vec<u8>,
-    form: Form,
+    form: ReportForm,
     name: &[u8],
     index: u32,
-    answer: &Answer<'_>,
+    answer: &AnswerPair<'_>,
 ) -> Result<(), AllocError>
     ensures { OnOk result (report.new.items
         ≡ report.old.items ++ case_of form.format name.now index (Some answer.now.number) (message_of form.is_hidden (verdict_of answer.now) answer.now)) }
 {
     let line = Some(answer.number);
     match answer.verdict() {
-        Verdict::Right => push_case(
+        AnswerVerdict::Right => push_case(
             report,
             form.format,
             name,
@@ -310,7 +314,7 @@ fn push_answer(
                 message: None,
             },
         ),
-        Verdict::Wrong => {
+        AnswerVerdict::Wrong => {
             let message = wrong_message(alloc, answer, form.is_hidden)?;
             push_case(
                 report,
@@ -323,7 +327,7 @@ fn push_answer(
                 },
             )
         }
-        Verdict::Open => push_case(
+        AnswerVerdict::Open => push_case(
             report,
             form.format,
             name,
@@ -333,7 +337,7 @@ fn push_answer(
                 message: Some(b"not answered"),
             },
         ),
-        Verdict::Empty => push_case(
+        AnswerVerdict::Empty => push_case(
             report,
             form.format,
             name,
@@ -350,9 +354,9 @@ fn push_answer(
 fn push_rest(
     alloc: Global,
     report: &mut Vec<u8>,
-    form: Form,
+    form: ReportForm,
     name: &[u8],
-    answers: Answers<'_>,
+    answers: AnswerPairs<'_>,
 ) -> Result<(), AllocError>
     requires few { 1 < answers.number }
     requires room { answers.number + length answers.script.now < 2 ^ 32 }
@@ -372,9 +376,9 @@ fn push_rest(
 fn push_cases(
     alloc: Global,
     report: &mut Vec<u8>,
-    form: Form,
+    form: ReportForm,
     name: &[u8],
-    answers: Answers<'_>,
+    answers: AnswerPairs<'_>,
 ) -> Result<(), AllocError>
     requires few { 0 < answers.number }
     requires room { answers.number + length answers.script.now < 2 ^ 32 }
@@ -399,7 +403,7 @@ fn push_cases(
 }
 
 // Counts the answers of a script.
-fn count(alloc: Global, answers: Answers<'_>) -> Result<Counts, AllocError>
+fn count(alloc: Global, answers: AnswerPairs<'_>) -> Result<Counts, AllocError>
     requires few { 0 < answers.number }
     requires room { answers.number + length answers.script.now < 2 ^ 32 }
     ensures value { IfOk result (λ counts. counts
@@ -493,7 +497,7 @@ fn push_head(
     ensures { OnOk result (report.new.items ≡ report.old.items ++ head format name.now counts.now) }
 {
     match format {
-        Format::Text => Ok(()),
+        Format::LineText => Ok(()),
         Format::Tap => push_plan(report, counts),
         Format::Junit => push_suite(report, name, counts),
     }
@@ -505,7 +509,7 @@ fn push_foot(report: &mut Vec<u8>, format: Format, counts: &Counts) -> Result<()
     ensures { OnOk result (report.new.items ≡ report.old.items ++ foot format counts.now) }
 {
     match format {
-        Format::Text => push_sum(report, counts),
+        Format::LineText => push_sum(report, counts),
         Format::Tap => {
             push(report, b"# ")?;
             push_sum(report, counts)
@@ -520,7 +524,7 @@ fn name_in(alloc: Global, format: Format, name: &[u8]) -> Result<Vec<u8>, AllocE
 {
     let shown = shown_name(alloc, name)?;
     match format {
-        Format::Text | Format::Tap => Ok(shown),
+        Format::LineText | Format::Tap => Ok(shown),
         Format::Junit => {
             let mut written = Vec::new(alloc);
             push_escaped(&mut written, &shown)?;
@@ -533,7 +537,7 @@ fn name_in(alloc: Global, format: Format, name: &[u8]) -> Result<Vec<u8>, AllocE
 /// the script's file.
 pub fn report_answers(
     alloc: Global,
-    form: Form,
+    form: ReportForm,
     name: &str,
     script: &[u8],
     printed: &[u8],
@@ -544,7 +548,7 @@ pub fn report_answers(
         ≡ report_of form.format form.is_hidden name.now (expected_of script.now printed.now)) }
     ensures counts { IfOk result (λ report. report.counts ≡ counts_of (expected_of script.now printed.now)) }
 {
-    let answers = Answers::of(script, printed);
+    let answers = AnswerPairs::of(script, printed);
     let counts = count(alloc, answers)?;
     let name = name_in(alloc, form.format, name.as_bytes())?;
     let mut text = Vec::new(alloc);

@@ -8,7 +8,7 @@ use mvs_model::codes::is_conditional;
 use mvs_model::line::{Names, Written};
 use mvs_model::name::Name;
 use mvs_model::request::Lengths;
-use mvs_model::want::{Ask, Loc, Residence, Side};
+use mvs_model::want::{AreaRequest, Loc, Residence, Side};
 use std::alloc::{AllocError, Global};
 use std::fmt;
 use std::io::Write;
@@ -99,7 +99,7 @@ impl<W: Write> Writing<W> {
         entry: &StepEntry,
         form: Form,
         number: u8,
-        ask: &Ask,
+        ask: &AreaRequest,
     ) -> Result<String, AllocError> {
         let alloc = self.cards.alloc();
         let want = ask.want(Side::Below);
@@ -177,7 +177,7 @@ impl<W: Write> Writing<W> {
         &mut self,
         entry: &StepEntry,
         form: Form,
-        ask: &Ask,
+        ask: &AreaRequest,
         rest: &str,
         area: &Name,
     ) -> Result<(), ProgramFault> {
@@ -199,7 +199,7 @@ impl<W: Write> Writing<W> {
         &mut self,
         entry: &StepEntry,
         form: Form,
-        ask: &Ask,
+        ask: &AreaRequest,
         rest: &str,
         area: &Name,
     ) -> Result<(), ProgramFault> {
@@ -230,7 +230,7 @@ impl<W: Write> Writing<W> {
     }
 
     // The least and the greatest length of a request, with their label.
-    fn put_bounds(&mut self, entry: &StepEntry, ask: &Ask) -> Result<(), ProgramFault> {
+    fn put_bounds(&mut self, entry: &StepEntry, ask: &AreaRequest) -> Result<(), ProgramFault> {
         let alloc = self.cards.alloc();
         let label = format!(in alloc; "X{}", entry.number)?;
         let bounds = format!(in alloc; "F'{}',F'{}'", ask.least(), ask.most())?;

@@ -14,7 +14,7 @@ use Rattle.cell_pool.specs.Layout.{byte_of, count_at}
 use Rattle.cell_pool.specs.Roots.{Root, part_addr, part_of, pool_of, pools_of}
 use Rattle.cell_pool.specs.Walk.{IsChain, Meets}
 use Rattle.cell_pool.specs.Entries.{item_at, roots_of, IsDistinct}
-use Rattle.cell_pool.specs.declared.entry.Entry.{Entry}
+use Rattle.cell_pool.specs.declared.entry.PoolEntry.{PoolEntry}
 use Rattle.cell_pool.proofs.Chains.{part_contained, contained_part}
 use Rattle.mvs_model.proofs.Stand.{pooled_found, pooled_from}
 use Rattle.cell_pool.proofs.Frame.{root_found, pool_from}
@@ -53,8 +53,8 @@ module _ (st : Storage) (r : Root) (ch : IsChain st r) (j : ℕ) (l : j < r.coun
       none (omega arith) (omega arith)
 
 -- over all pools
-module _ (slots : List (Option Entry)) (roots : FinMap name_cmp Root) (view : roots_of slots ≡ roots) (distinct : IsDistinct slots) (st : Storage) (agree : AgreeParts roots st) (s : ℕ) (p : PlaceValue) where
-  touch_test : (b : Bool) → MatchBool b ((k : ℕ) × (x : Entry) × (item_at slots k ≡ Some x) × (x.root.subpool ≡ s) × Meets st x.root p) ((k : ℕ) (x : Entry) → item_at slots k ≡ Some x → x.root.subpool ≡ s → Meets st x.root p → ⊥)
+module _ (slots : List (Option PoolEntry)) (roots : FinMap name_cmp Root) (view : roots_of slots ≡ roots) (distinct : IsDistinct slots) (st : Storage) (agree : AgreeParts roots st) (s : ℕ) (p : PlaceValue) where
+  touch_test : (b : Bool) → MatchBool b ((k : ℕ) × (x : PoolEntry) × (item_at slots k ≡ Some x) × (x.root.subpool ≡ s) × Meets st x.root p) ((k : ℕ) (x : PoolEntry) → item_at slots k ≡ Some x → x.root.subpool ≡ s → Meets st x.root p → ⊥)
       → MatchBool b (Touches st (pools_of roots st) s p) (TouchesNone st (pools_of roots st) s p)
   touch_test true h =
       let x = h.1 in let m = h.4 in
@@ -77,7 +77,7 @@ module _ (slots : List (Option Entry)) (roots : FinMap name_cmp Root) (view : ro
         none x.0 x.1 x.2 (ap (λ (w : Root). w.subpool) x.4 ∙ is) (subst (λ q. Meets st q p) (sym x.4) (j.0, d, j.1, covered, c))
 
   -- the part of a pool that was met
-  pub met_part : (name : Name) → (k : ℕ) × (x : Entry) × (item_at slots k ≡ Some x) × (x.root.subpool ≡ s) × Meets st x.root p × (x.name ≡ name) → (d : ℕ) × Covers p d × HasPart (pools_of roots st) name d
+  pub met_part : (name : Name) → (k : ℕ) × (x : PoolEntry) × (item_at slots k ≡ Some x) × (x.root.subpool ≡ s) × Meets st x.root p × (x.name ≡ name) → (d : ℕ) × Covers p d × HasPart (pools_of roots st) name d
   met_part name h =
       let x = h.1 in let m = h.4 in
       let is : get roots x.name ≡ Some x.root = sym (ap (λ t. get t x.name) view) ∙ named slots h.0 x distinct h.2 in (
@@ -92,8 +92,8 @@ module _ (slots : List (Option Entry)) (roots : FinMap name_cmp Root) (view : ro
 
   -- whether one was met, and which
   abbrev Met : Option Name → Type 0
-  Met v = MatchOption v ((k : ℕ) (x : Entry) → item_at slots k ≡ Some x → x.root.subpool ≡ s → Meets st x.root p → ⊥)
-      (λ name. (k : ℕ) × (x : Entry) × (item_at slots k ≡ Some x) × (x.root.subpool ≡ s) × Meets st x.root p × (x.name ≡ name))
+  Met v = MatchOption v ((k : ℕ) (x : PoolEntry) → item_at slots k ≡ Some x → x.root.subpool ≡ s → Meets st x.root p → ⊥)
+      (λ name. (k : ℕ) × (x : PoolEntry) × (item_at slots k ≡ Some x) × (x.root.subpool ≡ s) × Meets st x.root p × (x.name ≡ name))
 
   pub met_test : (v : Option Name) → Met v → (b : Bool) → b ≡ is_some v → MatchBool b (Touches st (pools_of roots st) s p) (TouchesNone st (pools_of roots st) s p)
   met_test None none b e = subst (λ b. MatchBool b (Touches st (pools_of roots st) s p) (TouchesNone st (pools_of roots st) s p)) (sym e) (touch_test false none)
@@ -104,9 +104,9 @@ module _ (slots : List (Option Entry)) (roots : FinMap name_cmp Root) (view : ro
   met_told (Some name) h = met_part name h
 
 -- the same for a place, in any subpool
-module _ (slots : List (Option Entry)) (roots : FinMap name_cmp Root) (view : roots_of slots ≡ roots) (distinct : IsDistinct slots) (st : Storage) (p : PlaceValue) where
+module _ (slots : List (Option PoolEntry)) (roots : FinMap name_cmp Root) (view : roots_of slots ≡ roots) (distinct : IsDistinct slots) (st : Storage) (p : PlaceValue) where
   -- the doubleword of a part that was met
-  met_doubleword : (k : ℕ) (x : Entry) → item_at slots k ≡ Some x → Meets st x.root p → HasPartOf (pools_of roots st) p
+  met_doubleword : (k : ℕ) (x : PoolEntry) → item_at slots k ≡ Some x → Meets st x.root p → HasPartOf (pools_of roots st) p
   met_doubleword k x at m =
       let is : get roots x.name ≡ Some x.root = sym (ap (λ t. get t x.name) view) ∙ named slots k x distinct at in (
         m.1,
@@ -115,7 +115,7 @@ module _ (slots : List (Option Entry)) (roots : FinMap name_cmp Root) (view : ro
       )
 
   -- no pool was met
-  missed : ((k : ℕ) (x : Entry) → item_at slots k ≡ Some x → Unit {0} → Meets st x.root p → ⊥) → HasPartOf (pools_of roots st) p → ⊥
+  missed : ((k : ℕ) (x : PoolEntry) → item_at slots k ≡ Some x → Unit {0} → Meets st x.root p → ⊥) → HasPartOf (pools_of roots st) p → ⊥
   missed none h =
       let d = h.0 in
       let q = pooled_found (pools_of roots st) d h.2 in
@@ -127,8 +127,8 @@ module _ (slots : List (Option Entry)) (roots : FinMap name_cmp Root) (view : ro
       none x.0 x.1 x.2 tt (subst (λ q. Meets st q p) (sym x.4) (j.0, d, j.1, covered, h.1))
 
   pub any_test : (v : Option Name)
-      → MatchOption v ((k : ℕ) (x : Entry) → item_at slots k ≡ Some x → Unit {0} → Meets st x.root p → ⊥)
-      (λ name. (k : ℕ) × (x : Entry) × (item_at slots k ≡ Some x) × Unit {0} × Meets st x.root p × (x.name ≡ name))
+      → MatchOption v ((k : ℕ) (x : PoolEntry) → item_at slots k ≡ Some x → Unit {0} → Meets st x.root p → ⊥)
+      (λ name. (k : ℕ) × (x : PoolEntry) × (item_at slots k ≡ Some x) × Unit {0} × Meets st x.root p × (x.name ≡ name))
       → (b : Bool) → b ≡ is_some v → MatchBool b (HasPartOf (pools_of roots st) p) (HasPartOf (pools_of roots st) p → ⊥)
   any_test None none b e = subst (λ b. MatchBool b (HasPartOf (pools_of roots st) p) (HasPartOf (pools_of roots st) p → ⊥)) (sym e) (missed none)
   any_test (Some name) h b e = subst (λ b. MatchBool b (HasPartOf (pools_of roots st) p) (HasPartOf (pools_of roots st) p → ⊥)) (sym e) (met_doubleword h.0 h.1 h.2 h.4)

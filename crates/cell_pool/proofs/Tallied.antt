@@ -26,7 +26,7 @@ use Rattle.cell_pool.specs.Walk.{IsChain}
 use Rattle.cell_pool.specs.Release.{in_first}
 use Rattle.cell_pool.specs.Report.{is_in_entry, AreApart}
 use Rattle.cell_pool.specs.Entries.{item_at, roots_of, IsDistinct}
-use Rattle.cell_pool.specs.declared.entry.Entry.{Entry}
+use Rattle.cell_pool.specs.declared.entry.PoolEntry.{PoolEntry}
 use Rattle.subpool_store.proofs.Counts.{count_most}
 use Rattle.mvs_model.proofs.Stand.{held_state, pooled_found, pooled_from}
 use Rattle.cell_pool.proofs.Frame.{root_found, pool_from}
@@ -90,7 +90,7 @@ pub low_tally : (r : Regions) (f : ℕ → Bool) → IsBounded r → 8 * count_b
 low_tally r f b = let m : count_below (end_of r) f ≤ end_of r = count_most (end_of r) f in let h = b.above in omega arith
 
 -- the pools of a subpool, one after another
-module _ (m : ℕ → ℕ) (s end : ℕ) (entry : ℕ → Option Entry) where
+module _ (m : ℕ → ℕ) (s end : ℕ) (entry : ℕ → Option PoolEntry) where
   pub none_of : 0 ≡ 8 * count_below end (λ d. any_below (λ k. is_in_entry m s (entry k) d) 0)
   unfolding any_below
   none_of = let e : count_below end (λ d. false) ≡ 0 = count_none end (λ d. false) (λ d l. refl) in omega (arith, e)
@@ -116,22 +116,22 @@ module _ (m : ℕ → ℕ) (s end : ℕ) (entry : ℕ → Option Entry) where
       not_both d t u = let g = below_some (λ k. is_in_entry m s (entry k) d) n u in apart g.0 n d (λ same. let l = g.1 in absurd (omega (arith, same, l))) g.2 t
 
 -- what one entry adds
-pub no_entry : (m : ℕ → ℕ) (s end : ℕ) (v : Option Entry) → v ≡ None → 0 ≡ 8 * count_below end (is_in_entry m s v)
+pub no_entry : (m : ℕ → ℕ) (s end : ℕ) (v : Option PoolEntry) → v ≡ None → 0 ≡ 8 * count_below end (is_in_entry m s v)
 no_entry m s end v e = let n : count_below end (is_in_entry m s v) ≡ 0 = count_none end (is_in_entry m s v) (λ d l. ap (λ w. is_in_entry m s w d) e) in omega arith
 
-pub other_entry : (m : ℕ → ℕ) (s end : ℕ) (v : Option Entry) (x : Entry) → v ≡ Some x → (x.root.subpool == s) ≡ false → 0 ≡ 8 * count_below end (is_in_entry m s v)
+pub other_entry : (m : ℕ → ℕ) (s end : ℕ) (v : Option PoolEntry) (x : PoolEntry) → v ≡ Some x → (x.root.subpool == s) ≡ false → 0 ≡ 8 * count_below end (is_in_entry m s v)
 other_entry m s end v x e f = let n : count_below end (is_in_entry m s v) ≡ 0 = count_none end (is_in_entry m s v) (λ d l. ap (λ w. is_in_entry m s w d) e ∙ ap (λ b. b && in_first m x.root x.root.count d) f) in omega arith
 
-pub own_entry : (m : ℕ → ℕ) (s end : ℕ) (v : Option Entry) (x : Entry) → v ≡ Some x → (x.root.subpool == s) ≡ true → (bytes : ℕ) → bytes ≡ 8 * count_below end (in_first m x.root x.root.count) → bytes ≡ 8 * count_below end (is_in_entry m s v)
+pub own_entry : (m : ℕ → ℕ) (s end : ℕ) (v : Option PoolEntry) (x : PoolEntry) → v ≡ Some x → (x.root.subpool == s) ≡ true → (bytes : ℕ) → bytes ≡ 8 * count_below end (in_first m x.root x.root.count) → bytes ≡ 8 * count_below end (is_in_entry m s v)
 own_entry m s end v x e f bytes g = g ∙ ap (λ n. 8 * n) (sym (count_same end (is_in_entry m s v) (in_first m x.root x.root.count) (λ d l. ap (λ w. is_in_entry m s w d) e ∙ ap (λ b. b && in_first m x.root x.root.count d) f)))
 
 -- an entry that has the doubleword
-in_entry_found : (m : ℕ → ℕ) (s : ℕ) (v : Option Entry) (d : ℕ) → is_in_entry m s v d ≡ true → (x : Entry) × (v ≡ Some x) × (x.root.subpool ≡ s) × (in_first m x.root x.root.count d ≡ true)
+in_entry_found : (m : ℕ → ℕ) (s : ℕ) (v : Option PoolEntry) (d : ℕ) → is_in_entry m s v d ≡ true → (x : PoolEntry) × (v ≡ Some x) × (x.root.subpool ≡ s) × (in_first m x.root x.root.count d ≡ true)
 in_entry_found m s None d e = absurd (let g : false ≡ true = e in cc)
 in_entry_found m s (Some x) d e = let b = and_parts _ _ e in (x, refl, eqb-true x.root.subpool s b.0, b.1)
 
-module _ (slots : List (Option Entry)) (roots : FinMap name_cmp Root) (view : roots_of slots ≡ roots) (distinct : IsDistinct slots) (st : Storage) (agree : AgreeParts roots st) (s : ℕ) where
-  root_of : (k : ℕ) (x : Entry) → item_at slots k ≡ Some x → get roots x.name ≡ Some x.root
+module _ (slots : List (Option PoolEntry)) (roots : FinMap name_cmp Root) (view : roots_of slots ≡ roots) (distinct : IsDistinct slots) (st : Storage) (agree : AgreeParts roots st) (s : ℕ) where
+  root_of : (k : ℕ) (x : PoolEntry) → item_at slots k ≡ Some x → get roots x.name ≡ Some x.root
   root_of k x e = sym (ap (λ t. get t x.name) view) ∙ named slots k x distinct e
 
   -- no doubleword is of two
@@ -144,7 +144,7 @@ module _ (slots : List (Option Entry)) (roots : FinMap name_cmp Root) (view : ro
       ne (distinct j k x.0 y.0 x.1 y.1 (only roots st agree x.0.name y.0.name x.0.root y.0.root f.0 g.0 d (root_of j x.0 x.1) (root_of k y.0 y.1) f.1 g.1 f.2 g.2).0)
 
   -- a doubleword that the subpool holds for a pool
-  pub tally_test : (n : ℕ) → ((k : ℕ) (x : Entry) → item_at slots k ≡ Some x → k < n) → (o : Owners) (d : ℕ)
+  pub tally_test : (n : ℕ) → ((k : ℕ) (x : PoolEntry) → item_at slots k ≡ Some x → k < n) → (o : Owners) (d : ℕ)
       → any_below (λ k. is_in_entry (byte_of st) s (item_at slots k) d) n ≡ has (λ (h : Holding). (h.subpool == s) && h.pooled) (get (state_of st o (pools_of roots st)).held d)
   tally_test n low o d = same_test _ _ there back ∙ ap (has (λ (h : Holding). (h.subpool == s) && h.pooled)) (sym (held_state st o (pools_of roots st) agree.storage d)) where
     there : any_below (λ k. is_in_entry (byte_of st) s (item_at slots k) d) n ≡ true → has (λ (h : Holding). (h.subpool == s) && h.pooled) (holding st (pools_of roots st) d) ≡ true
@@ -175,7 +175,7 @@ module _ (slots : List (Option Entry)) (roots : FinMap name_cmp Root) (view : ro
           some_below (λ k. is_in_entry (byte_of st) s (item_at slots k) d) n x.0 (low x.0 x.1 x.2)
           (ap (λ v. is_in_entry (byte_of st) s v d) x.2 ∙ (λ i. (((x.4 i).subpool) == s) && in_first (byte_of st) (x.4 i) (x.4 i).count d) ∙ and_from (r.0.subpool == s) _ (eq-eqb r.0.subpool s (same ∙ eqb-true u s t.0)) has_it)
 
-  pub tallied : (n bytes : ℕ) → ((k : ℕ) (x : Entry) → item_at slots k ≡ Some x → k < n) → bytes ≡ 8 * count_below (end_of st.regions) (λ d. any_below (λ k. is_in_entry (byte_of st) s (item_at slots k) d) n)
+  pub tallied : (n bytes : ℕ) → ((k : ℕ) (x : PoolEntry) → item_at slots k ≡ Some x → k < n) → bytes ≡ 8 * count_below (end_of st.regions) (λ d. any_below (λ k. is_in_entry (byte_of st) s (item_at slots k) d) n)
       → (o : Owners) → bytes ≡ bytes_held (state_of st o (pools_of roots st)) s true
   tallied n bytes low e o = e ∙ ap (λ x. 8 * x) (count_same (end_of st.regions) _ _ (λ d _. tally_test n low o d))
 

@@ -26,18 +26,18 @@ module _ (roots : FinMap name_cmp Root) (st : Storage) (agree : AgreeParts roots
 
   -- a free cell
   pub takes_free : (c : ℕ) → IsFreeCell (pool_of (byte_of st) r) c → (IsFreeCell (pool_of (byte_of st) r) a → p.addr ≡ a) → CellFollowsHint (state_of st o (pools_of roots st)) name a first p
-  takes_free c free told pool found (inl f) = told (subst (λ q. IsFreeCell q a) (sym (pool_is pool found)) f)
-  takes_free c free told pool found (inr g) = absurd (g.0 c (subst (λ q. IsFreeCell q c) (pool_is pool found) free))
+  takes_free c free hint pool found (inl f) = hint (subst (λ q. IsFreeCell q a) (sym (pool_is pool found)) f)
+  takes_free c free hint pool found (inr g) = absurd (g.0 c (subst (λ q. IsFreeCell q c) (pool_is pool found) free))
 
   -- a cell of a further part
   pub takes_further : ((c : ℕ) → IsFreeCell (pool_of (byte_of st) r) c → ⊥)
       → ((q : PlaceValue) (i : ℕ) → MayAdd st r q → first ≡ Some (q.addr + head_length r.secondary) → i < r.secondary → a ≡ q.addr + head_length r.secondary + i * r.cell_size → p.addr ≡ a) → CellFollowsHint (state_of st o (pools_of roots st)) name a first p
-  takes_further none told pool found (inl f) = absurd (none a (subst (λ q. IsFreeCell q a) (sym (pool_is pool found)) f))
-  takes_further none told pool found (inr g) =
+  takes_further none hint pool found (inl f) = absurd (none a (subst (λ q. IsFreeCell q a) (sym (pool_is pool found)) f))
+  takes_further none hint pool found (inr g) =
       let same = pool_is pool found in
       let q = g.1.0 in
       let first = is_first_after pool pool.secondary _ _ q g.1.1 in
-      told q g.1.3.0
+      hint q g.1.3.0
       (subst (λ (v : Pool). Chosen st.regions (holder st) v.subpool (part_want v.cell_size v.secondary v.side) q) (sym same)
       (subst (λ h. Chosen st.regions h pool.subpool (part_want pool.cell_size pool.secondary pool.side) q) (λ k d. holder_state st o (pools_of roots st) agree.storage d k) g.1.1))
       (g.1.2 ∙ ap Some (first ∙ ap (λ (v : Pool). q.addr + head_length v.secondary) (sym same))) (subst (λ (v : Pool). g.1.3.0 < v.secondary) (sym same) g.1.3.1)

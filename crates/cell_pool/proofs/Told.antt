@@ -19,12 +19,12 @@ use Rattle.cell_pool.specs.Layout.{byte_of, count_at, taken_at, flag}
 use Rattle.cell_pool.specs.Roots.{Root, free_in, part_addr, part_of, parts_of, is_taken, taken_of, pool_of, pools_of}
 use Rattle.cell_pool.specs.Agree.{AgreeParts, IsCounted}
 use Rattle.cell_pool.specs.Walk.{IsChain, IsTakenAt}
-use Rattle.mvs_model.specs.declared.reason.CellSpot.{CellSpot}
+use Rattle.mvs_model.specs.declared.reason.CellPosition.{CellPosition}
 use Rattle.mvs_model.specs.Reasons.{IsSpot}
 use Rattle.cell_pool.specs.Cells.{IsSupply}
-use Rattle.mvs_model.specs.Newest.{IsNewest}
-use Rattle.mvs_model.specs.declared.report.Newest.{Newest}
-use Rattle.cell_pool.specs.declared.walk.Taken.{Taken}
+use Rattle.mvs_model.specs.LastPart.{IsNewest}
+use Rattle.mvs_model.specs.declared.report.LastPart.{LastPart}
+use Rattle.cell_pool.specs.declared.walk.TakenCell.{TakenCell}
 use Rattle.cell_pool.proofs.Chains.{part_contained, part_in_list, parts_len}
 use Rattle.cell_pool.proofs.Frame.{get-pools_of, pool_from}
 use Rattle.cell_pool.proofs.Getting.{none_free}
@@ -83,7 +83,7 @@ module _ (roots : FinMap name_cmp Root) (st : Storage) (agree : AgreeParts roots
     supply_told counted b h = (pool_of (byte_of st) r, pool_from roots st name r is, record { free = free_told counted b h; subpool = refl; cell_size = refl; secondary = refl; side = refl })
 
     -- where the address lies at which no taken cell begins
-    pub spot_told : (c : ℕ) (spot : CellSpot) → IsSpot (pool_of (byte_of st) r) c spot → (pool : Pool) → get (pools_of roots st) name ≡ Some pool → IsSpot pool c spot
+    pub spot_told : (c : ℕ) (spot : CellPosition) → IsSpot (pool_of (byte_of st) r) c spot → (pool : Pool) → get (pools_of roots st) name ≡ Some pool → IsSpot pool c spot
     spot_told c spot h pool found =
         let e : Some (pool_of (byte_of st) r) ≡ Some pool = sym (pool_from roots st name r is) ∙ found in
         let same : pool_of (byte_of st) r ≡ pool = cc in
@@ -103,13 +103,13 @@ module _ (roots : FinMap name_cmp Root) (st : Storage) (agree : AgreeParts roots
           small c a n e l = let h : c < a + n = grind (arith, nat_tests) in omega arith
 
     -- whether a taken cell begins at an address
-    pub taken_told : (x c : ℕ) (v : Option Taken) (b : Bool) → x ≡ c → b ≡ is_some v → MatchOption v (is_taken (byte_of st) r x ≡ false) (λ s. IsTakenAt st r s.part s.cell s.taken s.past x)
+    pub taken_told : (x c : ℕ) (v : Option TakenCell) (b : Bool) → x ≡ c → b ≡ is_some v → MatchOption v (is_taken (byte_of st) r x ≡ false) (λ s. IsTakenAt st r s.part s.cell s.taken s.past x)
         → (pool : Pool) × (get (pools_of roots st) name ≡ Some pool) × (b ≡ set.contains pool.taken c)
     taken_told x c None b same e h = (pool_of (byte_of st) r, pool_from roots st name r is, e ∙ sym (ap (set.contains (taken_of (byte_of st) r)) (sym same) ∙ contains-taken (byte_of st) r x ∙ and_right _ _ h))
     taken_told x c (Some s) b same e h = (pool_of (byte_of st) r, pool_from roots st name r is, e ∙ sym (ap (set.contains (taken_of (byte_of st) r)) (sym same) ∙ cell_set s.part s.cell s.taken x h))
 
     -- the part that was put to it last
-    pub newest_told : (newest : Newest) → newest.parts ≡ r.count → part_of (byte_of st) r (r.count - 1) ≡ record { place = newest.place; count = newest.cells } → newest.cell_size ≡ r.cell_size
+    pub newest_told : (newest : LastPart) → newest.parts ≡ r.count → part_of (byte_of st) r (r.count - 1) ≡ record { place = newest.place; count = newest.cells } → newest.cell_size ≡ r.cell_size
         → (pool : Pool) × (get (pools_of roots st) name ≡ Some pool) × IsNewest pool newest
     newest_told newest parts part size = (
       pool_of (byte_of st) r,

@@ -16,7 +16,7 @@ use Rattle.cell_pool.specs.Layout.{byte_of, count_at, flag, head_length}
 use Rattle.cell_pool.specs.Roots.{Root, part_addr, part_of, pool_of, pools_of}
 use Rattle.cell_pool.specs.Walk.{IsChain, IsPartAt}
 use Rattle.cell_pool.specs.Entries.{item_at, roots_of, IsDistinct}
-use Rattle.cell_pool.specs.declared.entry.Entry.{Entry}
+use Rattle.cell_pool.specs.declared.entry.PoolEntry.{PoolEntry}
 use Rattle.cell_pool.proofs.Taken.{TakenAt, set_found, set_from}
 use Rattle.cell_pool.proofs.Frame.{root_found, pool_from}
 use Rattle.cell_pool.proofs.Named.{named, entry_of}
@@ -169,14 +169,14 @@ module _ (st : Storage) (r : Root) (ch : IsChain st r) (x : ℕ) where
       here = (part_of (byte_of st) r p.number, part_contained (byte_of st) r p.number p.is_part, (i, subst (λ q. i < q) count_is l, sym begins))
 
 -- over all pools
-module _ (slots : List (Option Entry)) (roots : FinMap name_cmp Root) (view : roots_of slots ≡ roots) (distinct : IsDistinct slots) (st : Storage) (agree : AgreeParts roots st) where
-  pub entry_root : (k : ℕ) (e : Entry) → item_at slots k ≡ Some e → get roots e.name ≡ Some e.root
+module _ (slots : List (Option PoolEntry)) (roots : FinMap name_cmp Root) (view : roots_of slots ≡ roots) (distinct : IsDistinct slots) (st : Storage) (agree : AgreeParts roots st) where
+  pub entry_root : (k : ℕ) (e : PoolEntry) → item_at slots k ≡ Some e → get roots e.name ≡ Some e.root
   entry_root k e h = sym (ap (λ m. get m e.name) view) ∙ named slots k e distinct h
 
-  pub entry_chain : (k : ℕ) (e : Entry) → item_at slots k ≡ Some e → IsChain st e.root
+  pub entry_chain : (k : ℕ) (e : PoolEntry) → item_at slots k ≡ Some e → IsChain st e.root
   entry_chain k e h = chain_of roots st e.name e.root agree (entry_root k e h)
 
-  taken_place : (x y : ℕ) → y ≡ x → (p : PlaceValue) → (k : ℕ) × (e : Entry) × (item_at slots k ≡ Some e) × (set.contains (taken_of (byte_of st) e.root) p.addr ≡ true) × (p.len ≡ e.root.cell_size) × (has_address p y ≡ true)
+  taken_place : (x y : ℕ) → y ≡ x → (p : PlaceValue) → (k : ℕ) × (e : PoolEntry) × (item_at slots k ≡ Some e) × (set.contains (taken_of (byte_of st) e.root) p.addr ≡ true) × (p.len ≡ e.root.cell_size) × (has_address p y ≡ true)
       → IsTakenCell (pools_of roots st) p × (has_address p x ≡ true)
   taken_place x y s p h = (
     record { name = h.1.name; pool = pool_of (byte_of st) h.1.root; is_pool = pool_from roots st h.1.name h.1.root (entry_root h.0 h.1 h.2); taken = h.3; place = ap (λ n. place_at p.addr n) h.4 },
@@ -184,7 +184,7 @@ module _ (slots : List (Option Entry)) (roots : FinMap name_cmp Root) (view : ro
   )
 
   -- a taken cell that has the address is one of a pool of the subpool that holds the address
-  holder_of : (o : Owners) (x : ℕ) → in_cell (state_of st o (pools_of roots st)) x ≡ true → (k : ℕ) × (e : Entry) × (item_at slots k ≡ Some e) × (held_by st (x / 8) ≡ Some e.root.subpool) × (in_taken (pool_of (byte_of st) e.root) x ≡ true)
+  holder_of : (o : Owners) (x : ℕ) → in_cell (state_of st o (pools_of roots st)) x ≡ true → (k : ℕ) × (e : PoolEntry) × (item_at slots k ≡ Some e) × (held_by st (x / 8) ≡ Some e.root.subpool) × (in_taken (pool_of (byte_of st) e.root) x ≡ true)
   holder_of o x q =
       let i = in_cell_is (state_of st o (pools_of roots st)) x q in
       let r = root_found roots st i.name i.pool i.is_pool in
@@ -193,7 +193,7 @@ module _ (slots : List (Option Entry)) (roots : FinMap name_cmp Root) (view : ro
       let same : pool_of (byte_of st) e.1.root ≡ i.pool = ap (pool_of (byte_of st)) e.4 ∙ r.2 in
       (e.0, e.1, e.2, held ∙ ap (λ p. Some p.subpool) (sym same), ap (λ p. in_taken p x) same ∙ taken_from i.pool x i.first i.taken i.inside)
 
-  none_taken : (s x y : ℕ) → y ≡ x → Some s ≡ held_by st (x / 8) → ((k : ℕ) (e : Entry) → item_at slots k ≡ Some e → e.root.subpool ≡ s → in_taken (pool_of (byte_of st) e.root) y ≡ false) → (o : Owners) → in_cell (state_of st o (pools_of roots st)) x ≡ false
+  none_taken : (s x y : ℕ) → y ≡ x → Some s ≡ held_by st (x / 8) → ((k : ℕ) (e : PoolEntry) → item_at slots k ≡ Some e → e.root.subpool ≡ s → in_taken (pool_of (byte_of st) e.root) y ≡ false) → (o : Owners) → in_cell (state_of st o (pools_of roots st)) x ≡ false
   none_taken s x y same held none o = never _ (λ q.
       let h = holder_of o x q in
       let f : Some s ≡ Some h.1.root.subpool = held ∙ h.3 in
@@ -201,8 +201,8 @@ module _ (slots : List (Option Entry)) (roots : FinMap name_cmp Root) (view : ro
       let t : true ≡ false = sym h.4 ∙ ap (in_taken (pool_of (byte_of st) h.1.root)) (sym same) ∙ none h.0 h.1 h.2 g in absurd (cc))
 
   pub cell_answer : (s x y : ℕ) → y ≡ x → Some s ≡ held_by st (x / 8) → (v : Option PlaceValue)
-      → MatchOption v ((k : ℕ) (e : Entry) → item_at slots k ≡ Some e → e.root.subpool ≡ s → in_taken (pool_of (byte_of st) e.root) y ≡ false)
-      (λ p. (k : ℕ) × (e : Entry) × (item_at slots k ≡ Some e) × (set.contains (taken_of (byte_of st) e.root) p.addr ≡ true) × (p.len ≡ e.root.cell_size) × (has_address p y ≡ true))
+      → MatchOption v ((k : ℕ) (e : PoolEntry) → item_at slots k ≡ Some e → e.root.subpool ≡ s → in_taken (pool_of (byte_of st) e.root) y ≡ false)
+      (λ p. (k : ℕ) × (e : PoolEntry) × (item_at slots k ≡ Some e) × (set.contains (taken_of (byte_of st) e.root) p.addr ≡ true) × (p.len ≡ e.root.cell_size) × (has_address p y ≡ true))
       → MatchOption v ((o : Owners) → in_cell (state_of st o (pools_of roots st)) x ≡ false) (λ p. IsTakenCell (pools_of roots st) p × (has_address p x ≡ true))
   cell_answer s x y same held None none = none_taken s x y same held none
   cell_answer s x y same held (Some p) h = taken_place x y same p h

@@ -24,9 +24,9 @@ MayHave old pool a first =
 
 -- A taken cell is at the hinted address, if there can be one.
 abbrev pub CellFollowsHint : State → Name → ℕ → Option ℕ → PlaceValue → Type 0
-CellFollowsHint old name told first p = (pool : Pool) → get old.pools name ≡ Some pool → MayHave old pool told first → p.addr ≡ told
+CellFollowsHint old name hint first p = (pool : Pool) → get old.pools name ≡ Some pool → MayHave old pool hint first → p.addr ≡ hint
 
 -- The pool now has a part with its first cell at the hinted address, if such a part can be added to it.
 abbrev pub PartFollowsHint : Storage → Name → Pool → ℕ → ℕ → FinMap name_cmp Pool → Type 0
-PartFollowsHint st name pool count told pools =
-    (q : PlaceValue) → Chosen st.regions (held_by st) pool.subpool (part_want pool.cell_size count pool.side) q → told ≡ first_in pool count q → get pools name ≡ Some (with_part pool count q)
+PartFollowsHint st name pool count hint pools =
+    (q : PlaceValue) → Chosen st.regions (held_by st) pool.subpool (part_want pool.cell_size count pool.side) q → hint ≡ first_in pool count q → get pools name ≡ Some (with_part pool count q)

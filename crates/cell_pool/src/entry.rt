@@ -3,9 +3,9 @@
 ghost use Rattle.std.specs.Prelude.{◌≡◌, ◌≢◌, ◌<◌, ◌≤◌, ℕ, not, true, Some, None, IsSome, MatchOption};
 ghost use Rattle.std.specs.FinMap.{get};
 ghost use Rattle.slab.specs.Slab.{get as slab_get, slab_len, Updates};
-ghost use Rattle.mvs_model.specs.Finite.{has, kept};
+ghost use Rattle.mvs_model.specs.Finite.{has, filtered};
 ghost use Rattle.mvs_model.specs.Storage.{is_one_of};
-ghost use Rattle.cell_pool.specs.declared.entry.Entry.{Entry};
+ghost use Rattle.cell_pool.specs.declared.entry.PoolEntry.{PoolEntry};
 
 use crate::root::Root;
 use mvs_model::name::Name;
@@ -14,23 +14,23 @@ use slab::Slab;
 
 // What is kept of a pool, with its name.
 #[derive(Clone, Copy)]
-pub(crate) struct Entry {
+pub(crate) struct PoolEntry {
     pub(crate) name: Name,
     pub(crate) root: Root,
 }
 
 // Whether no pool is kept.
-pub(crate) fn has_none(entries: &Slab<Entry>) -> bool
+pub(crate) fn has_none(entries: &Slab<PoolEntry>) -> bool
     ensures { result ≡ true → (k : ℕ) → slab_get entries.now k ≡ None }
 {
     entries.is_empty()
 }
 
 // The key of the pool of this name.
-pub(crate) fn find_key(entries: &Slab<Entry>, name: Name) -> Option<usize>
+pub(crate) fn find_key(entries: &Slab<PoolEntry>, name: Name) -> Option<usize>
     ensures { MatchOption result
-        ((k : ℕ) (x : Entry) → slab_get entries.now k ≡ Some x → x.name ≢ name)
-        (λ k. (x : Entry) × (slab_get entries.now k ≡ Some x) × (x.name ≡ name)) }
+        ((k : ℕ) (x : PoolEntry) → slab_get entries.now k ≡ Some x → x.name ≢ name)
+        (λ k. (x : PoolEntry) × (slab_get entries.now k ≡ Some x) × (x.name ≡ name)) }
 {
     for key in 0..entries.capacity() {
         if let Some(entry) = entries.get(key) {
@@ -43,10 +43,10 @@ pub(crate) fn find_key(entries: &Slab<Entry>, name: Name) -> Option<usize>
 }
 
 // What is kept of the pool of this name.
-pub(crate) fn find(entries: &Slab<Entry>, name: Name) -> Option<Root>
+pub(crate) fn find(entries: &Slab<PoolEntry>, name: Name) -> Option<Root>
     ensures { MatchOption result
-        ((k : ℕ) (x : Entry) → slab_get entries.now k ≡ Some x → x.name ≢ name)
-        (λ r. (k : ℕ) × (x : Entry) × (slab_get entries.now k ≡ Some x) × (x.name ≡ name)
+        ((k : ℕ) (x : PoolEntry) → slab_get entries.now k ≡ Some x → x.name ≢ name)
+        (λ r. (k : ℕ) × (x : PoolEntry) × (slab_get entries.now k ≡ Some x) × (x.name ≡ name)
         × (x.root ≡ r)) }
 {
     for key in 0..entries.capacity() {
@@ -60,9 +60,9 @@ pub(crate) fn find(entries: &Slab<Entry>, name: Name) -> Option<Root>
 }
 
 // Keeps something else of the pool at a key.
-pub(crate) fn set_root(entries: &mut Slab<Entry>, key: usize, root: Root)
+pub(crate) fn set_root(entries: &mut Slab<PoolEntry>, key: usize, root: Root)
     requires there { IsSome (slab_get entries.old key) }
-    ensures changed { (x : Entry) → slab_get entries.old key ≡ Some x
+    ensures changed { (x : PoolEntry) → slab_get entries.old key ≡ Some x
         → slab_get entries.new key ≡ Some (record x { root = root }) }
     ensures others { (k : ℕ) → k ≢ key → slab_get entries.new k ≡ slab_get entries.old k }
     ensures len { slab_len entries.new ≡ slab_len entries.old }
@@ -75,7 +75,7 @@ pub(crate) fn set_root(entries: &mut Slab<Entry>, key: usize, root: Root)
 }
 
 // Removes the entry at a key.
-pub(crate) fn remove(entries: &mut Slab<Entry>, key: usize)
+pub(crate) fn remove(entries: &mut Slab<PoolEntry>, key: usize)
     ensures removed { Updates entries.old entries.new key None }
     ensures len { slab_len entries.new ≤ slab_len entries.old }
     ensures capacity { entries.new.capacity ≡ entries.old.capacity }
@@ -84,9 +84,9 @@ pub(crate) fn remove(entries: &mut Slab<Entry>, key: usize)
 }
 
 // Whether the pool at a key is of a subpool of the set.
-pub(crate) fn is_of_one(entries: &Slab<Entry>, key: usize, subpools: &SubpoolSet) -> bool
+pub(crate) fn is_of_one(entries: &Slab<PoolEntry>, key: usize, subpools: &SubpoolSet) -> bool
     ensures { result
-        ≡ has (λ (x : Entry). is_one_of subpools.now x.root.subpool) (slab_get entries.now key) }
+        ≡ has (λ (x : PoolEntry). is_one_of subpools.now x.root.subpool) (slab_get entries.now key) }
 {
     match entries.get(key) {
         Some(entry) => subpools.contains(entry.root.subpool),
@@ -95,10 +95,10 @@ pub(crate) fn is_of_one(entries: &Slab<Entry>, key: usize, subpools: &SubpoolSet
 }
 
 // Removes the entries of the pools of a set of subpools.
-pub(crate) fn remove_each(entries: &mut Slab<Entry>, subpools: &SubpoolSet)
-    ensures kept { (k : ℕ)
+pub(crate) fn remove_each(entries: &mut Slab<PoolEntry>, subpools: &SubpoolSet)
+    ensures filtered { (k : ℕ)
         → slab_get entries.new k
-        ≡ kept (λ (x : Entry). not (is_one_of subpools.now x.root.subpool))
+        ≡ filtered (λ (x : PoolEntry). not (is_one_of subpools.now x.root.subpool))
         (slab_get entries.old k) }
     ensures len { slab_len entries.new ≤ slab_len entries.old }
     ensures capacity { entries.new.capacity ≡ entries.old.capacity }

@@ -37,10 +37,10 @@ pub fn part_want(size: CellSize, count: CellCount, side: Side) -> Want
 }
 
 // Returns where a part begins whose first cell is at the hinted address.
-fn part_at_hint(told: Option<Addr>, count: CellCount) -> Option<Addr>
-    ensures { (a : ℕ) → told ≡ Some (a + head_length count) → result ≡ Some a }
+fn part_at_hint(hint: Option<Addr>, count: CellCount) -> Option<Addr>
+    ensures { (a : ℕ) → hint ≡ Some (a + head_length count) → result ≡ Some a }
 {
-    let Some(first) = told else {
+    let Some(first) = hint else {
         return None;
     };
     let before = bytes_before(count.get());
@@ -57,7 +57,7 @@ pub(crate) fn obtain_part(
     size: CellSize,
     count: CellCount,
     side: Side,
-    told: Option<Addr>,
+    hint: Option<Addr>,
 ) -> Option<Place>
     requires { IsBounded store.old.storage.regions }
     ensures obtained { MatchOption result
@@ -65,7 +65,7 @@ pub(crate) fn obtain_part(
         (part_want size count side) × (store.new.storage ≡ store.old.storage))
         (λ p. Grant store.old.storage subpool (part_want size count side) p store.new.storage
         × IsStorage store.new.storage) }
-    ensures told { (q : PlaceValue) → told ≡ Some (q.addr + head_length count)
+    ensures hint { (q : PlaceValue) → hint ≡ Some (q.addr + head_length count)
         → Chosen store.old.storage.regions (holder store.old.storage) subpool
         (part_want size count side) q → result ≡ Some q }
 {
@@ -74,7 +74,7 @@ pub(crate) fn obtain_part(
         return None;
     }
     let want = Want::fixed(Length::new(bytes as u32), Exponent::new(3), side);
-    store.obtain(subpool, &want, part_at_hint(told, count))
+    store.obtain(subpool, &want, part_at_hint(hint, count))
 }
 
 // Writes a word.

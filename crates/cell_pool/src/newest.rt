@@ -9,11 +9,11 @@ use crate::root::Root;
 use crate::walk::length_of;
 use crate::words::read_header;
 use mvs_model::place::{Addr, Place};
-use mvs_model::report::Newest;
+use mvs_model::report::LastPart;
 use subpool_store::Store;
 
 // Returns the last part of a pool with this record.
-pub(crate) fn newest_of(store: &Store, root: &Root) -> Newest
+pub(crate) fn newest_of(store: &Store, root: &Root) -> LastPart
     requires chain { IsChain store.now.storage root.now }
     requires last { root.now.last
         ≡ part_addr (byte_of store.now.storage) root.now.first (root.now.count - 1) }
@@ -25,7 +25,7 @@ pub(crate) fn newest_of(store: &Store, root: &Root) -> Newest
     let part = root.last();
     let cells = read_header(store, part).count;
     let cell_size = root.cell_size();
-    Newest {
+    LastPart {
         parts: root.count(),
         place: Place::new(Addr::new(part), length_of(cell_size, cells)),
         cells,

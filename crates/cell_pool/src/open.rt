@@ -12,7 +12,7 @@ ghost use Rattle.cell_pool.specs.Roots.{pool_of};
 ghost use Rattle.cell_pool.specs.Walk.{IsChain, IsFreeAt};
 
 use crate::root::Root;
-use crate::walk::{Spot, find_untaken};
+use crate::walk::{FreeCell, find_untaken};
 use crate::words::{is_set, read_header};
 use mvs_model::place::{Addr, Place};
 use subpool_store::Store;
@@ -116,7 +116,7 @@ fn first_free(store: &Store, part: u32, count: u32) -> u32
 }
 
 // The first free cell of the earliest part that has one, where some cell is free.
-fn find_free(store: &Store, root: &Root) -> Spot
+fn find_free(store: &Store, root: &Root) -> FreeCell
     requires chain { IsChain store.now.storage root.now }
     requires counted { IsCounted (byte_of store.now.storage) root.now }
     requires free { 1 ≤ root.now.free }
@@ -128,7 +128,7 @@ fn find_free(store: &Store, root: &Root) -> Spot
     'walk: for step in 0..root.count() {
         let header = read_header(store, part);
         if header.taken < header.count {
-            return Spot {
+            return FreeCell {
                 part,
                 cell: first_free(store, part, header.count),
                 count: header.count,
@@ -143,21 +143,21 @@ fn find_free(store: &Store, root: &Root) -> Spot
 
 // Returns a free cell of a pool that has one: the one at the hinted address if it is free, else the first of the earliest part that
 // has one.
-pub(crate) fn find_spot(store: &Store, root: &Root, told: Option<Addr>) -> Spot
+pub(crate) fn find_spot(store: &Store, root: &Root, hint: Option<Addr>) -> FreeCell
     requires chain { IsChain store.now.storage root.now }
     requires counted { IsCounted (byte_of store.now.storage) root.now }
     requires free { 1 ≤ root.now.free }
     ensures free { IsFreeAt store.now.storage root.now result.part result.cell result.taken
         result.open_part }
     ensures count { result.count ≡ count_at (byte_of store.now.storage) result.part }
-    ensures told { (a : ℕ) → told ≡ Some a
+    ensures hint { (a : ℕ) → hint ≡ Some a
         → IsFreeCell (pool_of (byte_of store.now.storage) root.now) a
         → a ≡ result.part + head_length result.count + result.cell * root.now.cell_size }
 {
-    let Some(told) = told else {
+    let Some(hint) = hint else {
         return find_free(store, root);
     };
-    match find_untaken(store, root, told.get()) {
+    match find_untaken(store, root, hint.get()) {
         Some(spot) => spot,
         None => find_free(store, root),
     }

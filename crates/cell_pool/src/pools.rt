@@ -7,10 +7,10 @@ ghost use Rattle.mvs_model.specs.Place.{place_at};
 ghost use Rattle.cell_pool.specs.Layout.{byte_of, count_at, head_length};
 ghost use Rattle.cell_pool.specs.Marks.{Marks};
 ghost use Rattle.cell_pool.specs.Walk.{Fills, IsChain, IsFreeAt, IsTakenAt, Meets};
-ghost use Rattle.cell_pool.specs.declared.entry.Entry.{Entry as TheEntry};
+ghost use Rattle.cell_pool.specs.declared.entry.PoolEntry.{PoolEntry as TheEntry};
 ghost use Rattle.std.specs.FinMap.{get, empty, len, contains_key};
 ghost use Rattle.mvs_model.specs.Name.{same_name};
-ghost use Rattle.mvs_model.specs.Newest.{IsNewest};
+ghost use Rattle.mvs_model.specs.LastPart.{IsNewest};
 ghost use Rattle.mvs_model.specs.Numbers.{most_pools};
 ghost use Rattle.mvs_model.specs.Finite.{Keeps};
 ghost use Rattle.cell_pool.specs.Building.{Builds, causes_of_build};
@@ -35,7 +35,7 @@ ghost use Rattle.cell_pool.specs.Extended.{Extended, MayAdd, NoRoom};
 ghost use Rattle.cell_pool.specs.Hints.{CellFollowsHint, PartFollowsHint};
 ghost use Rattle.mvs_model.specs.Place.{PlaceValue};
 
-use crate::entry::{Entry, find, find_key, has_none, remove, remove_each, set_root};
+use crate::entry::{PoolEntry, find, find_key, has_none, remove, remove_each, set_root};
 use crate::laying::{lay_out, obtain_part, put_word};
 use crate::newest::newest_of;
 use crate::open::find_spot;
@@ -44,16 +44,16 @@ use crate::release::release_parts;
 use crate::report::bytes_in;
 use crate::root::Root;
 use crate::take::take;
-use crate::walk::{Spot, Taken, cell_round, find_taken, meets, spot_of};
+use crate::walk::{FreeCell, TakenCell, cell_round, find_taken, meets, spot_of};
 use crate::words::{byte, mark};
 use mvs_model::bounded::{CellCount, CellSize};
 use mvs_model::error::OutOfMemory;
 use mvs_model::name::Name;
 use mvs_model::numbers::MOST_POOLS;
 use mvs_model::place::{Addr, Place};
-use mvs_model::reason::CellSpot;
+use mvs_model::reason::CellPosition;
 use mvs_model::refusal::Refusal;
-use mvs_model::report::Newest;
+use mvs_model::report::LastPart;
 use mvs_model::subpool::SubpoolId;
 use mvs_model::subpool_set::SubpoolSet;
 use mvs_model::want::Side;
@@ -76,7 +76,7 @@ pub struct Supply {
 /// The cell pools of a step, at most 64. Their parts, and which cells are taken, are in storage.
 #[derive(Drop)]
 pub struct Pools {
-    entries: Slab<Entry>,
+    entries: Slab<PoolEntry>,
 }
 
 impl Model for Pools {
@@ -98,7 +98,7 @@ impl Model for Pools {
 }
 
 // The taken cell of one of the subpool's pools that has the address.
-fn cell_in(entries: &Slab<Entry>, store: &Store, subpool: SubpoolId, addr: u32) -> Option<Place>
+fn cell_in(entries: &Slab<PoolEntry>, store: &Store, subpool: SubpoolId, addr: u32) -> Option<Place>
     requires { (k : ℕ) (x : TheEntry) → slab_get entries.now k ≡ Some x
         → IsChain store.now.storage x.root }
     ensures { MatchOption result
@@ -122,7 +122,7 @@ fn cell_in(entries: &Slab<Entry>, store: &Store, subpool: SubpoolId, addr: u32) 
 
 // The taken cell of the pool at a key that has the address, where the pool is one of the subpool.
 fn cell_of(
-    entries: &Slab<Entry>,
+    entries: &Slab<PoolEntry>,
     store: &Store,
     key: usize,
     subpool: SubpoolId,
@@ -159,7 +159,7 @@ fn is_among(root: &Root, subpool: &Option<SubpoolId>) -> bool
 
 // The name of the pool at a key, where it is one of the subpool, or of any, and a part of it has a doubleword of the place.
 fn entry_meets(
-    entries: &Slab<Entry>,
+    entries: &Slab<PoolEntry>,
     store: &Store,
     key: usize,
     subpool: &Option<SubpoolId>,
@@ -188,7 +188,7 @@ fn entry_meets(
 
 // Returns the name of a pool of the subpool, or of any, with a part that has a doubleword of the place.
 fn any_meets(
-    entries: &Slab<Entry>,
+    entries: &Slab<PoolEntry>,
     store: &Store,
     subpool: &Option<SubpoolId>,
     place: Place,
@@ -215,7 +215,7 @@ fn any_meets(
 }
 
 // The part before which all parts are full once the cell is given back.
-fn open_after(root: &Root, spot: &Taken) -> Addr
+fn open_after(root: &Root, spot: &TakenCell) -> Addr
     requires { spot.now.part < 2 ^ 31 }
     ensures { result ≡ (if spot.now.past then root.now.open_part else spot.now.part) }
 {
@@ -267,7 +267,7 @@ impl Pools {
     }
 
     // Gives back a taken cell of the pool.
-    fn give_cell(&mut self, store: &mut Store, name: &Name, root: &Root, spot: Taken)
+    fn give_cell(&mut self, store: &mut Store, name: &Name, root: &Root, spot: TakenCell)
         requires agree { Agree self.old store.old.storage }
         requires root { get self.old name.now ≡ Some root.now }
         requires taken { (c : ℕ)
@@ -291,7 +291,7 @@ impl Pools {
         name: &Name,
         subpool: SubpoolId,
         plan: &Plan,
-        told: Option<Addr>,
+        hint: Option<Addr>,
     ) -> Result<(), Refusal>
         requires { Agree self.old store.old.storage }
         ensures built { OnOk result
@@ -300,7 +300,7 @@ impl Pools {
         ensures refused { IfErr result
             (Refused
             (causes_of_build self.old store.old.storage name.now subpool plan.now)) }
-        ensures told { (a : ℕ) → told ≡ Some a
+        ensures hint { (a : ℕ) → hint ≡ Some a
             → OnOk result (PartFollowsHint store.old.storage name.now (new_pool subpool plan.now)
             plan.now.primary a (pools_of self.new store.new.storage)) }
         ensures agree { Agree self.new store.new.storage }
@@ -314,7 +314,7 @@ impl Pools {
             return Err(Refusal::TooManyPools);
         }
         let primary = plan.primary;
-        let Some(place) = obtain_part(store, subpool, plan.cell_size, primary, plan.side, told)
+        let Some(place) = obtain_part(store, subpool, plan.cell_size, primary, plan.side, hint)
         else {
             return Err(Refusal::NoPart);
         };
@@ -347,7 +347,8 @@ impl Pools {
         ensures { (n : TheName)
             → get self.new n ≡ (if same_name n name.now then Some root else get self.old n) }
     {
-        self.entries.insert_reserved(Entry { name: *name, root });
+        self.entries
+            .insert_reserved(PoolEntry { name: *name, root });
     }
 
     // How many pools there are.
@@ -364,7 +365,7 @@ impl Pools {
         store: &mut Store,
         name: &Name,
         root: &Root,
-        told: Option<Addr>,
+        hint: Option<Addr>,
     ) -> Option<Root>
         requires agree { Agree self.old store.old.storage }
         requires root { get self.old name.now ≡ Some root.now }
@@ -375,7 +376,7 @@ impl Pools {
             (λ r. (a : ℕ) × (r ≡ extended root.now a)
             × Extended self.old store.old.storage name.now root.now a self.new
             store.new.storage) }
-        ensures told { (q : PlaceValue) → told ≡ Some (q.addr + head_length root.now.secondary)
+        ensures hint { (q : PlaceValue) → hint ≡ Some (q.addr + head_length root.now.secondary)
             → MayAdd store.old.storage root.now q → result ≡ Some (extended root.now q.addr) }
         ensures agree { Agree self.new store.new.storage }
     {
@@ -385,7 +386,7 @@ impl Pools {
             root.cell_size,
             root.secondary,
             root.side,
-            told,
+            hint,
         ) else {
             return None;
         };
@@ -466,7 +467,7 @@ impl Pools {
         store: &mut Store,
         name: &Name,
         conditional: bool,
-        told: Option<Addr>,
+        hint: Option<Addr>,
         first: Option<Addr>,
     ) -> Result<Place, Refusal>
         requires { Agree self.old store.old.storage }
@@ -474,9 +475,9 @@ impl Pools {
             → let old = state_of store.old.storage o (pools_of self.old store.old.storage) in
             Tries Cell old t (request.Get name.now conditional) result
             (state_of store.new.storage o (pools_of self.new store.new.storage)) }
-        ensures told { (o : Owners) (a : ℕ)
+        ensures hint { (o : Owners) (a : ℕ)
             → let old = state_of store.old.storage o (pools_of self.old store.old.storage) in
-            told ≡ Some a → IfOk result (CellFollowsHint old name.now a first) }
+            hint ≡ Some a → IfOk result (CellFollowsHint old name.now a first) }
         ensures agree { Agree self.new store.new.storage }
         ensures unchanged { OnErr result (store.new.storage ≡ store.old.storage) }
         ensures pools_unchanged { OnErr result (self.new ≡ self.old) }
@@ -485,7 +486,7 @@ impl Pools {
             return Err(Refusal::NoPool);
         };
         if root.has_free() {
-            let spot = find_spot(store, &root, told);
+            let spot = find_spot(store, &root, hint);
             return Ok(self.take_cell(store, name, &root, spot));
         }
         if conditional {
@@ -494,12 +495,12 @@ impl Pools {
         let Some(extended) = self.extend(store, name, &root, first) else {
             return Err(Refusal::NoPart);
         };
-        let spot = find_spot(store, &extended, told);
+        let spot = find_spot(store, &extended, hint);
         Ok(self.take_cell(store, name, &extended, spot))
     }
 
     // Takes a free cell of the pool.
-    fn take_cell(&mut self, store: &mut Store, name: &Name, root: &Root, spot: Spot) -> Place
+    fn take_cell(&mut self, store: &mut Store, name: &Name, root: &Root, spot: FreeCell) -> Place
         requires agree { Agree self.old store.old.storage }
         requires root { get self.old name.now ≡ Some root.now }
         requires free { IsFreeAt store.old.storage root.now spot.part spot.cell spot.taken
@@ -611,7 +612,7 @@ impl Pools {
     }
 
     /// How many parts the pool of this name has, and which was put to it last. None where no pool has the name.
-    pub fn newest(&self, store: &Store, name: &Name) -> Option<Newest>
+    pub fn newest(&self, store: &Store, name: &Name) -> Option<LastPart>
         requires { Agree self.now store.now.storage }
         ensures { MatchOption result (get (pools_of self.now store.now.storage) name.now ≡ None)
             (λ newest. (pool : Pool)
@@ -639,7 +640,7 @@ impl Pools {
     }
 
     /// Returns where an address is, if no taken cell of the pool begins there.
-    pub fn spot(&self, store: &Store, name: &Name, cell: Addr) -> CellSpot
+    pub fn spot(&self, store: &Store, name: &Name, cell: Addr) -> CellPosition
         requires agree { Agree self.now store.now.storage }
         requires untaken { (pool : Pool)
             × (get (pools_of self.now store.now.storage) name.now ≡ Some pool)

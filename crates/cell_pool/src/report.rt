@@ -9,9 +9,9 @@ ghost use Rattle.cell_pool.specs.Layout.{byte_of};
 ghost use Rattle.cell_pool.specs.Release.{in_first};
 ghost use Rattle.cell_pool.specs.Report.{is_in_entry, AreApart};
 ghost use Rattle.cell_pool.specs.Walk.{IsChain};
-ghost use Rattle.cell_pool.specs.declared.entry.Entry.{Entry as TheEntry};
+ghost use Rattle.cell_pool.specs.declared.entry.PoolEntry.{PoolEntry as TheEntry};
 
-use crate::entry::{Entry, has_none};
+use crate::entry::{PoolEntry, has_none};
 use crate::root::Root;
 use crate::walk::length_of;
 use crate::words::read_header;
@@ -38,7 +38,7 @@ fn bytes_of(store: &Store, root: &Root) -> u32
 }
 
 // How many bytes the parts of the pool at a key take, where it is one of the subpool.
-fn bytes_at(entries: &Slab<Entry>, store: &Store, key: usize, subpool: SubpoolId) -> u32
+fn bytes_at(entries: &Slab<PoolEntry>, store: &Store, key: usize, subpool: SubpoolId) -> u32
     requires chains { (k : ℕ) (x : TheEntry) → slab_get entries.now k ≡ Some x
         → IsChain store.now.storage x.root }
     requires bounded { IsBounded store.now.storage.regions }
@@ -56,7 +56,7 @@ fn bytes_at(entries: &Slab<Entry>, store: &Store, key: usize, subpool: SubpoolId
 }
 
 // How many bytes the parts of the subpool's pools take.
-pub(crate) fn bytes_in(entries: &Slab<Entry>, store: &Store, subpool: SubpoolId) -> u32
+pub(crate) fn bytes_in(entries: &Slab<PoolEntry>, store: &Store, subpool: SubpoolId) -> u32
     requires chains { (k : ℕ) (x : TheEntry) → slab_get entries.now k ≡ Some x
         → IsChain store.now.storage x.root }
     requires bounded { IsBounded store.now.storage.regions }

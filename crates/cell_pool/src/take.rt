@@ -8,13 +8,13 @@ ghost use Rattle.cell_pool.specs.Marks.{Marks};
 ghost use Rattle.cell_pool.specs.Walk.{Fills, IsChain, IsFreeAt};
 
 use crate::root::Root;
-use crate::walk::{Spot, bytes_before};
+use crate::walk::{FreeCell, bytes_before};
 use crate::words::{fill, mark};
 use mvs_model::place::{Addr, Place};
 use subpool_store::Store;
 
 // Takes a free cell of the pool, and gives each of its bytes the fill byte.
-pub(crate) fn take(store: &mut Store, root: &Root, spot: Spot) -> Place
+pub(crate) fn take(store: &mut Store, root: &Root, spot: FreeCell) -> Place
     requires chain { IsChain store.old.storage root.now }
     requires free { IsFreeAt store.old.storage root.now spot.part spot.cell spot.taken
         spot.open_part }

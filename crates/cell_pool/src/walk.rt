@@ -14,13 +14,13 @@ ghost use Rattle.cell_pool.specs.Walk.{IsChain, IsFreeAt, IsPartAt, IsTakenAt, M
 use crate::root::Root;
 use crate::words::{flag, read_header};
 use mvs_model::place::{Addr, Place};
-use mvs_model::reason::CellSpot;
+use mvs_model::reason::CellPosition;
 use subpool_store::Store;
 
 // A part of a pool: its address, how many cells it has, how many of them are taken, and whether the open part is this one
 // or one before it.
 #[derive(Clone, Copy)]
-struct Found {
+struct FoundCell {
     part: u32,
     count: u32,
     taken: u32,
@@ -30,7 +30,7 @@ struct Found {
 // A taken cell: its part's address, its number, how many cells of the part are taken, and whether the open part is this part
 // or one before it.
 #[derive(Clone, Copy)]
-pub(crate) struct Taken {
+pub(crate) struct TakenCell {
     pub(crate) part: u32,
     pub(crate) cell: u32,
     pub(crate) taken: u32,
@@ -40,7 +40,7 @@ pub(crate) struct Taken {
 // A free cell: its part's address, its number, how many cells the part has, and how many of them are taken; and the address of a
 // part before which all parts are full.
 #[derive(Clone, Copy)]
-pub(crate) struct Spot {
+pub(crate) struct FreeCell {
     pub(crate) part: u32,
     pub(crate) cell: u32,
     pub(crate) count: u32,
@@ -90,7 +90,7 @@ fn is_past(past: bool, part: u32, root: &Root) -> bool
 }
 
 // The part of the pool that has the address.
-fn find_part(store: &Store, root: &Root, addr: u32) -> Option<Found>
+fn find_part(store: &Store, root: &Root, addr: u32) -> Option<FoundCell>
     requires { IsChain store.now.storage root.now }
     ensures { MatchOption result
         ((j : ℕ) → j < root.now.count
@@ -105,7 +105,7 @@ fn find_part(store: &Store, root: &Root, addr: u32) -> Option<Found>
         let header = read_header(store, part);
         past = is_past(past, part, root);
         if is_in(part, length_of(root.cell_size(), header.count), addr) {
-            return Some(Found {
+            return Some(FoundCell {
                 part,
                 count: header.count,
                 taken: header.taken,
@@ -164,7 +164,7 @@ fn find_begun(store: &Store, root: &Root, addr: u32) -> Option<Begun>
 }
 
 // The taken cell of the pool that begins at the address.
-pub(crate) fn find_taken(store: &Store, root: &Root, addr: u32) -> Option<Taken>
+pub(crate) fn find_taken(store: &Store, root: &Root, addr: u32) -> Option<TakenCell>
     requires { IsChain store.now.storage root.now }
     ensures { MatchOption result
         (is_taken (byte_of store.now.storage) root.now addr ≡ false)
@@ -176,7 +176,7 @@ pub(crate) fn find_taken(store: &Store, root: &Root, addr: u32) -> Option<Taken>
     if !flag(store, begun.part, begun.cell) {
         return None;
     }
-    Some(Taken {
+    Some(TakenCell {
         part: begun.part,
         cell: begun.cell,
         taken: begun.taken,
@@ -185,7 +185,7 @@ pub(crate) fn find_taken(store: &Store, root: &Root, addr: u32) -> Option<Taken>
 }
 
 // The free cell of the pool that begins at the address.
-pub(crate) fn find_untaken(store: &Store, root: &Root, addr: u32) -> Option<Spot>
+pub(crate) fn find_untaken(store: &Store, root: &Root, addr: u32) -> Option<FreeCell>
     requires chain { IsChain store.now.storage root.now }
     requires counted { IsCounted (byte_of store.now.storage) root.now }
     ensures { MatchOption result
@@ -200,7 +200,7 @@ pub(crate) fn find_untaken(store: &Store, root: &Root, addr: u32) -> Option<Spot
     if flag(store, begun.part, begun.cell) {
         return None;
     }
-    Some(Spot {
+    Some(FreeCell {
         part: begun.part,
         cell: begun.cell,
         count: begun.count,
@@ -248,18 +248,18 @@ fn begin_of_cell(store: &Store, root: &Root, addr: u32) -> Option<u32>
 }
 
 // Returns where an address is, if no taken cell of the pool begins there.
-pub(crate) fn spot_of(store: &Store, root: &Root, addr: Addr) -> CellSpot
+pub(crate) fn spot_of(store: &Store, root: &Root, addr: Addr) -> CellPosition
     requires chain { IsChain store.now.storage root.now }
     requires untaken { set.contains (taken_of (byte_of store.now.storage) root.now) addr ≡ false }
     ensures { IsSpot (pool_of (byte_of store.now.storage) root.now) addr result }
 {
     let Some(first) = begin_of_cell(store, root, addr.get()) else {
-        return CellSpot::Elsewhere;
+        return CellPosition::Elsewhere;
     };
     if first == addr.get() {
-        return CellSpot::Untaken;
+        return CellPosition::Untaken;
     }
-    CellSpot::Inside(Addr::new(first))
+    CellPosition::Inside(Addr::new(first))
 }
 
 // The taken cell of the pool that has the address.

@@ -16,7 +16,7 @@ use Rattle.job_script.proofs.Cut.{field_first}
 use Rattle.job_script.proofs.Taking.{fault_at}
 use Rattle.job_script.proofs.Stating.{operands_by, first_field, field_behind}
 use Rattle.job_script.specs.Rows.{row_at}
-use Rattle.diagnosis.specs.declared.operands.Operands.{Operands}
+use Rattle.diagnosis.specs.declared.operands.FormOperands.{FormOperands}
 use Rattle.diagnosis.specs.AfterForm.{AreOperands, AreAfterForm}
 use Rattle.diagnosis.specs.Blame.{IsField, IsOperandBlamed, IsRefused, before, columns_of, form_before, part_of}
 use Rattle.diagnosis.specs.declared.columns.Columns.{Columns}
@@ -73,7 +73,7 @@ no_form row os formed = ap (λ b. before (if b then [] else take 1 os)) formed
 pub row_line : (line op : List ℕ) (os : List (List ℕ)) (row : grammar.Row) → operation_in line ≡ op → operands_of line ≡ os → row_of (operation_in line) (operands_of line) ≡ Some row → row_of op os ≡ Some row
 row_line line op os row e f is = (λ i. row_of (sym e i) (sym f i)) ∙ is
 
-pub line_behind : (row : grammar.Row) (line : List ℕ) (o : Option Operands) (at : ℕ) (text : List ℕ) (os : List (List ℕ)) → IsField line at text → operands_of line ≡ os
+pub line_behind : (row : grammar.Row) (line : List ℕ) (o : Option FormOperands) (at : ℕ) (text : List ℕ) (os : List (List ℕ)) → IsField line at text → operands_of line ≡ os
     → MatchOption o (operands_after_form row os ≡ []) (λ o. (row_at o.row ≡ row) × AreAfterForm row at os o.at o.text.now)
     → MatchOption o (operands_after_form row (operands_of line) ≡ []) (λ o. (row_at o.row ≡ row) × AreOperands row line o.at o.text.now)
 line_behind row line None at text os field e none = ap (operands_after_form row) e ∙ none

@@ -16,7 +16,7 @@ use mvs_model::line::Fault;
 
 /// An operand that its row does not take, where it begins in its line, what is wrong with it, and the columns that are to blame.
 #[derive(Clone, Copy)]
-pub struct Blamed<'a> {
+pub struct OperandError<'a> {
     pub row: Row,
     pub at: usize,
     pub operand: &'a [u8],
@@ -27,7 +27,7 @@ pub struct Blamed<'a> {
 }
 
 /// The first operand of a line that its row does not take.
-pub fn blamed_operand(line: &[u8]) -> Option<Blamed<'_>>
+pub fn blamed_operand(line: &[u8]) -> Option<OperandError<'_>>
     ensures blamed { (row : grammar.Row) (fault : LineFault)
         → row_of (operation_in line.now) (operands_of line.now) ≡ Some row
         → first_of
@@ -46,7 +46,7 @@ pub fn blamed_operand(line: &[u8]) -> Option<Blamed<'_>>
     };
     let (from, count) = part_of(operands.row, refused.fault, refused.operand);
     let at = operands.at + refused.at;
-    Some(Blamed {
+    Some(OperandError {
         row: operands.row,
         at,
         operand: refused.operand,

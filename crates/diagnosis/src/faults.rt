@@ -3,18 +3,18 @@
 use crate::LONGEST;
 use crate::hint::Hint;
 use crate::lacking::{conflict, missing};
-use crate::near::{near_form, near_operation};
-use crate::operands::{Field, field_of, second_word};
 use crate::message::Message;
+use crate::near::{near_form, near_operation};
+use crate::operands::{OperationField, field_of, second_word};
 use job_script::addresses::is_name;
 use job_script::operations::read_operation;
-use job_script::parted::{skip_blanks, next_operand, parted};
+use job_script::split_once::{next_operand, skip_blanks, split_once};
 use mvs_model::line::Fault;
 use std::alloc::Global;
 
 /// A number of bytes of a line from a place on, what is wrong with them, and a hint.
 #[derive(Clone, Copy)]
-pub struct Found<'a> {
+pub struct FaultSpan<'a> {
     pub at: usize,
     pub count: usize,
     pub said: Message<'a>,
@@ -40,10 +40,10 @@ fn byte_hint(line: &[u8], at: usize, byte: u8) -> Hint<'static> {
 }
 
 // The first byte that no script may have.
-fn invalid_byte(line: &[u8]) -> Found<'static> {
+fn invalid_byte(line: &[u8]) -> FaultSpan<'static> {
     for (at, byte) in line.iter().enumerate() {
         if *byte < b' ' || *byte > b'~' {
-            return Found {
+            return FaultSpan {
                 at,
                 count: 1,
                 said: Message::Byte(*byte),
@@ -55,8 +55,8 @@ fn invalid_byte(line: &[u8]) -> Found<'static> {
 }
 
 // All of a line.
-fn whole<'a>(line: &[u8], said: Message<'a>) -> Found<'a> {
-    Found {
+fn whole<'a>(line: &[u8], said: Message<'a>) -> FaultSpan<'a> {
+    FaultSpan {
         at: 0,
         count: line.len(),
         said,
@@ -103,9 +103,9 @@ fn operation_hint(alloc: Global, task: &[u8], word: &[u8]) -> Hint<'static> {
 }
 
 // Describes the first word of a line, which should be the name of a task.
-fn task_fault<'a>(task: &'a [u8], line: &'a [u8]) -> Found<'a> {
+fn task_fault<'a>(task: &'a [u8], line: &'a [u8]) -> FaultSpan<'a> {
     if task.is_empty() {
-        return Found {
+        return FaultSpan {
             at: 0,
             count: place_of(line, skip_blanks(line)),
             said: Message::Blank,
@@ -118,7 +118,7 @@ fn task_fault<'a>(task: &'a [u8], line: &'a [u8]) -> Found<'a> {
     } else {
         Hint::Says("1 to 8 of A-Z 0-9 @ # $, not beginning with a digit")
     };
-    Found {
+    FaultSpan {
         at: 0,
         count: task.len(),
         said: Message::Task(task),
@@ -127,14 +127,14 @@ fn task_fault<'a>(task: &'a [u8], line: &'a [u8]) -> Found<'a> {
 }
 
 // The form of a field of operands.
-fn form_fault<'a>(alloc: Global, field: &Field<'a>) -> Found<'a> {
+fn form_fault<'a>(alloc: Global, field: &OperationField<'a>) -> FaultSpan<'a> {
     let (form, _) = next_operand(field.text);
     let hint = match near_form(alloc, field.operation, form) {
         _ if form.iter().any(|byte| byte.is_ascii_lowercase()) => { Hint::Says("use upper case") }
         Some(other) => Hint::Meant(other),
         None => Hint::Nothing,
     };
-    Found {
+    FaultSpan {
         at: field.at,
         count: form.len(),
         said: Message::Form(field.operation, form),
@@ -143,8 +143,8 @@ fn form_fault<'a>(alloc: Global, field: &Field<'a>) -> Found<'a> {
 }
 
 // What is wrong with the task, the operation or the form.
-fn unknown(alloc: Global, line: &[u8]) -> Found<'_> {
-    let (task, rest) = parted(line, b' ');
+fn unknown(alloc: Global, line: &[u8]) -> FaultSpan<'_> {
+    let (task, rest) = split_once(line, b' ');
     if !is_name(task) {
         return task_fault(task, line);
     }
@@ -154,17 +154,17 @@ fn unknown(alloc: Global, line: &[u8]) -> Found<'_> {
     };
     if text.is_empty() {
         let hint = operation_hint(alloc, task, &[]);
-        return Found {
+        return FaultSpan {
             at: line.len(),
             count: 1,
             said: Message::NoOperation,
             hint,
         };
     }
-    let (word, _) = parted(text, b' ');
+    let (word, _) = split_once(text, b' ');
     match field_of(line) {
         Some(field) if read_operation(word).is_some() => form_fault(alloc, &field),
-        _ => Found {
+        _ => FaultSpan {
             at: place_of(line, text),
             count: word.len(),
             said: Message::Operation(word),
@@ -174,14 +174,14 @@ fn unknown(alloc: Global, line: &[u8]) -> Found<'_> {
 }
 
 // A first statement that is another one than REGION, or a script without a statement.
-fn out_of_place(line: &[u8]) -> Found<'_> {
+fn out_of_place(line: &[u8]) -> FaultSpan<'_> {
     if line.is_empty() {
         return whole(line, Message::NoStatement);
     }
     let (word, rest) = second_word(line);
     let blank = if rest.is_empty() { 0 } else { 1 };
     let end = place_of(line, rest);
-    Found {
+    FaultSpan {
         at: end.saturating_sub(word.len()).saturating_sub(blank),
         count: word.len(),
         said: Message::NotFirst,
@@ -200,9 +200,9 @@ fn too_long(line: &[u8]) -> Message<'_> {
 }
 
 /// What of a line is to blame for its fault, where that is none of an operand.
-pub fn find_fault<'a>(alloc: Global, line: &'a [u8], fault: Fault) -> Found<'a> {
+pub fn find_fault<'a>(alloc: Global, line: &'a [u8], fault: Fault) -> FaultSpan<'a> {
     match fault {
-        Fault::TooLong => Found {
+        Fault::TooLong => FaultSpan {
             at: LONGEST,
             count: line.len().saturating_sub(LONGEST),
             said: too_long(line),

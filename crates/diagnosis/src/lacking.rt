@@ -2,27 +2,27 @@
 
 ghost use Rattle.job_script.specs.Given.{IsRead};
 
-use crate::faults::{Found, place_of};
+use crate::faults::{FaultSpan, place_of};
 use crate::hint::Hint;
-use crate::operands::{Field, field_of, second_word};
-use crate::message::{Missing, Message};
-use crate::words::Called;
+use crate::message::{Message, Missing};
+use crate::operands::{OperationField, field_of, second_word};
+use crate::words::StatementName;
 use job_script::given::Given;
 use job_script::items::{between, count};
 use job_script::keys::Key;
 use job_script::operations::{Operation, read_operation};
-use job_script::parted::{next_operand, next_word, parted};
 use job_script::rows::{Row, Rule};
+use job_script::split_once::{next_operand, next_word, split_once};
 
 /// How a statement is called, its row of the table, and the text of its operands, where there is one.
 pub fn row_of<'a>(
     operation: Operation,
-    field: Option<Field<'a>>,
-) -> Option<(Called<'a>, Row, Option<&'a [u8]>)> {
+    field: Option<OperationField<'a>>,
+) -> Option<(StatementName<'a>, Row, Option<&'a [u8]>)> {
     let Some(field) = field else {
         let row = operation.row(&[])?;
         return Some((
-            Called {
+            StatementName {
                 operation,
                 form: &[],
             },
@@ -33,7 +33,7 @@ pub fn row_of<'a>(
     if !operation.takes_form() {
         let row = operation.row(&[])?;
         return Some((
-            Called {
+            StatementName {
                 operation,
                 form: &[],
             },
@@ -43,7 +43,7 @@ pub fn row_of<'a>(
     }
     let (form, rest) = next_operand(field.text);
     let row = operation.row(form)?;
-    Some((Called { operation, form }, row, rest))
+    Some((StatementName { operation, form }, row, rest))
 }
 
 // Returns whether a keyword belongs to another one that was given.
@@ -89,9 +89,9 @@ fn remark_hint(text: &[u8]) -> Hint<'_> {
 }
 
 // Describes what is missing, at the place after the operands.
-fn missing_at<'a>(line: &[u8], text: &'a [u8], said: Message<'a>) -> Found<'a> {
-    let (field, _) = parted(text, b' ');
-    Found {
+fn missing_at<'a>(line: &[u8], text: &'a [u8], said: Message<'a>) -> FaultSpan<'a> {
+    let (field, _) = split_once(text, b' ');
+    FaultSpan {
         at: place_of(line, text).saturating_add(field.len()),
         count: 1,
         said,
@@ -100,7 +100,11 @@ fn missing_at<'a>(line: &[u8], text: &'a [u8], said: Message<'a>) -> Found<'a> {
 }
 
 // The operands that a row requires of a field, and that are not there.
-fn missing_of<'a>(called: Called<'a>, row: Row, text: Option<&'a [u8]>) -> Option<Message<'a>> {
+fn missing_of<'a>(
+    called: StatementName<'a>,
+    row: Row,
+    text: Option<&'a [u8]>,
+) -> Option<Message<'a>> {
     let mut given = Given::none(row);
     match given.take_field(text) {
         Ok(()) => {
@@ -120,12 +124,12 @@ fn missing_of<'a>(called: Called<'a>, row: Row, text: Option<&'a [u8]>) -> Optio
 }
 
 // Describes an operand in the place of the form.
-fn form_missing<'a>(operation: Operation, field: &Field<'a>) -> Option<Found<'a>> {
+fn form_missing<'a>(operation: Operation, field: &OperationField<'a>) -> Option<FaultSpan<'a>> {
     let (form, _) = next_operand(field.text);
     if !operation.takes_form() || operation.row(form).is_some() {
         return None;
     }
-    Some(Found {
+    Some(FaultSpan {
         at: field.at,
         count: form.len(),
         said: Message::Keyed(operation, form),
@@ -134,7 +138,7 @@ fn form_missing<'a>(operation: Operation, field: &Field<'a>) -> Option<Found<'a>
 }
 
 /// What is missing in a line.
-pub fn missing(line: &[u8]) -> Option<Found<'_>> {
+pub fn missing(line: &[u8]) -> Option<FaultSpan<'_>> {
     let (word, rest) = second_word(line);
     let operation = read_operation(word)?;
     let Some(field) = field_of(line) else {
@@ -189,7 +193,7 @@ fn keyed(text: &[u8], key: &[u8]) -> Option<(usize, usize)> {
     let mut rest = text;
     'operands: loop {
         let (operand, more) = next_operand(rest);
-        let (front, value) = parted(operand, b'=');
+        let (front, value) = split_once(operand, b'=');
         if value.is_some() && front == key {
             return Some((text.len().saturating_sub(rest.len()), operand.len()));
         }
@@ -210,13 +214,13 @@ fn broken_by(row: Row, text: &[u8]) -> Option<(Message<'static>, Key)> {
 }
 
 /// Which operands of a line exclude each other.
-pub fn conflict(line: &[u8]) -> Option<Found<'_>> {
+pub fn conflict(line: &[u8]) -> Option<FaultSpan<'_>> {
     let (word, _) = second_word(line);
     let (_, row, text) = row_of(read_operation(word)?, field_of(line))?;
     let text = text?;
     let (said, key) = broken_by(row, text)?;
     let (from, count) = keyed(text, key.text().as_bytes())?;
-    Some(Found {
+    Some(FaultSpan {
         at: place_of(line, text).saturating_add(from),
         count,
         said,

@@ -12,29 +12,29 @@ mod columns;
 mod faults;
 mod hint;
 mod lacking;
+mod message;
 mod near;
 mod operands;
 mod refused;
-mod message;
 mod unserved;
 mod values;
 mod words;
 
-use crate::blamed::{Blamed, blamed_operand};
+use crate::blamed::{OperandError, blamed_operand};
 pub use crate::columns::Columns;
 use crate::faults::find_fault;
 use crate::hint::Hint;
 use crate::lacking::row_of as row_of_field;
+use crate::message::Message;
 pub use crate::near::edits_between;
 use crate::operands::{field_of, second_word};
-use crate::message::Message;
-pub use crate::unserved::{Clue, NotServed};
+pub use crate::unserved::{NotServed, Suggestion};
 use crate::values::{key_hint, keyword_of, range_hint, value_hint};
-use crate::words::Called;
+use crate::words::StatementName;
 pub use crate::words::{Plain, PlainName};
 use job_script::fault_digit;
 use job_script::operations::read_operation;
-use job_script::parted::parted;
+use job_script::split_once::split_once;
 use mvs_model::line::Fault;
 use std::alloc::Global;
 use std::fmt;
@@ -53,14 +53,14 @@ pub struct Diagnosis<'a> {
 }
 
 // How the statement of a line is called.
-fn called_in(line: &[u8]) -> Option<Called<'_>> {
+fn called_in(line: &[u8]) -> Option<StatementName<'_>> {
     let (word, _) = second_word(line);
     let (called, _, _) = row_of_field(read_operation(word)?, field_of(line))?;
     Some(called)
 }
 
 // On an operand without a key.
-fn positional_hint<'a>(alloc: Global, line: &[u8], blamed: &Blamed<'a>) -> Hint<'a> {
+fn positional_hint<'a>(alloc: Global, line: &[u8], blamed: &OperandError<'a>) -> Hint<'a> {
     let behind = match line.get(blamed.at) {
         Some(b' ') => true,
         _ => false,
@@ -86,10 +86,10 @@ fn positional_hint<'a>(alloc: Global, line: &[u8], blamed: &Blamed<'a>) -> Hint<
 fn operand_hint<'a>(
     alloc: Global,
     line: &[u8],
-    called: &Called<'_>,
-    blamed: &Blamed<'a>,
+    called: &StatementName<'_>,
+    blamed: &OperandError<'a>,
 ) -> Hint<'a> {
-    let (key, text) = parted(blamed.operand, b'=');
+    let (key, text) = split_once(blamed.operand, b'=');
     let Some(text) = text else {
         return positional_hint(alloc, line, blamed);
     };
@@ -104,7 +104,11 @@ fn operand_hint<'a>(
 }
 
 // Describes an operand that is not accepted, with a hint.
-fn operand_message<'a>(alloc: Global, line: &'a [u8], blamed: &Blamed<'a>) -> (Message<'a>, Hint<'a>) {
+fn operand_message<'a>(
+    alloc: Global,
+    line: &'a [u8],
+    blamed: &OperandError<'a>,
+) -> (Message<'a>, Hint<'a>) {
     match called_in(line) {
         Some(called) => (
             Message::Operand(called, *blamed),

@@ -1,12 +1,12 @@
 //! What a diagnosis says of the columns that are to blame.
 
-use crate::blamed::Blamed;
+use crate::blamed::OperandError;
 use crate::values::keyword_of;
-use crate::words::{Among, Called, Described, Plain, Taken};
+use crate::words::{AcceptedOperands, Among, Described, Plain, StatementName};
 use job_script::keys::Key;
 use job_script::operations::Operation;
-use job_script::parted::parted;
 use job_script::rows::Row;
+use job_script::split_once::split_once;
 use mvs_model::line::Fault;
 use std::fmt;
 
@@ -34,9 +34,9 @@ pub enum Message<'a> {
     Keyed(Operation, &'a [u8]),
     Form(Operation, &'a [u8]),
     /// The statement does not take this operand.
-    Operand(Called<'a>, Blamed<'a>),
+    Operand(StatementName<'a>, OperandError<'a>),
     /// These operands are missing.
-    Missing(Called<'a>, Missing),
+    Missing(StatementName<'a>, Missing),
     /// The two keywords exclude each other.
     Excluded(Key, Key),
     /// The two lists are not of one length.
@@ -79,13 +79,17 @@ impl fmt::Display for Missing {
 // What is wrong with an operand that has a key.
 fn write_keyed<W: fmt::Write>(
     f: &mut fmt::Formatter<W>,
-    called: &Called<'_>,
-    blamed: &Blamed<'_>,
+    called: &StatementName<'_>,
+    blamed: &OperandError<'_>,
     key: &[u8],
 ) -> fmt::Result {
     let operand = Plain(blamed.operand);
     match keyword_of(blamed.row, key) {
-        None => write!(f, "{operand}: {called} takes {}", Taken(blamed.row)),
+        None => write!(
+            f,
+            "{operand}: {called} takes {}",
+            AcceptedOperands(blamed.row)
+        ),
         Some(keyword) => match blamed.fault {
             Fault::Repeated => write!(f, "{operand}: duplicate"),
             _ => write!(
@@ -101,10 +105,10 @@ fn write_keyed<W: fmt::Write>(
 // What is wrong with an operand.
 fn write_operand<W: fmt::Write>(
     f: &mut fmt::Formatter<W>,
-    called: &Called<'_>,
-    blamed: &Blamed<'_>,
+    called: &StatementName<'_>,
+    blamed: &OperandError<'_>,
 ) -> fmt::Result {
-    let (key, text) = parted(blamed.operand, b'=');
+    let (key, text) = split_once(blamed.operand, b'=');
     if text.is_some() {
         return write_keyed(f, called, blamed, key);
     }
@@ -114,7 +118,11 @@ fn write_operand<W: fmt::Write>(
     let operand = Plain(blamed.operand);
     match blamed.expected {
         Some(kind) => write!(f, "{operand}: expected {}", Described(kind)),
-        None => write!(f, "{operand}: {called} takes {}", Taken(blamed.row)),
+        None => write!(
+            f,
+            "{operand}: {called} takes {}",
+            AcceptedOperands(blamed.row)
+        ),
     }
 }
 

@@ -10,12 +10,12 @@ ghost use Rattle.diagnosis.specs.Blame.{IsField};
 ghost use Rattle.diagnosis.specs.AfterForm.{AreOperands, AreAfterForm};
 
 use job_script::operations::{Operation, read_operation};
-use job_script::parted::{skip_blanks, next_operand, next_word};
 use job_script::rows::Row;
+use job_script::split_once::{next_operand, next_word, skip_blanks};
 
 /// The operation of a line, where the field after it begins, and the text from there on.
 #[derive(Clone, Copy)]
-pub struct Field<'a> {
+pub struct OperationField<'a> {
     pub operation: Operation,
     pub at: usize,
     pub text: &'a [u8],
@@ -23,7 +23,7 @@ pub struct Field<'a> {
 
 /// A row of the table, where the operands after its form begin, and the text from there on.
 #[derive(Clone, Copy)]
-pub struct Operands<'a> {
+pub struct FormOperands<'a> {
     pub row: Row,
     pub at: usize,
     pub text: &'a [u8],
@@ -40,7 +40,7 @@ pub fn second_word(line: &[u8]) -> (&[u8], &[u8])
 }
 
 /// The field of operands of a line, where it has one.
-pub fn field_of(line: &[u8]) -> Option<Field<'_>>
+pub fn field_of(line: &[u8]) -> Option<OperationField<'_>>
     ensures field { MatchOption result
         ((rows_of (operation_in line.now) ≡ []) ⊎ (operands_of line.now ≡ []))
         (λ f. (operation_in line.now ≡ operation_text f.operation)
@@ -59,7 +59,7 @@ pub fn field_of(line: &[u8]) -> Option<Field<'_>>
     if text.is_empty() {
         return None;
     }
-    Some(Field {
+    Some(OperationField {
         operation,
         at: line.len() - text.len(),
         text,
@@ -67,7 +67,7 @@ pub fn field_of(line: &[u8]) -> Option<Field<'_>>
 }
 
 // Returns the operands after the form of an operation that has one.
-fn operands_after_form<'a>(field: &Field<'a>) -> Option<Operands<'a>>
+fn operands_after_form<'a>(field: &OperationField<'a>) -> Option<FormOperands<'a>>
     requires room { field.now.at + length field.now.text.now < 2 ^ 63 }
     requires formed { takes_form (operation_text field.now.operation) ≡ true }
     ensures behind { (row : grammar.Row)
@@ -88,7 +88,7 @@ fn operands_after_form<'a>(field: &Field<'a>) -> Option<Operands<'a>>
     let Some(text) = rest else {
         return None;
     };
-    Some(Operands {
+    Some(FormOperands {
         row,
         at: field.at + form.len() + 1,
         text,
@@ -96,7 +96,7 @@ fn operands_after_form<'a>(field: &Field<'a>) -> Option<Operands<'a>>
 }
 
 // Returns the operands of an operation without a form.
-fn without_form<'a>(field: &Field<'a>) -> Option<Operands<'a>>
+fn without_form<'a>(field: &OperationField<'a>) -> Option<FormOperands<'a>>
     requires { takes_form (operation_text field.now.operation) ≡ false }
     ensures behind { (row : grammar.Row)
         → row_of (operation_text field.now.operation)
@@ -112,7 +112,7 @@ fn without_form<'a>(field: &Field<'a>) -> Option<Operands<'a>>
     let Some(row) = field.operation.row(&[]) else {
         return None;
     };
-    Some(Operands {
+    Some(FormOperands {
         row,
         at: field.at,
         text: field.text,
@@ -120,7 +120,7 @@ fn without_form<'a>(field: &Field<'a>) -> Option<Operands<'a>>
 }
 
 /// Returns the operands of a line after the form, if there is at least one.
-pub fn operands_in(line: &[u8]) -> Option<Operands<'_>>
+pub fn operands_in(line: &[u8]) -> Option<FormOperands<'_>>
     ensures operands { (row : grammar.Row)
         → row_of (operation_in line.now) (operands_of line.now) ≡ Some row
         → MatchOption result (operands_after_form row (operands_of line.now) ≡ [])

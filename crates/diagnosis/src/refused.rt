@@ -9,8 +9,8 @@ ghost use Rattle.diagnosis.specs.Blame.{IsRefused, part_of};
 
 use job_script::given::Given;
 use job_script::kinds::Kind;
-use job_script::parted::{next_operand, parted};
 use job_script::rows::{Keyword, Row};
+use job_script::split_once::{next_operand, split_once};
 use mvs_model::line::Fault;
 
 /// An operand that is not accepted, its offset from the first one, and what is wrong with it.
@@ -72,7 +72,7 @@ pub fn part_of(row: Row, fault: Fault, operand: &[u8]) -> (usize, usize)
     ensures part { result ≡ part_of (row_at row) fault operand.now }
     ensures within { result.0 ≤ length operand.now }
 {
-    let (key, text) = parted(operand, b'=');
+    let (key, text) = split_once(operand, b'=');
     match text {
         Some(text) if takes(row, key) && !matches!(fault, Fault::Repeated) => {
             (key.len() + 1, text.len())

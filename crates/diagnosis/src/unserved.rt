@@ -12,7 +12,7 @@ use std::fmt;
 
 /// What may help.
 #[derive(Clone, Copy)]
-pub enum Clue {
+pub enum Suggestion {
     Nothing,
     /// Another name is meant.
     Meant(Name),
@@ -54,7 +54,7 @@ pub struct NotServed<'a> {
     line: &'a [u8],
     lacked: Needed,
     name: Name,
-    clue: Clue,
+    clue: Suggestion,
 }
 
 // Returns whether a name can follow such a byte.
@@ -97,7 +97,7 @@ fn place_of(line: &[u8], name: &[u8]) -> usize {
 
 impl<'a> NotServed<'a> {
     /// A line whose task is not active.
-    pub fn without_task(line: &'a [u8], task: Name, clue: Clue) -> NotServed<'a>
+    pub fn without_task(line: &'a [u8], task: Name, clue: Suggestion) -> NotServed<'a>
         ensures { 1 ≤ length line.now → AreWithin line.now result.columns }
     {
         let count = task.text().len();
@@ -111,7 +111,7 @@ impl<'a> NotServed<'a> {
     }
 
     /// A line with a name that is not set.
-    pub fn without_name(line: &'a [u8], name: Name, clue: Clue) -> NotServed<'a>
+    pub fn without_name(line: &'a [u8], name: Name, clue: Suggestion) -> NotServed<'a>
         ensures { 1 ≤ length line.now → AreWithin line.now result.columns }
     {
         let text = name.text();
@@ -129,10 +129,10 @@ impl<'a> NotServed<'a> {
     // Writes what may help.
     fn write_clue<W: fmt::Write>(&self, f: &mut fmt::Formatter<W>) -> fmt::Result {
         match &self.clue {
-            Clue::Nothing => Ok(()),
-            Clue::Meant(name) => write!(f, " did you mean {}?", Plain(name.text())),
-            Clue::Before(line) => self.lacked.write_before(f, *line),
-            Clue::Behind(line) => self.lacked.write_later(f, *line),
+            Suggestion::Nothing => Ok(()),
+            Suggestion::Meant(name) => write!(f, " did you mean {}?", Plain(name.text())),
+            Suggestion::Before(line) => self.lacked.write_before(f, *line),
+            Suggestion::Behind(line) => self.lacked.write_later(f, *line),
         }
     }
 }

@@ -3,13 +3,13 @@
 use crate::hint::{Hint, is_common};
 use crate::near::{near_key, near_word};
 use crate::refused::takes as row_takes;
-use crate::words::Called;
+use crate::words::StatementName;
 use job_script::digits::{are_hex_digits, hex_number, quoted, read_number};
 use job_script::items::inside;
 use job_script::keys::Key;
 use job_script::kinds::Kind;
-use job_script::parted::parted;
 use job_script::rows::{Keyword, Row};
+use job_script::split_once::split_once;
 use std::alloc::Global;
 
 // Whether a text has a letter in lower case.
@@ -33,7 +33,7 @@ fn meant_number(text: &[u8]) -> Option<u64> {
         }
         return Some(hex_number(digits));
     }
-    let (one, other) = parted(text, b'*');
+    let (one, other) = split_once(text, b'*');
     short_number(one)?.checked_mul(short_number(other?)?)
 }
 
@@ -105,7 +105,7 @@ fn address_hint(text: &[u8]) -> Hint<'static> {
         Some(digits) if digits.len() > 8 => Hint::Says("more than 8 digits"),
         Some(_) => Hint::Nothing,
         None if text.contains(&b'-') => Hint::Says("an offset cannot be negative"),
-        None => name_hint(parted(text, b'+').0),
+        None => name_hint(split_once(text, b'+').0),
     }
 }
 
@@ -148,7 +148,7 @@ pub fn value_hint(alloc: Global, kind: Kind, text: &[u8]) -> Hint<'_> {
 
 // The two lengths of a pair.
 fn lengths(text: &[u8]) -> Option<(u64, u64)> {
-    let (largest, smallest) = parted(inside(text)?, b',');
+    let (largest, smallest) = split_once(inside(text)?, b',');
     Some((short_number(largest)?, short_number(smallest?)?))
 }
 
@@ -216,7 +216,7 @@ fn other_name(row: Row, key: &[u8]) -> Option<&'static str> {
 }
 
 // The key of one of the other forms of an operation.
-fn in_other_form<'a>(called: &Called<'_>, key: &[u8]) -> Option<Hint<'a>> {
+fn in_other_form<'a>(called: &StatementName<'_>, key: &[u8]) -> Option<Hint<'a>> {
     for form in called.operation.forms() {
         let row = called.operation.row(form.as_bytes())?;
         for keyword in row.keywords() {
@@ -239,7 +239,7 @@ fn is_unmodelled(key: &[u8]) -> bool {
 }
 
 /// On a key that a statement does not take.
-pub fn key_hint<'a>(alloc: Global, called: &Called<'_>, row: Row, key: &[u8]) -> Hint<'a> {
+pub fn key_hint<'a>(alloc: Global, called: &StatementName<'_>, row: Row, key: &[u8]) -> Hint<'a> {
     if has_lower(key) {
         return Hint::Says("use upper case");
     }

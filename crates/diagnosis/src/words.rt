@@ -123,9 +123,9 @@ impl fmt::Display for Short {
 
 /// The operands that a row takes.
 #[derive(Clone, Copy)]
-pub struct Taken(pub Row);
+pub struct AcceptedOperands(pub Row);
 
-impl fmt::Display for Taken {
+impl fmt::Display for AcceptedOperands {
     fn fmt<W: fmt::Write>(&self, f: &mut fmt::Formatter<W>) -> fmt::Result {
         let mut between = "";
         for operand in self.0.positional() {
@@ -145,12 +145,12 @@ impl fmt::Display for Taken {
 
 /// A statement by its operation and its form, which is empty where there is none.
 #[derive(Clone, Copy)]
-pub struct Called<'a> {
+pub struct StatementName<'a> {
     pub operation: Operation,
     pub form: &'a [u8],
 }
 
-impl fmt::Display for Called<'_> {
+impl fmt::Display for StatementName<'_> {
     fn fmt<W: fmt::Write>(&self, f: &mut fmt::Formatter<W>) -> fmt::Result {
         write!(f, "{}", self.operation.text())?;
         if !self.form.is_empty() {

@@ -16,7 +16,7 @@ use crate::answers::put_answer;
 use crate::members::Members;
 use crate::reasons::put_reason;
 pub use event_lines::EventLines;
-use job_script::text::Text;
+use job_script::text::LineText;
 use job_script::{fault_digit, write_all};
 use mvs_job::{LineEvent, Stop, Walk};
 use mvs_model::answer::Answer;
@@ -47,15 +47,15 @@ fn statement(line: &[u8]) -> &str {
 }
 
 // Returns the first members of a statement of a task, and the comma after them.
-fn statement_head(number: u32, task: &Name) -> Text
+fn statement_head(number: u32, task: &Name) -> LineText
     ensures { result ≡ statement_head number task.now }
 {
-    let mut text = Text::new();
-    text.push_all(b"{\"event\":\"statement\",\"line\":");
+    let mut text = LineText::new();
+    text.push_str(b"{\"event\":\"statement\",\"line\":");
     text.push_decimal(number);
-    text.push_all(b",\"task\":\"");
+    text.push_str(b",\"task\":\"");
     text.push_name(task);
-    text.push_all(b"\",");
+    text.push_str(b"\",");
     text
 }
 
@@ -71,15 +71,15 @@ fn step_end(ended: Option<bool>) -> &'static [u8]
 }
 
 // Returns the line of a fault.
-fn fault_line(number: u32, digit: u32) -> Text
+fn fault_line(number: u32, digit: u32) -> LineText
     ensures { result ≡ fault_line number digit }
 {
-    let mut text = Text::new();
-    text.push_all(b"{\"event\":\"fault\",\"line\":");
+    let mut text = LineText::new();
+    text.push_str(b"{\"event\":\"fault\",\"line\":");
     text.push_decimal(number);
-    text.push_all(b",\"fault\":");
+    text.push_str(b",\"fault\":");
     text.push_decimal(digit);
-    text.push_all(b"}\n");
+    text.push_str(b"}\n");
     text
 }
 

@@ -5,7 +5,7 @@ ghost use Rattle.std.specs.Prelude.{◌≡◌};
 use crate::members::Members;
 use mvs_model::name::Name;
 use mvs_model::place::Addr;
-use mvs_model::reason::{CellSpot, Holder, LineReason, Reason, Room};
+use mvs_model::reason::{CellPosition, FreeSpace, Holder, LineReason, Reason};
 use mvs_model::subpool::SubNo;
 use std::alloc::AllocError;
 
@@ -30,7 +30,7 @@ fn put_subpool(members: &mut Members, number: SubNo, owner: &Name) -> Result<(),
 }
 
 // What room there is where no place is long enough.
-fn put_room(members: &mut Members, room: &Room) -> Result<(), AllocError>
+fn put_room(members: &mut Members, room: &FreeSpace) -> Result<(), AllocError>
     ensures { members.new ≡ members.old }
 {
     members.number("longest", room.longest)?;
@@ -90,9 +90,9 @@ fn put_address(members: &mut Members, reason: &Reason) -> Result<(), AllocError>
             members.number("cell_size", *size)?;
             put_room(members, room)
         }
-        Reason::NoTakenCell(CellSpot::Untaken) => members.text("lies", "free_cell"),
-        Reason::NoTakenCell(CellSpot::Inside(first)) => members.number("inside", first.get()),
-        Reason::NoTakenCell(CellSpot::Elsewhere) => members.text("lies", "no_cell"),
+        Reason::NoTakenCell(CellPosition::Untaken) => members.text("lies", "free_cell"),
+        Reason::NoTakenCell(CellPosition::Inside(first)) => members.number("inside", first.get()),
+        Reason::NoTakenCell(CellPosition::Elsewhere) => members.text("lies", "no_cell"),
         Reason::OffDoubleword(addr) => members.number("address", addr.get()),
         Reason::NoSubpool(task) => members.name("task", task),
         Reason::ActiveSubtask(task) => members.name("task", task),

@@ -139,7 +139,7 @@ pub fn next_free(region: &Region, page: usize, head: Head, from: u32) -> Option<
 }
 
 /// Returns the queue of the free runs after the first one.
-pub fn behind(region: &Region, page: usize, head: Head) -> Head
+pub fn next_head(region: &Region, page: usize, head: Head) -> Head
     requires few { page < most_pages_above }
     requires there { is_open region.now page ≡ true }
     requires queue { (lo : ℕ) × (r : Run) × (rs : List Run)

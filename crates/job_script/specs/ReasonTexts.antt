@@ -6,9 +6,9 @@ use Rattle.mvs_model.specs.declared.request.Request.{Request}
 use Rattle.mvs_model.specs.declared.request.Request.TheVariants.{Obtain, Build, Get, Free, Delete, Attach}
 use Rattle.mvs_model.specs.declared.reason.Holder.{Holder}
 use Rattle.mvs_model.specs.declared.reason.Holder.TheVariants.{Nobody, Subpool, Unowned, Part}
-use Rattle.mvs_model.specs.declared.reason.CellSpot.{CellSpot}
-use Rattle.mvs_model.specs.declared.reason.CellSpot.TheVariants.{Untaken, Inside, Elsewhere}
-use Rattle.mvs_model.specs.declared.reason.Room.{Room}
+use Rattle.mvs_model.specs.declared.reason.CellPosition.{CellPosition}
+use Rattle.mvs_model.specs.declared.reason.CellPosition.TheVariants.{Untaken, Inside, Elsewhere}
+use Rattle.mvs_model.specs.declared.reason.FreeSpace.{FreeSpace}
 use Rattle.mvs_model.specs.declared.reason.Shortfall.{Shortfall}
 use Rattle.mvs_model.specs.declared.reason.LineReason.{LineReason}
 use Rattle.mvs_model.specs.declared.reason.LineReason.TheVariants.{NotSet, Refused}
@@ -50,11 +50,11 @@ holder_text Unowned = codes " is held by a subpool of no task"
 holder_text (Part name) = codes " is in pool " ++ trimmed name
 
 -- what else there is where no place is long enough, and the begin of the rule
-abbrev pub room_text : Room → List ℕ
+abbrev pub room_text : FreeSpace → List ℕ
 room_text room = codes "; free runs: " ++ decimal room.runs ++ codes "; free pages: " ++ decimal room.below ++ codes " below, " ++ decimal room.above ++ codes " above. (rule "
 
 -- of a length for which there is no place
-abbrev pub shortage_text : Request → Room → List ℕ
+abbrev pub shortage_text : Request → FreeSpace → List ℕ
 shortage_text request room =
     decimal (least_of request) ++ codes " bytes requested in SP " ++ decimal (number_of request) ++ codes ", but the largest area that fits has " ++ decimal room.longest ++ codes " bytes" ++ room_text room
     ++ codes "12)"
@@ -70,7 +70,7 @@ no_member_text k short =
     ++ room_text short.room ++ codes "22)"
 
 -- of a part of a pool for which there is no place
-abbrev pub no_part_text : Request → ℕ → ℕ → Room → List ℕ
+abbrev pub no_part_text : Request → ℕ → ℕ → FreeSpace → List ℕ
 no_part_text request cells size room =
     codes "Pool " ++ named request ++ codes ": no room for " ++ decimal cells ++ codes " cells of " ++ decimal size ++ codes " bytes; the largest area that fits has " ++ decimal room.longest ++ codes " bytes"
     ++ room_text room ++ codes "59)"
@@ -93,13 +93,13 @@ abbrev pub no_subpool_text : Request → Name → List ℕ
 no_subpool_text request keeper = trimmed keeper ++ codes " has no subpool " ++ decimal (number_of request) ++ codes ". (rule 26)"
 
 -- where an address is, if no taken cell begins there
-abbrev pub spot_text : CellSpot → List ℕ
+abbrev pub spot_text : CellPosition → List ℕ
 spot_text Untaken = codes "that cell is free"
 spot_text (Inside first) = codes "it is inside the cell at " ++ hex 8 first
 spot_text Elsewhere = codes "it is in no cell of the pool"
 
 -- of such an address
-abbrev pub no_cell_text : Request → CellSpot → List ℕ
+abbrev pub no_cell_text : Request → CellPosition → List ℕ
 no_cell_text request spot = codes "No allocated cell of pool " ++ named request ++ codes " begins at " ++ hex 8 (cell_of request) ++ codes ": " ++ spot_text spot ++ codes ". (rule 63)"
 
 -- of a subpool that a task only shares

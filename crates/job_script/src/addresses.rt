@@ -6,7 +6,7 @@ ghost use Rattle.mvs_model.specs.Name.{padded};
 ghost use Rattle.mvs_model.specs.Reading.{is_name_byte, is_name, is_plus, is_absolute, is_named, is_address, is_address_in_range, is_in_range, number, location};
 
 use crate::digits::{are_hex_digits, bounded, hex_number, is_in_range, is_number, quoted};
-use crate::parted::parted;
+use crate::split_once::split_once;
 use mvs_model::bounded::Offset;
 use mvs_model::line::Location;
 use mvs_model::name::Name;
@@ -59,7 +59,7 @@ fn is_absolute(digits: &[u8]) -> bool
 fn is_named(text: &[u8]) -> bool
     ensures { result ≡ is_named text.now }
 {
-    let (area, offset) = parted(text, b'+');
+    let (area, offset) = split_once(text, b'+');
     match offset {
         None => is_name(area),
         Some(offset) => is_name(area) && is_number(offset),
@@ -83,7 +83,7 @@ fn is_offset_in_range(text: &[u8]) -> bool
         ≡ (not (list_any is_plus text.now)
         || is_in_range 0 33554431 (after_first is_plus text.now)) }
 {
-    let (_, offset) = parted(text, b'+');
+    let (_, offset) = split_once(text, b'+');
     match offset {
         None => true,
         Some(offset) => is_in_range(0, 33_554_431, offset),
@@ -110,7 +110,7 @@ fn named(text: &[u8]) -> Location
         ≡ Location.Named (padded (before_first is_plus text.now))
         (number (after_first is_plus text.now)) }
 {
-    let (area, offset) = parted(text, b'+');
+    let (area, offset) = split_once(text, b'+');
     match offset {
         None => Location::Named(name(area), Offset::new(0)),
         Some(offset) => Location::Named(name(area), bounded(offset)),

@@ -8,7 +8,7 @@ ghost use Rattle.mvs_model.specs.Texts.{abend_lines, answer_text, code_text, rep
 ghost use Rattle.job_script.specs.Writing.{Prints};
 
 use crate::print::{push_head, write_all};
-use crate::text::Text;
+use crate::text::LineText;
 use mvs_model::answer::Answer;
 use mvs_model::code::Code;
 use mvs_model::name::Name;
@@ -16,18 +16,18 @@ use mvs_model::watched::{Failed, Watched};
 use std::io::Write;
 
 // The code of an abend: a system code in three hexadecimal digits, a user code in four decimal ones.
-fn push_code(text: &mut Text, code: Code)
+fn push_code(text: &mut LineText, code: Code)
     requires { length text.old ≤ 100 }
     ensures text { text.new ≡ text.old ++ code_text code }
     ensures len { length text.new ≤ length text.old + 5 }
 {
     match code {
         Code::System(number) => {
-            text.push_all(b"S");
+            text.push_str(b"S");
             text.push_last(16, 3, u32::from(number));
         }
         Code::User(number) => {
-            text.push_all(b"U");
+            text.push_str(b"U");
             text.push_last(10, 4, u32::from(number));
         }
     }
@@ -43,21 +43,21 @@ fn print_code<W: Write>(
     ensures { Prints W.contents writer.old writer.new result
         (reply_line line_number task.now (codes "ABEND " ++ code_text code)) }
 {
-    let mut text = Text::new();
+    let mut text = LineText::new();
     push_head(&mut text, line_number, task);
-    text.push_all(b"ABEND ");
+    text.push_str(b"ABEND ");
     push_code(&mut text, code);
-    text.push_all(b"\n");
+    text.push_str(b"\n");
     write_all(writer, text.as_slice())
 }
 
 // Appends that a task ended with another.
-fn push_ended_with(text: &mut Text, other: &Name)
+fn push_ended_with(text: &mut LineText, other: &Name)
     requires { length text.old ≤ 100 }
     ensures text { text.new ≡ text.old ++ (codes "ENDED WITH " ++ trimmed other.now) }
     ensures len { length text.new ≤ length text.old + 20 }
 {
-    text.push_all(b"ENDED WITH ");
+    text.push_str(b"ENDED WITH ");
     text.push_name(other);
 }
 
@@ -71,10 +71,10 @@ fn print_ended_with<W: Write>(
     ensures { Prints W.contents writer.old writer.new result
         (reply_line line_number task.now (codes "ENDED WITH " ++ trimmed other.now)) }
 {
-    let mut text = Text::new();
+    let mut text = LineText::new();
     push_head(&mut text, line_number, task);
     push_ended_with(&mut text, other);
-    text.push_all(b"\n");
+    text.push_str(b"\n");
     write_all(writer, text.as_slice())
 }
 
@@ -97,7 +97,7 @@ pub fn print_abend<W: Write>(
 }
 
 // Appends the text of an answer of one line that is not an abend.
-fn push_short_answer(text: &mut Text, answer: &Answer)
+fn push_short_answer(text: &mut LineText, answer: &Answer)
     requires room { length text.old ≤ 100 }
     requires whole { has_long_data answer.now ≡ false }
     ensures text { (st : State) (fallen : List Name) (t : Name)
@@ -105,23 +105,23 @@ fn push_short_answer(text: &mut Text, answer: &Answer)
     ensures len { length text.new ≤ length text.old + 20 }
 {
     match answer {
-        Answer::NotRun => text.push_all(b"NOT RUN"),
-        Answer::NoName => text.push_all(b"NO NAME"),
+        Answer::NotRun => text.push_str(b"NOT RUN"),
+        Answer::NoName => text.push_str(b"NO NAME"),
         Answer::At(addr) => {
-            text.push_all(b"AT ");
+            text.push_str(b"AT ");
             text.push_word(addr.get());
         }
-        Answer::Rc0 => text.push_all(b"RC 0"),
+        Answer::Rc0 => text.push_str(b"RC 0"),
         Answer::Granted(len) => {
-            text.push_all(b"RC 0 LENGTH ");
+            text.push_str(b"RC 0 LENGTH ");
             text.push_word(*len);
         }
-        Answer::Rc4 => text.push_all(b"RC 4"),
-        Answer::Cell => text.push_all(b"CELL"),
-        Answer::NoCell => text.push_all(b"NO CELL"),
-        Answer::Attached => text.push_all(b"ATTACHED"),
-        Answer::Ended => text.push_all(b"ENDED"),
-        Answer::Done => text.push_all(b"OK"),
+        Answer::Rc4 => text.push_str(b"RC 4"),
+        Answer::Cell => text.push_str(b"CELL"),
+        Answer::NoCell => text.push_str(b"NO CELL"),
+        Answer::Attached => text.push_str(b"ATTACHED"),
+        Answer::Ended => text.push_str(b"ENDED"),
+        Answer::Done => text.push_str(b"OK"),
         Answer::Data(_) | Answer::Abended(_) | Answer::Subpools | Answer::Map => unreachable!(),
     }
 }
@@ -138,9 +138,9 @@ pub fn print_short_answer<W: Write>(
         → Prints W.contents writer.old writer.new result
         (answer_text line_number task.now (full_answer st fallen task.now answer.now)) }
 {
-    let mut text = Text::new();
+    let mut text = LineText::new();
     push_head(&mut text, line_number, task);
     push_short_answer(&mut text, answer);
-    text.push_all(b"\n");
+    text.push_str(b"\n");
     write_all(writer, text.as_slice())
 }

@@ -6,7 +6,7 @@ ghost use Rattle.mvs_model.specs.Texts.{data_lines, hex, line_count};
 ghost use Rattle.job_script.specs.Writing.{Prints, data_text};
 
 use crate::print::{push_head, write_all};
-use crate::text::Text;
+use crate::text::LineText;
 use mvs_model::name::Name;
 use mvs_model::numbers::LINE_BYTES;
 use mvs_model::watched::{Failed, Watched};
@@ -16,7 +16,7 @@ use std::io::Write;
 // each.
 fn print_data_line<W: Write>(
     writer: &mut Watched<W>,
-    text: &mut Text,
+    text: &mut LineText,
     offset: u16,
     bytes: &[u8],
 ) -> Result<(), Failed>
@@ -27,11 +27,11 @@ fn print_data_line<W: Write>(
     ensures kept { text.new ≡ text.old }
 {
     let head = text.len();
-    text.push_all(b"DATA +");
+    text.push_str(b"DATA +");
     text.push_halfword(offset);
-    text.push_all(b" ");
+    text.push_str(b" ");
     text.push_bytes(bytes);
-    text.push_all(b"\n");
+    text.push_str(b"\n");
     let written = write_all(writer, text.as_slice());
     text.cut(head);
     written
@@ -48,7 +48,7 @@ pub fn print_data<W: Write>(
     ensures { Prints W.contents writer.old writer.new result
         (data_lines line_number task.now (line_count (length bytes.now)) 0 bytes.now) }
 {
-    let mut text = Text::new();
+    let mut text = LineText::new();
     push_head(&mut text, line_number, task);
     let mut offset = 0;
     let mut rest = bytes;

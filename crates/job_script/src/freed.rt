@@ -6,41 +6,41 @@ ghost use Rattle.job_script.specs.Writing.{Prints};
 
 use crate::print::write_all;
 use crate::reasons::end_line;
-use crate::text::Text;
+use crate::text::LineText;
 use mvs_model::name::Name;
 use mvs_model::subpool::SubNo;
 use mvs_model::watched::{Failed, Watched};
 use std::io::Write;
 
 // Appends a number of pages.
-pub(crate) fn push_pages(text: &mut Text, pages: u32)
+pub(crate) fn push_pages(text: &mut LineText, pages: u32)
     requires { length text.old ≤ 100 }
     ensures text { text.new ≡ text.old ++ pages_text pages }
     ensures len { length text.new ≤ length text.old + 16 }
 {
     text.push_decimal(pages);
     if pages == 1 {
-        text.push_all(b" page");
+        text.push_str(b" page");
     } else {
-        text.push_all(b" pages");
+        text.push_str(b" pages");
     }
 }
 
 // Appends that a subpool is freed.
-fn push_freed(text: &mut Text, number: u32, owner: &Name, bytes: u32, pages: u32)
+fn push_freed(text: &mut LineText, number: u32, owner: &Name, bytes: u32, pages: u32)
     requires { length text.old ≤ 2 }
     ensures text { text.new ≡ text.old ++ freed_text_of number owner.now bytes pages }
     ensures len { length text.new ≤ length text.old + 100 }
 {
-    text.push_all(b"SP ");
+    text.push_str(b"SP ");
     text.push_decimal(number);
-    text.push_all(b" of ");
+    text.push_str(b" of ");
     text.push_name(owner);
-    text.push_all(b" is freed: ");
+    text.push_str(b" is freed: ");
     text.push_decimal(bytes);
-    text.push_all(b" bytes in ");
+    text.push_str(b" bytes in ");
     push_pages(text, pages);
-    text.push_all(b". (rule 52)");
+    text.push_str(b". (rule 52)");
 }
 
 /// Prints the line for a subpool that is freed with its owner: its number, the owner, the bytes that it held, and its pages.
@@ -54,26 +54,26 @@ pub fn print_freed<W: Write>(
     ensures { Prints W.contents writer.old writer.new result
         (freed_line number owner.now bytes pages) }
 {
-    let mut text = Text::new();
-    text.push_all(b"* ");
+    let mut text = LineText::new();
+    text.push_str(b"* ");
     push_freed(&mut text, u32::from(number.get()), owner, bytes, pages);
     end_line(&mut text);
     write_all(writer, text.as_slice())
 }
 
 // Appends that a subpool remains which a task shared.
-fn push_stays(text: &mut Text, number: u32, owner: &Name, task: &Name)
+fn push_stays(text: &mut LineText, number: u32, owner: &Name, task: &Name)
     requires { length text.old ≤ 2 }
     ensures text { text.new ≡ text.old ++ stays_text number owner.now task.now }
     ensures len { length text.new ≤ length text.old + 80 }
 {
-    text.push_all(b"SP ");
+    text.push_str(b"SP ");
     text.push_decimal(number);
-    text.push_all(b" of ");
+    text.push_str(b" of ");
     text.push_name(owner);
-    text.push_all(b" remains: ");
+    text.push_str(b" remains: ");
     text.push_name(task);
-    text.push_all(b" shared it. (rule 53)");
+    text.push_str(b" shared it. (rule 53)");
 }
 
 /// Prints the line that says that a subpool stays with its owner where a task ends that shared it.
@@ -86,8 +86,8 @@ pub fn print_stays<W: Write>(
     ensures { Prints W.contents writer.old writer.new result
         (stays_line number owner.now task.now) }
 {
-    let mut text = Text::new();
-    text.push_all(b"* ");
+    let mut text = LineText::new();
+    text.push_str(b"* ");
     push_stays(&mut text, u32::from(number.get()), owner, task);
     end_line(&mut text);
     write_all(writer, text.as_slice())

@@ -8,8 +8,8 @@ ghost use Rattle.job_script.specs.Places.{HasKeyword};
 
 use crate::keys::{KEYS, Key};
 use crate::kinds::check;
-use crate::parted::{next_operand, parted};
 use crate::rows::{Keyword, Row};
+use crate::split_once::{next_operand, split_once};
 use mvs_model::line::Fault;
 
 /// The operands of a statement: the texts of those that were read so far, in the places that the row and the keys have for them.
@@ -106,7 +106,7 @@ impl<'a> Given<'a> {
     pub fn take(&mut self, operand: &'a [u8]) -> Result<(), Fault>
         ensures { Takes self.old self.new operand.now result }
     {
-        let (key, text) = parted(operand, b'=');
+        let (key, text) = split_once(operand, b'=');
         match text {
             None => self.take_positional(operand),
             Some(text) => self.take_keyword(key, text),

@@ -7,7 +7,7 @@ ghost use Rattle.job_script.specs.Items.{inner, items_in, item_kind, is_same_ite
 
 use crate::addresses::{is_address, is_address_in_range, is_name};
 use crate::digits::{is_in_range, is_number, is_same_number};
-use crate::parted::parted;
+use crate::split_once::split_once;
 
 /// What an item of a list may be.
 #[derive(Clone, Copy)]
@@ -45,7 +45,7 @@ pub fn two(inner: &[u8]) -> (&[u8], &[u8])
     requires { length (items_in inner.now) ≡ 2 }
     ensures { items_in inner.now ≡ result.0.now ∷ result.1.now ∷ [] }
 {
-    let (first, second) = parted(inner, b',');
+    let (first, second) = split_once(inner, b',');
     match second {
         Some(second) => (first, second),
         None => unreachable!(),
@@ -81,7 +81,7 @@ pub fn are_items(item: Item, inner: &[u8]) -> bool
 {
     let mut rest = inner;
     'items: loop {
-        let (text, more) = parted(rest, b',');
+        let (text, more) = split_once(rest, b',');
         if !is_item(item, text) {
             return false;
         }
@@ -99,7 +99,7 @@ pub fn are_in_range(item: Item, inner: &[u8]) -> bool
 {
     let mut rest = inner;
     'items: loop {
-        let (text, more) = parted(rest, b',');
+        let (text, more) = split_once(rest, b',');
         if !is_item_in_range(item, text) {
             return false;
         }
@@ -117,7 +117,7 @@ pub fn count(inner: &[u8]) -> usize
     let mut rest = inner;
     let mut count = 1;
     'items: loop {
-        let (_, more) = parted(rest, b',');
+        let (_, more) = split_once(rest, b',');
         match more {
             None => return count,
             Some(next) => rest = next,
@@ -146,7 +146,7 @@ fn has_item(item: Item, inner: &[u8], one: &[u8]) -> bool
 {
     let mut rest = inner;
     'items: loop {
-        let (text, more) = parted(rest, b',');
+        let (text, more) = split_once(rest, b',');
         if is_same_item(item, one, text) {
             return true;
         }
@@ -164,7 +164,7 @@ pub fn is_twice(item: Item, inner: &[u8]) -> bool
 {
     let mut rest = inner;
     'items: loop {
-        let (text, more) = parted(rest, b',');
+        let (text, more) = split_once(rest, b',');
         match more {
             None => return false,
             Some(next) => {
@@ -186,7 +186,7 @@ pub fn is_shared(item: Item, one: &[u8], other: &[u8]) -> bool
 {
     let mut rest = one;
     'items: loop {
-        let (text, more) = parted(rest, b',');
+        let (text, more) = split_once(rest, b',');
         if has_item(item, other, text) {
             return true;
         }

@@ -9,7 +9,7 @@ ghost use Rattle.job_script.specs.Kinds.{as_words, as_kind, fault_in, checks_of}
 use crate::addresses::{is_address, is_address_in_range, is_name};
 use crate::digits::{are_hex_digits, is_in_range, is_number, number, quoted, read_number};
 use crate::items::{Item, are_in_range, are_items, count, inside, is_twice, two};
-use crate::parted::parted;
+use crate::split_once::split_once;
 use mvs_model::line::Fault;
 
 /// Words, one of which is the value of an operand.
@@ -325,7 +325,7 @@ fn check_named(text: &[u8], again: bool) -> Result<(), Fault>
     requires { is_quoted text.now ≡ false }
     ensures { fault_in result ≡ first_of (checks_of grammar.Address again text.now) }
 {
-    let (area, offset) = parted(text, b'+');
+    let (area, offset) = split_once(text, b'+');
     if !is_name(area) {
         return Err(Fault::InvalidOperand);
     }

@@ -17,15 +17,15 @@ pub use crate::data_lines::print_data;
 pub use crate::fact_lines::print_fact;
 pub use crate::freed::{print_freed, print_stays};
 pub use crate::line_buffer::{LineBuffer, Pushed};
-pub use crate::names::Names;
+pub use crate::names::NamePlaces;
 pub use crate::naming::print_naming;
 use crate::operations::{Operation, read_operation};
-use crate::parted::{skip_blanks, next_word, parted};
 use crate::plain::read_plain;
 pub use crate::print::{fault_digit, print_fault, print_region, print_step_end, write_all};
 pub use crate::reasons::print_reason;
 pub use crate::report_lines::{print_map_run, print_no_subpool, print_subpool_line};
 pub use crate::resolving::{names_set, resolve, set_names, unset};
+use crate::split_once::{next_word, skip_blanks, split_once};
 use crate::statement::read_operands;
 use mvs_model::line::{Fault, Line};
 
@@ -38,7 +38,6 @@ pub mod digits;
 mod fact_lines;
 mod freed;
 pub mod given;
-mod in_front;
 pub mod items;
 pub mod keys;
 pub mod kinds;
@@ -46,14 +45,15 @@ mod line_buffer;
 mod names;
 mod naming;
 pub mod operations;
-pub mod parted;
 mod plain;
 mod pools;
+mod prefix;
 mod print;
 mod reasons;
 mod report_lines;
 mod resolving;
 pub mod rows;
+pub mod split_once;
 mod statement;
 mod storage_requests;
 mod subtasks;
@@ -139,7 +139,7 @@ fn field_of<'a>(operation: Operation, rest: &'a [u8]) -> &'a [u8]
 fn read_statement(line: &[u8], first: bool, read: &mut Line) -> Result<(), Fault>
     ensures { StatementReading first line.now (filled read.new result) }
 {
-    let (task, rest) = parted(line, b' ');
+    let (task, rest) = split_once(line, b' ');
     if !is_name(task) {
         return Err(Fault::UnknownOperation);
     }

@@ -14,11 +14,11 @@ use std::marker::Model;
 
 /// The places of the names that a step has set.
 #[derive(Drop)]
-pub struct Names {
+pub struct NamePlaces {
     places: HashMap<Name, Place>,
 }
 
-impl Model for Names {
+impl Model for NamePlaces {
     ghost use Rattle.std.specs.FinMap as map;
     ghost use Rattle.std.specs.Coded.{coded_ℕ};
     ghost use Rattle.mvs_model.specs.Place.{PlaceValue, place_code};
@@ -34,12 +34,12 @@ impl Model for Names {
     ghost invariant = { λ n. AreAreas (map.from_entries n.places.entries) };
 }
 
-impl Names {
+impl NamePlaces {
     /// Makes a table without names. It allocates no memory.
-    pub fn new(alloc: Global) -> Names
+    pub fn new(alloc: Global) -> NamePlaces
         ensures { result ≡ map.empty }
     {
-        Names {
+        NamePlaces {
             places: HashMap::new(alloc),
         }
     }

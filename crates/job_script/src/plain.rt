@@ -8,21 +8,21 @@ ghost use Rattle.job_script.specs.Fronts.{IsPooled, IsSized, IsSubpoolFront, Spe
 
 use crate::LONGEST;
 use crate::addresses::name;
-use crate::in_front::{
-    address_in_front, behind, bytes_in_front, is_remark, name_in_front, number_in_front,
+use crate::prefix::{
+    address_in_front, bytes_in_front, is_remark, name_in_front, number_in_front, strip_prefix,
 };
 use crate::values::bytes;
 use mvs_model::bounded::{Exponent, Length, Offset, ShowLength};
 use mvs_model::code::Form;
 use mvs_model::line::{Line, Location, Statement, Written};
 use mvs_model::name::Name;
-use mvs_model::want::{Ask, Loc};
+use mvs_model::want::{AreaRequest, Loc};
 
 // Returns the subpool number at the beginning of a text, or 0, and the text after it.
 fn subpool_in_front(text: &[u8]) -> Option<(u8, &[u8])>
     ensures { IfSome result (λ r. (sp : Option (List ℕ)) × IsSubpoolFront text.now r.0 sp r.1.now) }
 {
-    let Some(digits) = behind(text, b",SP=") else {
+    let Some(digits) = strip_prefix(text, b",SP=") else {
         return Some((0, text));
     };
     let (number, rest) = number_in_front(0, 255, digits)?;
@@ -46,7 +46,7 @@ fn loc_in_front(form: Form, text: &[u8]) -> Option<(Loc, &[u8])>
     ensures { IfSome result
         (λ r. (text.now ≡ loc_text r.0 ++ r.1.now) × (may_place form r.0 ≡ true)) }
 {
-    let Some(word) = behind(text, b",LOC=") else {
+    let Some(word) = strip_prefix(text, b",LOC=") else {
         return Some((Loc::Res, text));
     };
     match form {
@@ -74,9 +74,9 @@ fn sized_in_front(field: &[u8]) -> Option<(Form, u32, &[u8])>
     ensures { IfSome result (λ r. (digits : List ℕ) × IsSized field.now r.0 r.1 digits r.2.now) }
 {
     let (form, rest) = form_in_front(field)?;
-    let digits = behind(rest, b"LV=")?;
+    let digits = strip_prefix(rest, b"LV=")?;
     let (len, rest) = number_in_front(1, 0x7FFF_FFFF, digits)?;
-    let rest = behind(rest, b",A=")?;
+    let rest = strip_prefix(rest, b",A=")?;
     Some((form, len, rest))
 }
 
@@ -84,9 +84,9 @@ fn sized_in_front(field: &[u8]) -> Option<(Form, u32, &[u8])>
 fn pool_in_front(field: &[u8]) -> Option<(&[u8], &[u8])>
     ensures { IfSome result (λ r. IsPooled field.now r.0.now r.1.now) }
 {
-    let rest = behind(field, b"CPID=")?;
+    let rest = strip_prefix(field, b"CPID=")?;
     let (pool, rest) = name_in_front(rest)?;
-    let rest = behind(rest, b",CELL=")?;
+    let rest = strip_prefix(rest, b",CELL=")?;
     Some((pool, rest))
 }
 
@@ -106,7 +106,7 @@ fn read_obtain(task: Name, field: &[u8], line: &mut Line) -> Option<()>
         Statement::Request(Written::Obtain {
             form,
             number,
-            ask: Ask::fixed(Length::new(len), Exponent::new(3), loc),
+            ask: AreaRequest::fixed(Length::new(len), Exponent::new(3), loc),
             variable: false,
             area: name(area),
         }),
@@ -179,13 +179,13 @@ fn read_free(task: Name, field: &[u8], line: &mut Line) -> Option<()>
 fn read_cell(task: Name, field: &[u8], line: &mut Line) -> Option<()>
     ensures { IfSome result (λ _. SpellsAfter (codes " CPOOL " ++ field.now) task line.new) }
 {
-    if let Some(rest) = behind(field, b"GET,C,") {
+    if let Some(rest) = strip_prefix(field, b"GET,C,") {
         return read_get(task, true, rest, line);
     }
-    if let Some(rest) = behind(field, b"GET,") {
+    if let Some(rest) = strip_prefix(field, b"GET,") {
         return read_get(task, false, rest, line);
     }
-    let rest = behind(field, b"FREE,")?;
+    let rest = strip_prefix(field, b"FREE,")?;
     read_free(task, rest, line)
 }
 
@@ -205,7 +205,7 @@ fn read_put(task: Name, field: &[u8], line: &mut Line) -> Option<()>
     ensures { IfSome result (λ _. SpellsAfter (codes " PUT " ++ field.now) task line.new) }
 {
     let (area, offset, rest) = address_in_front(field)?;
-    let rest = behind(rest, b",")?;
+    let rest = strip_prefix(rest, b",")?;
     let (quoted, rest) = bytes_in_front(rest)?;
     if !is_remark(rest) {
         return None;
@@ -225,7 +225,7 @@ fn read_show(task: Name, field: &[u8], line: &mut Line) -> Option<()>
     ensures { IfSome result (λ _. SpellsAfter (codes " SHOW " ++ field.now) task line.new) }
 {
     let (area, offset, rest) = address_in_front(field)?;
-    let rest = behind(rest, b",")?;
+    let rest = strip_prefix(rest, b",")?;
     let (len, rest) = number_in_front(1, 4_096, rest)?;
     if !is_remark(rest) {
         return None;
@@ -268,14 +268,14 @@ fn read_after_task(task: Name, text: &[u8], read: &mut Line) -> Option<()>
     ensures { IfSome result (λ _. SpellsAfter text.now task read.new) }
 {
     match text {
-        [_, b'G', ..] => read_obtain(task, behind(text, b" GETMAIN ")?, read),
-        [_, b'F', ..] => read_release(task, behind(text, b" FREEMAIN ")?, read),
-        [_, b'C', ..] => read_cell(task, behind(text, b" CPOOL ")?, read),
-        [_, b'P', ..] => read_put(task, behind(text, b" PUT ")?, read),
-        [_, b'S', ..] => read_show(task, behind(text, b" SHOW ")?, read),
-        [_, b'W', ..] => read_where(task, behind(text, b" WHERE ")?, read),
-        [_, b'R', b'E', b'P', ..] => read_report(task, behind(text, b" REPORT SP")?, read),
-        _ => read_return(task, behind(text, b" RETURN")?, read),
+        [_, b'G', ..] => read_obtain(task, strip_prefix(text, b" GETMAIN ")?, read),
+        [_, b'F', ..] => read_release(task, strip_prefix(text, b" FREEMAIN ")?, read),
+        [_, b'C', ..] => read_cell(task, strip_prefix(text, b" CPOOL ")?, read),
+        [_, b'P', ..] => read_put(task, strip_prefix(text, b" PUT ")?, read),
+        [_, b'S', ..] => read_show(task, strip_prefix(text, b" SHOW ")?, read),
+        [_, b'W', ..] => read_where(task, strip_prefix(text, b" WHERE ")?, read),
+        [_, b'R', b'E', b'P', ..] => read_report(task, strip_prefix(text, b" REPORT SP")?, read),
+        _ => read_return(task, strip_prefix(text, b" RETURN")?, read),
     }
 }
 

@@ -5,7 +5,7 @@ ghost use Rattle.mvs_model.specs.Name.{trimmed};
 ghost use Rattle.mvs_model.specs.Texts.{fault_number, fault_text, region_text, reply_line, step_ended};
 ghost use Rattle.job_script.specs.Writing.{Prints};
 
-use crate::text::Text;
+use crate::text::LineText;
 use mvs_model::card::Card;
 use mvs_model::line::Fault;
 use mvs_model::name::Name;
@@ -25,16 +25,16 @@ pub fn write_all<W: Write>(writer: &mut Watched<W>, bytes: &[u8]) -> Result<(), 
 }
 
 /// Appends the number and the task of a line.
-pub fn push_head(text: &mut Text, line_number: u32, task: &Name)
+pub fn push_head(text: &mut LineText, line_number: u32, task: &Name)
     requires { length text.old ≤ 100 }
     ensures text { text.new
         ≡ text.old ++ decimal line_number ++ codes " " ++ trimmed task.now ++ codes " " }
     ensures len { length text.new ≤ length text.old + 20 }
 {
     text.push_decimal(line_number);
-    text.push_all(b" ");
+    text.push_str(b" ");
     text.push_name(task);
-    text.push_all(b" ");
+    text.push_str(b" ");
 }
 
 /// Prints one line: its number, its task, and its text.
@@ -48,22 +48,22 @@ pub fn print_line<W: Write>(
     ensures { Prints W.contents writer.old writer.new result
         (reply_line line_number task.now said.now) }
 {
-    let mut text = Text::new();
+    let mut text = LineText::new();
     push_head(&mut text, line_number, task);
-    text.push_all(said);
-    text.push_all(b"\n");
+    text.push_str(said);
+    text.push_str(b"\n");
     write_all(writer, text.as_slice())
 }
 
 // Appends the numbers of pages below and above.
-fn push_region(text: &mut Text, card: &Card)
+fn push_region(text: &mut LineText, card: &Card)
     requires { length text.old ≤ 100 }
     ensures text { text.new ≡ text.old ++ region_text card.now }
     ensures len { length text.new ≤ length text.old + 40 }
 {
-    text.push_all(b"REGION BELOW ");
+    text.push_str(b"REGION BELOW ");
     text.push_decimal(card.below());
-    text.push_all(b" ABOVE ");
+    text.push_str(b" ABOVE ");
     text.push_decimal(card.above());
 }
 
@@ -76,7 +76,7 @@ pub fn print_region<W: Write>(
     ensures { Prints W.contents writer.old writer.new result
         (reply_line line_number card.now.name (region_text card.now)) }
 {
-    let mut said = Text::new();
+    let mut said = LineText::new();
     push_region(&mut said, card);
     print_line(writer, line_number, &card.name(), said.as_slice())
 }
@@ -118,10 +118,10 @@ pub fn print_fault<W: Write>(
 ) -> Result<(), Failed>
     ensures { Prints W.contents writer.old writer.new result (fault_text line_number fault) }
 {
-    let mut text = Text::new();
+    let mut text = LineText::new();
     text.push_decimal(line_number);
-    text.push_all(b" JS0");
+    text.push_str(b" JS0");
     text.push_decimal(fault_digit(fault));
-    text.push_all(b"\nJOB FAULT RC 12\n");
+    text.push_str(b"\nJOB FAULT RC 12\n");
     write_all(writer, text.as_slice())
 }

@@ -8,10 +8,10 @@ ghost use Rattle.job_script.specs.ReasonTexts.{cell_of, holder_text, least_of, m
 ghost use Rattle.job_script.specs.Writing.{Prints};
 
 use crate::print::write_all;
-use crate::text::Text;
+use crate::text::LineText;
 use mvs_model::name::Name;
 use mvs_model::place::Addr;
-use mvs_model::reason::{CellSpot, Holder, LineReason, Reason, Room, Shortfall};
+use mvs_model::reason::{CellPosition, FreeSpace, Holder, LineReason, Reason, Shortfall};
 use mvs_model::request::Request;
 use mvs_model::subpool::SubNo;
 use mvs_model::want::Side;
@@ -54,7 +54,7 @@ fn cell(request: &Request) -> u32
 }
 
 // Appends the name of the cell pool or the subtask.
-fn push_named(text: &mut Text, request: &Request)
+fn push_named(text: &mut LineText, request: &Request)
     requires { length text.old ≤ 100 }
     ensures text { text.new ≡ text.old ++ named request.now }
     ensures len { length text.new ≤ length text.old + 8 }
@@ -70,167 +70,167 @@ fn push_named(text: &mut Text, request: &Request)
 }
 
 // Appends the holder of a doubleword.
-fn push_holder(text: &mut Text, holder: &Holder)
+fn push_holder(text: &mut LineText, holder: &Holder)
     requires { length text.old ≤ 100 }
     ensures text { text.new ≡ text.old ++ holder_text holder.now }
     ensures len { length text.new ≤ length text.old + 40 }
 {
     match holder {
-        Holder::Nobody => text.push_all(b" is free"),
+        Holder::Nobody => text.push_str(b" is free"),
         Holder::Subpool(number, owner) => {
-            text.push_all(b" is held by SP ");
+            text.push_str(b" is held by SP ");
             text.push_decimal(u32::from(number.get()));
-            text.push_all(b" of ");
+            text.push_str(b" of ");
             text.push_name(owner);
         }
-        Holder::Unowned => text.push_all(b" is held by a subpool of no task"),
+        Holder::Unowned => text.push_str(b" is held by a subpool of no task"),
         Holder::Part(name) => {
-            text.push_all(b" is in pool ");
+            text.push_str(b" is in pool ");
             text.push_name(name);
         }
     }
 }
 
 // Appends the free runs and pages, and the beginning of the rule.
-fn push_room(text: &mut Text, room: &Room)
+fn push_room(text: &mut LineText, room: &FreeSpace)
     requires { length text.old ≤ 157 }
     ensures text { text.new ≡ text.old ++ room_text room.now }
     ensures len { length text.new ≤ length text.old + 80 }
 {
-    text.push_all(b"; free runs: ");
+    text.push_str(b"; free runs: ");
     text.push_decimal(room.runs);
-    text.push_all(b"; free pages: ");
+    text.push_str(b"; free pages: ");
     text.push_decimal(room.below);
-    text.push_all(b" below, ");
+    text.push_str(b" below, ");
     text.push_decimal(room.above);
-    text.push_all(b" above. (rule ");
+    text.push_str(b" above. (rule ");
 }
 
 // Appends that a length does not fit.
-fn push_shortage(text: &mut Text, request: &Request, room: &Room)
+fn push_shortage(text: &mut LineText, request: &Request, room: &FreeSpace)
     requires { length text.old ≤ 2 }
     ensures text { text.new ≡ text.old ++ shortage_text request.now room.now }
     ensures len { length text.new ≤ length text.old + 237 }
 {
     text.push_decimal(least(request));
-    text.push_all(b" bytes requested in SP ");
+    text.push_str(b" bytes requested in SP ");
     text.push_decimal(number(request));
-    text.push_all(b", but the largest area that fits has ");
+    text.push_str(b", but the largest area that fits has ");
     text.push_decimal(room.longest);
-    text.push_all(b" bytes");
+    text.push_str(b" bytes");
     push_room(text, room);
-    text.push_all(b"12)");
+    text.push_str(b"12)");
 }
 
 // Appends that other members of a list are before one.
-fn push_before(text: &mut Text, member: u32)
+fn push_before(text: &mut LineText, member: u32)
     requires { length text.old ≤ 100 }
     ensures text { text.new ≡ text.old ++ members_before member }
     ensures len { length text.new ≤ length text.old + 28 }
 {
     if member != 1 {
-        text.push_all(b"after the members before it ");
+        text.push_str(b"after the members before it ");
     }
 }
 
 // Appends that a member of a list does not fit.
-fn push_no_member(text: &mut Text, member: u32, short: &Shortfall)
+fn push_no_member(text: &mut LineText, member: u32, short: &Shortfall)
     requires { length text.old ≤ 2 }
     ensures text { text.new ≡ text.old ++ no_member_text member short.now }
     ensures len { length text.new ≤ length text.old + 237 }
 {
-    text.push_all(b"Member ");
+    text.push_str(b"Member ");
     text.push_decimal(member);
-    text.push_all(b" of the list requests ");
+    text.push_str(b" of the list requests ");
     text.push_decimal(short.bytes);
-    text.push_all(b" bytes, but ");
+    text.push_str(b" bytes, but ");
     push_before(text, member);
-    text.push_all(b"the largest area that fits has ");
+    text.push_str(b"the largest area that fits has ");
     text.push_decimal(short.room.longest);
-    text.push_all(b" bytes");
+    text.push_str(b" bytes");
     push_room(text, &short.room);
-    text.push_all(b"22)");
+    text.push_str(b"22)");
 }
 
 // Appends that a part of a pool does not fit.
-fn push_no_part(text: &mut Text, request: &Request, cells: u32, size: u32, room: &Room)
+fn push_no_part(text: &mut LineText, request: &Request, cells: u32, size: u32, room: &FreeSpace)
     requires { length text.old ≤ 2 }
     ensures text { text.new ≡ text.old ++ no_part_text request.now cells size room.now }
     ensures len { length text.new ≤ length text.old + 237 }
 {
-    text.push_all(b"Pool ");
+    text.push_str(b"Pool ");
     push_named(text, request);
-    text.push_all(b": no room for ");
+    text.push_str(b": no room for ");
     text.push_decimal(cells);
-    text.push_all(b" cells of ");
+    text.push_str(b" cells of ");
     text.push_decimal(size);
-    text.push_all(b" bytes; the largest area that fits has ");
+    text.push_str(b" bytes; the largest area that fits has ");
     text.push_decimal(room.longest);
-    text.push_all(b" bytes");
+    text.push_str(b" bytes");
     push_room(text, room);
-    text.push_all(b"59)");
+    text.push_str(b"59)");
 }
 
 // Appends that an address is not on a doubleword.
-fn push_off(text: &mut Text, addr: Addr)
+fn push_off(text: &mut LineText, addr: Addr)
     requires { length text.old ≤ 2 }
     ensures text { text.new ≡ text.old ++ off_text addr }
     ensures len { length text.new ≤ length text.old + 237 }
 {
     let addr = addr.get();
     text.push_word(addr);
-    text.push_all(b" is not on a doubleword: offset ");
+    text.push_str(b" is not on a doubleword: offset ");
     text.push_decimal(addr % 8);
-    text.push_all(b" from ");
+    text.push_str(b" from ");
     text.push_word(8 * (addr / 8));
-    text.push_all(b". (rule 29)");
+    text.push_str(b". (rule 29)");
 }
 
 // Appends that the subpool of a task does not hold a doubleword.
-fn push_not_held(text: &mut Text, task: &Name, number: u32, addr: Addr, holder: &Holder)
+fn push_not_held(text: &mut LineText, task: &Name, number: u32, addr: Addr, holder: &Holder)
     requires { length text.old ≤ 2 }
     ensures text { text.new ≡ text.old ++ not_held_text task.now number addr holder.now }
     ensures len { length text.new ≤ length text.old + 237 }
 {
     text.push_word(addr.get());
     push_holder(text, holder);
-    text.push_all(b"; SP ");
+    text.push_str(b"; SP ");
     text.push_decimal(number);
-    text.push_all(b" of ");
+    text.push_str(b" of ");
     text.push_name(task);
-    text.push_all(b" does not hold it outside cell pools. (rules 26, 66)");
+    text.push_str(b" does not hold it outside cell pools. (rules 26, 66)");
 }
 
 // Appends that members of a list overlap.
-fn push_overlap(text: &mut Text, one: Addr, other: Addr, addr: Addr)
+fn push_overlap(text: &mut LineText, one: Addr, other: Addr, addr: Addr)
     requires { length text.old ≤ 2 }
     ensures text { text.new ≡ text.old ++ overlap_text one other addr }
     ensures len { length text.new ≤ length text.old + 237 }
 {
-    text.push_all(b"The members at ");
+    text.push_str(b"The members at ");
     text.push_word(one.get());
-    text.push_all(b" and ");
+    text.push_str(b" and ");
     text.push_word(other.get());
-    text.push_all(b" both contain the doubleword at ");
+    text.push_str(b" both contain the doubleword at ");
     text.push_word(addr.get());
-    text.push_all(b". (rule 32)");
+    text.push_str(b". (rule 32)");
 }
 
 // Appends the name of the cell pool or the subtask, with texts before and after it.
-fn push_of(text: &mut Text, before: &[u8], request: &Request, behind: &[u8])
+fn push_of(text: &mut LineText, before: &[u8], request: &Request, behind: &[u8])
     requires old { length text.old ≤ 8 }
     requires before { length before.now ≤ 40 }
     requires behind { length behind.now ≤ 60 }
     ensures text { text.new ≡ text.old ++ (before.now ++ named request.now ++ behind.now) }
     ensures len { length text.new ≤ length text.old + 237 }
 {
-    text.push_all(before);
+    text.push_str(before);
     push_named(text, request);
-    text.push_all(behind);
+    text.push_str(behind);
 }
 
 // Appends a number, with texts before and after it.
-fn push_number(text: &mut Text, before: &[u8], number: u32, behind: &[u8])
+fn push_number(text: &mut LineText, before: &[u8], number: u32, behind: &[u8])
     requires old { length text.old ≤ 70 }
     requires before { length before.now ≤ 55 }
     requires behind { length behind.now ≤ 25 }
@@ -238,104 +238,104 @@ fn push_number(text: &mut Text, before: &[u8], number: u32, behind: &[u8])
     ensures len { length text.new
         ≤ length text.old + length before.now + length behind.now + 10 }
 {
-    text.push_all(before);
+    text.push_str(before);
     text.push_decimal(number);
-    text.push_all(behind);
+    text.push_str(behind);
 }
 
 // Appends a task, with a text after it.
-fn push_task(text: &mut Text, task: &Name, behind: &[u8])
+fn push_task(text: &mut LineText, task: &Name, behind: &[u8])
     requires old { length text.old ≤ 60 }
     requires behind { length behind.now ≤ 80 }
     ensures text { text.new ≡ text.old ++ (trimmed task.now ++ behind.now) }
     ensures len { length text.new ≤ length text.old + length behind.now + 8 }
 {
     text.push_name(task);
-    text.push_all(behind);
+    text.push_str(behind);
 }
 
 // Appends where an address is, if no taken cell begins there.
-fn push_spot(text: &mut Text, spot: &CellSpot)
+fn push_spot(text: &mut LineText, spot: &CellPosition)
     requires { length text.old ≤ 100 }
     ensures text { text.new ≡ text.old ++ spot_text spot.now }
     ensures len { length text.new ≤ length text.old + 40 }
 {
     match spot {
-        CellSpot::Untaken => text.push_all(b"that cell is free"),
-        CellSpot::Inside(first) => {
-            text.push_all(b"it is inside the cell at ");
+        CellPosition::Untaken => text.push_str(b"that cell is free"),
+        CellPosition::Inside(first) => {
+            text.push_str(b"it is inside the cell at ");
             text.push_word(first.get());
         }
-        CellSpot::Elsewhere => text.push_all(b"it is in no cell of the pool"),
+        CellPosition::Elsewhere => text.push_str(b"it is in no cell of the pool"),
     }
 }
 
 // Appends that no taken cell begins at the address of a request.
-fn push_no_cell(text: &mut Text, request: &Request, spot: &CellSpot)
+fn push_no_cell(text: &mut LineText, request: &Request, spot: &CellPosition)
     requires { length text.old ≤ 2 }
     ensures text { text.new ≡ text.old ++ no_cell_text request.now spot.now }
     ensures len { length text.new ≤ length text.old + 237 }
 {
-    text.push_all(b"No allocated cell of pool ");
+    text.push_str(b"No allocated cell of pool ");
     push_named(text, request);
-    text.push_all(b" begins at ");
+    text.push_str(b" begins at ");
     text.push_word(cell(request));
-    text.push_all(b": ");
+    text.push_str(b": ");
     push_spot(text, spot);
-    text.push_all(b". (rule 63)");
+    text.push_str(b". (rule 63)");
 }
 
 // Appends that a task has no subpool with the number of a request.
-fn push_no_subpool(text: &mut Text, request: &Request, keeper: &Name)
+fn push_no_subpool(text: &mut LineText, request: &Request, keeper: &Name)
     requires { length text.old ≤ 2 }
     ensures text { text.new ≡ text.old ++ no_subpool_text request.now keeper.now }
     ensures len { length text.new ≤ length text.old + 237 }
 {
     text.push_name(keeper);
-    text.push_all(b" has no subpool ");
+    text.push_str(b" has no subpool ");
     text.push_decimal(number(request));
-    text.push_all(b". (rule 26)");
+    text.push_str(b". (rule 26)");
 }
 
 // Appends that a task only shares a subpool that it gives.
-fn push_not_owned(text: &mut Text, task: &Name, number: SubNo, owner: &Name)
+fn push_not_owned(text: &mut LineText, task: &Name, number: SubNo, owner: &Name)
     requires { length text.old ≤ 2 }
     ensures text { text.new ≡ text.old ++ not_owned_text task.now number owner.now }
     ensures len { length text.new ≤ length text.old + 237 }
 {
     text.push_name(task);
-    text.push_all(b" shares SP ");
+    text.push_str(b" shares SP ");
     text.push_decimal(u32::from(number.get()));
-    text.push_all(b", and only its owner ");
+    text.push_str(b", and only its owner ");
     text.push_name(owner);
-    text.push_all(b" can give it. (rule 48)");
+    text.push_str(b" can give it. (rule 48)");
 }
 
 // Appends that a subtask of a task is active.
-fn push_subtask(text: &mut Text, task: &Name, subtask: &Name)
+fn push_subtask(text: &mut LineText, task: &Name, subtask: &Name)
     requires { length text.old ≤ 2 }
     ensures text { text.new ≡ text.old ++ subtask_text task.now subtask.now }
     ensures len { length text.new ≤ length text.old + 237 }
 {
     text.push_name(subtask);
-    text.push_all(b", a subtask of ");
+    text.push_str(b", a subtask of ");
     text.push_name(task);
-    text.push_all(b", is active. (rule 54)");
+    text.push_str(b", is active. (rule 54)");
 }
 
 // Appends that a byte cannot be accessed.
-fn push_no_access(text: &mut Text, addr: Addr, holder: &Holder)
+fn push_no_access(text: &mut LineText, addr: Addr, holder: &Holder)
     requires { length text.old ≤ 2 }
     ensures text { text.new ≡ text.old ++ no_access_text addr holder.now }
     ensures len { length text.new ≤ length text.old + 237 }
 {
     text.push_word(addr.get());
     push_holder(text, holder);
-    text.push_all(b"; only obtained storage and allocated cells can be accessed. (rule 38)");
+    text.push_str(b"; only obtained storage and allocated cells can be accessed. (rule 38)");
 }
 
 // Appends why a request for cells or of a subtask is refused.
-fn push_named_reason(text: &mut Text, request: &Request, reason: &Reason)
+fn push_named_reason(text: &mut LineText, request: &Request, reason: &Reason)
     requires { length text.old ≤ 2 }
     ensures text { text.new ≡ text.old ++ names_text request.now reason.now }
     ensures len { length text.new ≤ length text.old + 237 }
@@ -353,12 +353,12 @@ fn push_named_reason(text: &mut Text, request: &Request, reason: &Reason)
         Reason::NoPart(cells, size, room) => push_no_part(text, request, *cells, *size, room),
         Reason::TaskInUse => push_of(text, b"A task ", request, b" is already active. (rule 51)"),
         Reason::TooManyPools => {
-            text.push_all(b"64 pools exist, which is the limit. (rule 68)");
+            text.push_str(b"64 pools exist, which is the limit. (rule 68)");
         }
         Reason::TooManyTasks => {
-            text.push_all(b"32 tasks are active, which is the limit. (rule 51)");
+            text.push_str(b"32 tasks are active, which is the limit. (rule 51)");
         }
-        Reason::WholeOfZero => text.push_all(b"SP 0 cannot be released as a whole. (rule 35)"),
+        Reason::WholeOfZero => text.push_str(b"SP 0 cannot be released as a whole. (rule 35)"),
         Reason::NotActive
         | Reason::InvalidNumber
         | Reason::Shortage(_)
@@ -375,7 +375,7 @@ fn push_named_reason(text: &mut Text, request: &Request, reason: &Reason)
 }
 
 // Appends why a request of a task is refused.
-fn push_reason(text: &mut Text, task: &Name, request: &Request, reason: &Reason)
+fn push_reason(text: &mut LineText, task: &Name, request: &Request, reason: &Reason)
     requires { length text.old ≤ 2 }
     ensures text { text.new ≡ text.old ++ reason_words task.now request.now reason.now }
     ensures len { length text.new ≤ length text.old + 237 }
@@ -417,7 +417,7 @@ fn push_reason(text: &mut Text, task: &Name, request: &Request, reason: &Reason)
 }
 
 // Appends why a line of a task is not executed as it asks.
-fn push_why(text: &mut Text, task: &Name, request: &Request, reason: &LineReason)
+fn push_why(text: &mut LineText, task: &Name, request: &Request, reason: &LineReason)
     requires { length text.old ≤ 2 }
     ensures text { text.new ≡ text.old ++ why_text task.now request.now reason.now }
     ensures len { length text.new ≤ length text.old + 237 }
@@ -446,7 +446,7 @@ fn line_len(bytes: &[u8]) -> usize
 }
 
 /// Makes one line of a text.
-pub fn end_line(text: &mut Text)
+pub fn end_line(text: &mut LineText)
     requires { length text.old < 240 }
     ensures { text.new ≡ one_line text.old }
 {
@@ -465,8 +465,8 @@ pub fn print_reason<W: Write>(
     ensures { Prints W.contents writer.old writer.new result
         (reason_line task.now request.now reason.now) }
 {
-    let mut text = Text::new();
-    text.push_all(b"* ");
+    let mut text = LineText::new();
+    text.push_str(b"* ");
     push_why(&mut text, task, request, reason);
     end_line(&mut text);
     write_all(writer, text.as_slice())

@@ -5,7 +5,7 @@ ghost use Rattle.mvs_model.specs.Texts.{label_text, map_text, reply_line, subpoo
 ghost use Rattle.job_script.specs.Writing.{Prints};
 
 use crate::print::{print_line, push_head, write_all};
-use crate::text::Text;
+use crate::text::LineText;
 use mvs_model::name::Name;
 use mvs_model::report::{MapRun, SubpoolLine};
 use mvs_model::subpool::SubNo;
@@ -13,30 +13,30 @@ use mvs_model::watched::{Failed, Watched};
 use std::io::Write;
 
 // Appends whether a task owns a subpool or shares it.
-fn push_share(text: &mut Text, owned: bool)
+fn push_share(text: &mut LineText, owned: bool)
     requires { length text.old ≤ 100 }
     ensures text { text.new
         ≡ text.old ++ (if owned then codes " OWNED PLAIN " else codes " SHARED PLAIN ") }
     ensures len { length text.new ≤ length text.old + 14 }
 {
     if owned {
-        text.push_all(b" OWNED PLAIN ");
+        text.push_str(b" OWNED PLAIN ");
     } else {
-        text.push_all(b" SHARED PLAIN ");
+        text.push_str(b" SHARED PLAIN ");
     }
 }
 
 // Appends the line for a number that a task has.
-fn push_subpool(text: &mut Text, line: &SubpoolLine)
+fn push_subpool(text: &mut LineText, line: &SubpoolLine)
     requires { length text.old ≤ 80 }
     ensures text { text.new ≡ text.old ++ subpool_text line.now }
     ensures len { length text.new ≤ length text.old + 55 }
 {
-    text.push_all(b"SP ");
+    text.push_str(b"SP ");
     text.push_decimal(u32::from(line.number.get()));
     push_share(text, line.owned);
     text.push_decimal(line.plain);
-    text.push_all(b" POOL ");
+    text.push_str(b" POOL ");
     text.push_decimal(line.pool);
 }
 
@@ -50,10 +50,10 @@ pub fn print_subpool_line<W: Write>(
     ensures { Prints W.contents writer.old writer.new result
         (reply_line line_number task.now (subpool_text line.now)) }
 {
-    let mut text = Text::new();
+    let mut text = LineText::new();
     push_head(&mut text, line_number, task);
     push_subpool(&mut text, line);
-    text.push_all(b"\n");
+    text.push_str(b"\n");
     write_all(writer, text.as_slice())
 }
 
@@ -70,19 +70,19 @@ pub fn print_no_subpool<W: Write>(
 }
 
 // Appends the subpool of some pages.
-fn push_holder(text: &mut Text, holder: &Option<(SubNo, Name)>)
+fn push_holder(text: &mut LineText, holder: &Option<(SubNo, Name)>)
     requires { length text.old ≤ 80 }
     ensures text { text.new ≡ text.old ++ label_text holder.now }
     ensures len { length text.new ≤ length text.old + 40 }
 {
     match holder {
         Some((number, owner)) => {
-            text.push_all(b"SP ");
+            text.push_str(b"SP ");
             text.push_decimal(u32::from(number.get()));
-            text.push_all(b" OWNER ");
+            text.push_str(b" OWNER ");
             text.push_name(owner);
         }
-        None => text.push_all(b"FREE"),
+        None => text.push_str(b"FREE"),
     }
 }
 
@@ -96,14 +96,14 @@ pub fn print_map_run<W: Write>(
     ensures { Prints W.contents writer.old writer.new result
         (reply_line line_number task.now (map_text run.now)) }
 {
-    let mut text = Text::new();
+    let mut text = LineText::new();
     push_head(&mut text, line_number, task);
-    text.push_all(b"MAP ");
+    text.push_str(b"MAP ");
     text.push_word(run.addr.get());
-    text.push_all(b" ");
+    text.push_str(b" ");
     text.push_word(run.len);
-    text.push_all(b" ");
+    text.push_str(b" ");
     push_holder(&mut text, &run.holder);
-    text.push_all(b"\n");
+    text.push_str(b"\n");
     write_all(writer, text.as_slice())
 }

@@ -10,7 +10,7 @@ ghost use Rattle.mvs_model.specs.Resolving.{address_of, all_set, first_unset, lo
 ghost use Rattle.job_script.specs.Areas.{Fit};
 ghost use Rattle.job_script.specs.Resolving.{IsAccess, IsObtain, IsOfPool, IsOfTask, IsRelease};
 
-use crate::names::Names;
+use crate::names::NamePlaces;
 use mvs_model::bounded::Length;
 use mvs_model::error::OutOfMemory;
 use mvs_model::line::{Location, Locations, Written};
@@ -20,7 +20,7 @@ use mvs_model::request::{Lengths, Places, Reply, Request};
 use std::slice;
 
 // The address that is written, where its name is set.
-fn address(names: &Names, location: &Location) -> Option<Addr>
+fn address(names: &NamePlaces, location: &Location) -> Option<Addr>
     ensures { result ≡ address_of names.now location.now }
 {
     match location {
@@ -35,7 +35,7 @@ fn address(names: &Names, location: &Location) -> Option<Addr>
 }
 
 // The place that is written, where its name is set.
-fn place(names: &Names, location: &Location, len: Length) -> Option<Place>
+fn place(names: &NamePlaces, location: &Location, len: Length) -> Option<Place>
     ensures { result
         ≡ option_map (λ a. record { addr = a; len = len }) (address_of names.now location.now) }
 {
@@ -47,7 +47,7 @@ fn place(names: &Names, location: &Location, len: Length) -> Option<Place>
 
 // Appends the places of a list, if their names are set.
 fn push_places(
-    names: &Names,
+    names: &NamePlaces,
     places: &mut Places,
     locations: &[Location],
     lengths: &[Length],
@@ -71,7 +71,7 @@ fn push_places(
 }
 
 // The places that are written, where their names are set.
-fn places(names: &Names, locations: &Locations, lengths: &Lengths) -> Option<Places>
+fn places(names: &NamePlaces, locations: &Locations, lengths: &Lengths) -> Option<Places>
     ensures { result ≡ places_of names.now locations.now lengths.now }
 {
     let Some((location, locations)) = locations.as_slice().split_first() else {
@@ -92,7 +92,7 @@ fn places(names: &Names, locations: &Locations, lengths: &Lengths) -> Option<Pla
 }
 
 // The name, where it is not set.
-fn unset_name(names: &Names, name: &Name) -> Option<Name>
+fn unset_name(names: &NamePlaces, name: &Name) -> Option<Name>
     ensures { result ≡ first_unset names.now (name.now ∷ []) }
 {
     match names.get(name) {
@@ -102,7 +102,7 @@ fn unset_name(names: &Names, name: &Name) -> Option<Name>
 }
 
 // The name that an address is written by, where it is not set.
-fn unset_in(names: &Names, location: &Location) -> Option<Name>
+fn unset_in(names: &NamePlaces, location: &Location) -> Option<Name>
     ensures { result ≡ first_unset names.now (name_in location.now) }
 {
     match location {
@@ -112,7 +112,7 @@ fn unset_in(names: &Names, location: &Location) -> Option<Name>
 }
 
 // The first name of some addresses that is not set.
-fn unset_among(names: &Names, locations: &[Location]) -> Option<Name>
+fn unset_among(names: &NamePlaces, locations: &[Location]) -> Option<Name>
     ensures { result ≡ first_unset names.now (flat_map name_in locations.now) }
 {
     let Some((location, rest)) = locations.split_first() else {
@@ -126,7 +126,7 @@ fn unset_among(names: &Names, locations: &[Location]) -> Option<Name>
 }
 
 /// The first name that a request looks up and that is not set.
-pub fn unset(names: &Names, written: &Written) -> Option<Name>
+pub fn unset(names: &NamePlaces, written: &Written) -> Option<Name>
     ensures { result ≡ first_unset names.now (looked_up written.now) }
 {
     match written {
@@ -165,7 +165,7 @@ fn places_in(reply: &Reply) -> &[Place]
 }
 
 // Sets names to places, from the left.
-fn set_all(names: &mut Names, areas: &[Name], places: &[Place]) -> Result<(), OutOfMemory>
+fn set_all(names: &mut NamePlaces, areas: &[Name], places: &[Place]) -> Result<(), OutOfMemory>
     requires { Fit areas.now places.now }
     ensures ok { OnOk result (names.new ≡ all_set names.old areas.now places.now) }
     ensures err { OnErr result ((areas.now ≢ []) × (places.now ≢ [])) }
@@ -181,7 +181,11 @@ fn set_all(names: &mut Names, areas: &[Name], places: &[Place]) -> Result<(), Ou
 }
 
 /// Sets the names of a request to the places that its reply gives.
-pub fn set_names(names: &mut Names, written: &Written, reply: &Reply) -> Result<(), OutOfMemory>
+pub fn set_names(
+    names: &mut NamePlaces,
+    written: &Written,
+    reply: &Reply,
+) -> Result<(), OutOfMemory>
     requires { Fit (names_set written.now) (places_in reply.now) }
     ensures ok { OnOk result
         (names.new ≡ all_set names.old (names_set written.now) (places_in reply.now)) }
@@ -191,7 +195,7 @@ pub fn set_names(names: &mut Names, written: &Written, reply: &Reply) -> Result<
 }
 
 // A request that releases, where each name that it looks up is set.
-fn release_request(names: &Names, written: &Written, request: &mut Request) -> Option<()>
+fn release_request(names: &NamePlaces, written: &Written, request: &mut Request) -> Option<()>
     requires { IsRelease written.now }
     ensures { MatchOption result (resolved names.now written.now ≡ None)
         (λ _. resolved names.now written.now ≡ Some request.new) }
@@ -243,7 +247,7 @@ fn release_request(names: &Names, written: &Written, request: &mut Request) -> O
 }
 
 // A request that reads or writes bytes, where each name that it looks up is set.
-fn access_request(names: &Names, written: &Written, request: &mut Request) -> Option<()>
+fn access_request(names: &NamePlaces, written: &Written, request: &mut Request) -> Option<()>
     requires { IsAccess written.now }
     ensures { MatchOption result (resolved names.now written.now ≡ None)
         (λ _. resolved names.now written.now ≡ Some request.new) }
@@ -334,7 +338,7 @@ fn obtain_request(written: &Written, request: &mut Request)
 }
 
 // A request for a cell pool, where the name that it looks up is set.
-fn pool_request(names: &Names, written: &Written, request: &mut Request) -> Option<()>
+fn pool_request(names: &NamePlaces, written: &Written, request: &mut Request) -> Option<()>
     requires { IsOfPool written.now }
     ensures { MatchOption result (resolved names.now written.now ≡ None)
         (λ _. resolved names.now written.now ≡ Some request.new) }
@@ -379,7 +383,7 @@ fn pool_request(names: &Names, written: &Written, request: &mut Request) -> Opti
 
 /// Whether each name that a request looks up is set: then `request` is what is asked for, written over another, so that nothing of it is copied.
 /// Where one is not set, what `request` holds is asked for by nobody.
-pub fn resolve(names: &Names, written: &Written, request: &mut Request) -> Option<()>
+pub fn resolve(names: &NamePlaces, written: &Written, request: &mut Request) -> Option<()>
     ensures { MatchOption result (resolved names.now written.now ≡ None)
         (λ _. resolved names.now written.now ≡ Some request.new) }
 {

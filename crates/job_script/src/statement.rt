@@ -13,8 +13,8 @@ ghost use Rattle.job_script.specs.Parted.{field_in};
 use crate::given::Given;
 use crate::keys::Key;
 use crate::operations::Operation;
-use crate::parted::next_operand;
 use crate::rows::Row;
+use crate::split_once::next_operand;
 use mvs_model::line::{Fault, Line, Statement, Written};
 use mvs_model::name::Name;
 

@@ -19,7 +19,7 @@ use mvs_model::bounded::{Bounded, Exponent, PagesAbove};
 use mvs_model::code::Form;
 use mvs_model::line::{Fault, Line, Statement, Written};
 use mvs_model::name::Name;
-use mvs_model::want::{Ask, Loc, Residence};
+use mvs_model::want::{AreaRequest, Loc, Residence};
 
 // The location that a word names (Assembler Services Reference, GETMAIN, LOC).
 fn loc_named(text: &[u8]) -> Loc
@@ -148,13 +148,13 @@ impl Given<'_> {
     }
 
     // What is asked for with these lengths.
-    fn ask(&self, lengths: &[u8]) -> Ask
+    fn ask(&self, lengths: &[u8]) -> AreaRequest
         requires read { IsRead self.now }
         requires extent { IsExtent lengths.now }
         ensures { result ≡ ask_for lengths.now (by_place self.now) }
     {
         let (largest, smallest) = extent(lengths);
-        let ask = Ask::fixed(largest, self.start(), self.loc()).at_least(smallest);
+        let ask = AreaRequest::fixed(largest, self.start(), self.loc()).at_least(smallest);
         match self.text(Key::Contbdy) {
             None => ask,
             Some(within) => ask.within(bounded(within)),

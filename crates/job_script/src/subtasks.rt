@@ -15,7 +15,7 @@ use crate::digits::{bounded, number};
 use crate::given::Given;
 use crate::items::inside;
 use crate::keys::Key;
-use crate::parted::parted;
+use crate::split_once::split_once;
 use mvs_model::gifts::Gifts;
 use mvs_model::line::{Fault, Line, Statement, Written};
 use mvs_model::name::Name;
@@ -33,7 +33,7 @@ fn set(items: &[u8]) -> u128
     requires { AreGifts (items_in items.now) }
     ensures { result ≡ set_of (map number (items_in items.now)) }
 {
-    let (first, rest) = parted(items, b',');
+    let (first, rest) = split_once(items, b',');
     match rest {
         None => bit(number(first)),
         Some(rest) => bit(number(first)) | set(rest),

@@ -16,12 +16,12 @@ const GLYPHS: [u8; 16] = *b"0123456789ABCDEF";
 
 /// Text of at most 240 bytes.
 #[derive(Drop)]
-pub struct Text {
+pub struct LineText {
     bytes: [u8; ROOM],
     len: usize,
 }
 
-impl Model for Text {
+impl Model for LineText {
     ghost Value = { List ℕ };
 
     ghost view = { λ t. take t.len t.bytes };
@@ -29,11 +29,11 @@ impl Model for Text {
     ghost invariant = { λ t. t.len ≤ 240 };
 }
 
-impl Text {
-    pub fn new() -> Text
+impl LineText {
+    pub fn new() -> LineText
         ensures { result ≡ [] }
     {
-        Text {
+        LineText {
             bytes: [0; ROOM],
             len: 0,
         }
@@ -69,7 +69,7 @@ impl Text {
         self.len += 1;
     }
 
-    pub fn push_all(&mut self, bytes: &[u8])
+    pub fn push_str(&mut self, bytes: &[u8])
         requires { length self.old + length bytes.now ≤ 240 }
         ensures text { self.new ≡ self.old ++ bytes.now }
         ensures len { length self.new ≡ length self.old + length bytes.now }
@@ -121,7 +121,7 @@ impl Text {
     {
         let mut done = 0;
         while bytes.len() - done >= 16 {
-            self.push_all(&digits_of_sixteen(&bytes[done..done + 16]));
+            self.push_str(&digits_of_sixteen(&bytes[done..done + 16]));
             done += 16;
         }
         self.push_each(&bytes[done..]);

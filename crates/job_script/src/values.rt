@@ -9,7 +9,7 @@ ghost use Rattle.job_script.specs.Values.{IsExtent, IsNumbers, IsNames, IsLocati
 use crate::addresses::{location, name};
 use crate::digits::{bounded, hex_number, quoted};
 use crate::items::{between, inside, two};
-use crate::parted::parted;
+use crate::split_once::split_once;
 use mvs_model::bounded::Length;
 use mvs_model::line::{Locations, Names};
 use mvs_model::request::{Bytes, Lengths};
@@ -39,10 +39,10 @@ pub fn lengths(text: &[u8]) -> Lengths
     requires { IsNumbers text.now }
     ensures { result ≡ map number (items text.now) }
 {
-    let (first, mut more) = parted(between(text), b',');
+    let (first, mut more) = split_once(between(text), b',');
     let mut list = ShortList::one(bounded(first));
     'items: while let Some(rest) = more {
-        let (item, next) = parted(rest, b',');
+        let (item, next) = split_once(rest, b',');
         list.push(bounded(item));
         more = next;
     }
@@ -54,10 +54,10 @@ pub fn names(text: &[u8]) -> Names
     requires { IsNames text.now }
     ensures { result ≡ map padded (items text.now) }
 {
-    let (first, mut more) = parted(between(text), b',');
+    let (first, mut more) = split_once(between(text), b',');
     let mut list = ShortList::one(name(first));
     'items: while let Some(rest) = more {
-        let (item, next) = parted(rest, b',');
+        let (item, next) = split_once(rest, b',');
         list.push(name(item));
         more = next;
     }
@@ -69,10 +69,10 @@ pub fn locations(text: &[u8]) -> Locations
     requires { IsLocations text.now }
     ensures { result ≡ map location (items text.now) }
 {
-    let (first, mut more) = parted(between(text), b',');
+    let (first, mut more) = split_once(between(text), b',');
     let mut list = ShortList::one(location(first));
     'items: while let Some(rest) = more {
-        let (item, next) = parted(rest, b',');
+        let (item, next) = split_once(rest, b',');
         list.push(location(item));
         more = next;
     }

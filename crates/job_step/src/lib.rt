@@ -1,7 +1,7 @@
 //! The step of a job: a request of a task in, a reply out.
 #![tactic(auto)]
 
-mod step;
 mod replying;
+mod step;
 
 pub use step::Step;

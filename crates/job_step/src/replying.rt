@@ -11,7 +11,7 @@ use mvs_model::request::{Places, Reply};
 
 /// Writes the place of an area.
 pub fn reply_area(answer: Result<Place, Refusal>, reply: &mut Reply) -> Result<(), Refusal>
-    ensures told { RepliesWith Obtained answer reply.new result }
+    ensures replies { RepliesWith Obtained answer reply.new result }
     ensures no_abend { OnOk result (is_abend reply.new ≡ false) }
 {
     *reply = Reply::Obtained(answer?);
@@ -20,7 +20,7 @@ pub fn reply_area(answer: Result<Place, Refusal>, reply: &mut Reply) -> Result<(
 
 /// Writes the places of the areas of a list.
 pub fn reply_areas(answer: Result<Places, Refusal>, reply: &mut Reply) -> Result<(), Refusal>
-    ensures told { RepliesWith Listed answer reply.new result }
+    ensures replies { RepliesWith Listed answer reply.new result }
     ensures no_abend { OnOk result (is_abend reply.new ≡ false) }
 {
     *reply = Reply::Listed(answer?);
@@ -29,7 +29,7 @@ pub fn reply_areas(answer: Result<Places, Refusal>, reply: &mut Reply) -> Result
 
 /// Writes the place of a cell.
 pub fn reply_cell(answer: Result<Place, Refusal>, reply: &mut Reply) -> Result<(), Refusal>
-    ensures told { RepliesWith Cell answer reply.new result }
+    ensures replies { RepliesWith Cell answer reply.new result }
     ensures no_abend { OnOk result (is_abend reply.new ≡ false) }
 {
     *reply = Reply::Cell(answer?);
@@ -38,7 +38,7 @@ pub fn reply_cell(answer: Result<Place, Refusal>, reply: &mut Reply) -> Result<(
 
 /// Writes that a request was served which is answered 0.
 pub fn reply_zero(answer: Result<(), Refusal>, reply: &mut Reply) -> Result<(), Refusal>
-    ensures told { RepliesWith (λ _. Rc0) answer reply.new result }
+    ensures replies { RepliesWith (λ _. Rc0) answer reply.new result }
     ensures no_abend { OnOk result (is_abend reply.new ≡ false) }
 {
     answer?;
@@ -48,7 +48,7 @@ pub fn reply_zero(answer: Result<(), Refusal>, reply: &mut Reply) -> Result<(), 
 
 /// Writes that a subtask was attached.
 pub fn reply_attached(answer: Result<(), Refusal>, reply: &mut Reply) -> Result<(), Refusal>
-    ensures told { RepliesWith (λ _. Attached) answer reply.new result }
+    ensures replies { RepliesWith (λ _. Attached) answer reply.new result }
     ensures no_abend { OnOk result (is_abend reply.new ≡ false) }
 {
     answer?;
@@ -58,7 +58,7 @@ pub fn reply_attached(answer: Result<(), Refusal>, reply: &mut Reply) -> Result<
 
 /// Writes that the task ended.
 pub fn reply_ended(answer: Result<(), Refusal>, reply: &mut Reply) -> Result<(), Refusal>
-    ensures told { RepliesWith (λ _. Ended) answer reply.new result }
+    ensures replies { RepliesWith (λ _. Ended) answer reply.new result }
     ensures no_abend { OnOk result (is_abend reply.new ≡ false) }
 {
     answer?;
@@ -68,7 +68,7 @@ pub fn reply_ended(answer: Result<(), Refusal>, reply: &mut Reply) -> Result<(),
 
 /// Writes that bytes were read or written.
 pub fn reply_done(answer: Result<(), Refusal>, reply: &mut Reply) -> Result<(), Refusal>
-    ensures told { RepliesWith (λ _. Done) answer reply.new result }
+    ensures replies { RepliesWith (λ _. Done) answer reply.new result }
     ensures no_abend { OnOk result (is_abend reply.new ≡ false) }
 {
     answer?;

@@ -63,7 +63,7 @@ fn act_on_list(
     machine: &mut Machine,
     t: TaskId,
     request: &Request,
-    told: &[Addr],
+    hints: &[Addr],
     reply: &mut Reply,
     left: &mut Shortfall,
 ) -> Result<(), Refusal>
@@ -72,8 +72,8 @@ fn act_on_list(
     ensures answer { Tries (λ _. reply.new) machine.old.state (task_name machine.old t) request.now
         result machine.new.state }
     ensures no_abend { OnOk result (is_abend reply.new ≡ false) }
-    ensures told { OnOk result
-        (Takes told.now machine.old.state (task_name machine.old t) request.now reply.new
+    ensures hints { OnOk result
+        (Takes hints.now machine.old.state (task_name machine.old t) request.now reply.new
         machine.new.state) }
     ensures left { IsLeft machine.old.state (task_name machine.old t) request.now result left.new }
 {
@@ -87,7 +87,7 @@ fn act_on_list(
         unreachable!();
     };
     reply_areas(
-        machine.obtain_list(t, *number, lengths, *start, told, left),
+        machine.obtain_list(t, *number, lengths, *start, hints, left),
         reply,
     )
 }
@@ -98,7 +98,7 @@ fn act(
     machine: &mut Machine,
     t: TaskId,
     request: &Request,
-    told: &[Addr],
+    hints: &[Addr],
     reply: &mut Reply,
     left: &mut Shortfall,
 ) -> Result<(), Refusal>
@@ -106,17 +106,17 @@ fn act(
     ensures answer { Tries (λ _. reply.new) machine.old.state (task_name machine.old t) request.now
         result machine.new.state }
     ensures no_abend { OnOk result (is_abend reply.new ≡ false) }
-    ensures told { OnOk result
-        (Takes told.now machine.old.state (task_name machine.old t) request.now reply.new
+    ensures hints { OnOk result
+        (Takes hints.now machine.old.state (task_name machine.old t) request.now reply.new
         machine.new.state) }
     ensures left { IsLeft machine.old.state (task_name machine.old t) request.now result left.new }
 {
     match request {
         Request::Obtain { form, number, ask } => reply_area(
-            machine.obtain(t, *form, *number, ask, first_hint(told)),
+            machine.obtain(t, *form, *number, ask, first_hint(hints)),
             reply,
         ),
-        Request::ObtainList { .. } => act_on_list(machine, t, request, told, reply, left),
+        Request::ObtainList { .. } => act_on_list(machine, t, request, hints, reply, left),
         Request::Release { number, place, .. } => {
             reply_zero(machine.release(t, *number, *place), reply)
         }
@@ -136,12 +136,12 @@ fn act(
         } => {
             let plan = machine.plan(t, *size, *primary, *secondary, *loc);
             reply_zero(
-                machine.build(t, *number, pool, &plan, first_hint(told)),
+                machine.build(t, *number, pool, &plan, first_hint(hints)),
                 reply,
             )
         }
         Request::Get { pool, conditional } => {
-            reply_cell(machine.get(pool, *conditional, told), reply)
+            reply_cell(machine.get(pool, *conditional, hints), reply)
         }
         Request::Free { pool, cell } => reply_zero(machine.free(pool, *cell), reply),
         Request::Delete { pool } => reply_zero(machine.delete(pool), reply),
@@ -274,7 +274,7 @@ impl Step {
         &mut self,
         name: &Name,
         request: &Request,
-        told: &[Addr],
+        hints: &[Addr],
         reply: &mut Reply,
         left: &mut Shortfall,
     ) -> Result<(), Refusal>
@@ -282,15 +282,15 @@ impl Step {
             self.new.state }
         ensures abended { self.new.abended ≡ self.old.abended }
         ensures no_abend { OnOk result (is_abend reply.new ≡ false) }
-        ensures told { OnOk result
-            (Takes told.now self.old.state name.now request.now reply.new self.new.state) }
+        ensures hints { OnOk result
+            (Takes hints.now self.old.state name.now request.now reply.new self.new.state) }
         ensures left { (k : ℕ) → result ≡ Err (Member k)
             → MemberLacks self.old.state name.now request.now k left.new }
     {
         let Some(t) = self.machine.find(name) else {
             return Err(Refusal::NotActive);
         };
-        act(&mut self.machine, t, request, told, reply, left)
+        act(&mut self.machine, t, request, hints, reply, left)
     }
 
     /// Settles a request that is refused as the table of consequences says, and writes what it is answered over another reply: an
@@ -310,13 +310,13 @@ impl Step {
     }
 
     /// Serves a request of any task: attempts it, and settles it where it is refused.
-    pub fn request(&mut self, name: &Name, request: &Request, told: &[Addr], reply: &mut Reply)
+    pub fn request(&mut self, name: &Name, request: &Request, hints: &[Addr], reply: &mut Reply)
         ensures step { MachineStep self.old.state name.now request.now reply.new self.new.state }
         ensures abended { self.new.abended ≡ (self.old.abended || is_abend reply.new) }
-        ensures told { Takes told.now self.old.state name.now request.now reply.new self.new.state }
+        ensures hints { Takes hints.now self.old.state name.now request.now reply.new self.new.state }
     {
         let mut left = no_shortfall();
-        match self.attempt(name, request, told, reply, &mut left) {
+        match self.attempt(name, request, hints, reply, &mut left) {
             Ok(()) => {}
             Err(refusal) => self.settle(name, request, refusal, reply),
         }

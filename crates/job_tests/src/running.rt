@@ -1,7 +1,7 @@
 //! Tests of `run_job`. The scripts and their answers are those of docs/SCRIPT.md.
 
-use crate::streams::{Narrow, Refusal, Trickle};
-use mvs_job::{RunFault, AddressHints, run_job};
+use crate::streams::{Narrow, Trickle, WriterEnd};
+use mvs_job::{AddressHints, RunFault, run_job};
 use mvs_model::outcome::Outcome;
 use mvs_model::want::Placement;
 use mvs_model::watched::Watched;
@@ -37,7 +37,7 @@ fn runs_scripts_a_byte_a_call(rt: HostRuntime) -> Result<(), Fail> {
         let mut writer = Watched::new(Narrow {
             bytes: Vec::new(rt.alloc()),
             most: 1_000,
-            refusal: Refusal::Fails,
+            refusal: WriterEnd::Fails,
         });
         let hints = AddressHints::nothing(rt.alloc());
         let outcome = run_job(rt.alloc(), &mut reader, &mut writer, Placement::Low, hints)?;
@@ -75,7 +75,7 @@ fn reports_each_failed_read(rt: HostRuntime) -> Result<(), Fail> {
 // The writer refuses each byte in turn, by a failure and by taking none: all bytes before it are written.
 #[test]
 fn reports_each_failed_write(rt: HostRuntime) -> Result<(), Fail> {
-    for refusal in [Refusal::Fails, Refusal::TakesNone] {
+    for refusal in [WriterEnd::Fails, WriterEnd::TakesNone] {
         for most in 0..FIRST_PRINTED.len() {
             let mut reader = Watched::new(FIRST);
             let mut writer = Watched::new(Narrow {

@@ -1,6 +1,6 @@
 //! Tests of `Session`. The scripts and their answers are those of docs/SCRIPT.md.
 
-use crate::streams::{Narrow, Refusal};
+use crate::streams::{Narrow, WriterEnd};
 use mvs_job::{Session, print_closing, print_line};
 use mvs_model::name::Name;
 use mvs_model::outcome::Outcome;
@@ -57,7 +57,7 @@ fn writer_of(rt: &HostRuntime, most: usize) -> Watched<Narrow> {
     Watched::new(Narrow {
         bytes: Vec::new(rt.alloc()),
         most,
-        refusal: Refusal::Fails,
+        refusal: WriterEnd::Fails,
     })
 }
 

@@ -31,7 +31,7 @@ impl Read for Trickle {
 
 /// What a writer does when it accepts no more bytes.
 #[derive(Clone, Copy, Debug, PartialEq, Eq)]
-pub enum Refusal {
+pub enum WriterEnd {
     Fails,
     TakesNone,
 }
@@ -41,15 +41,15 @@ pub enum Refusal {
 pub struct Narrow {
     pub bytes: Vec<u8>,
     pub most: usize,
-    pub refusal: Refusal,
+    pub refusal: WriterEnd,
 }
 
 impl Write for Narrow {
     fn write(&mut self, buf: &[u8]) -> io::Result<usize> {
         if self.bytes.len() >= self.most {
             return match self.refusal {
-                Refusal::Fails => Err(Error::from(ErrorKind::Other)),
-                Refusal::TakesNone => Ok(0),
+                WriterEnd::Fails => Err(Error::from(ErrorKind::Other)),
+                WriterEnd::TakesNone => Ok(0),
             };
         }
         if buf.is_empty() {

@@ -15,8 +15,8 @@ use Rattle.mvs_model.proofs.ReadingRanges.{line_ranged}
 use Rattle.judge.specs.declared.Finding.{Finding}
 use Rattle.judge.specs.declared.Finding.TheVariants.{Undecided}
 use Rattle.mvs_model.proofs.Reading.{one_reading}
-use Rattle.judge.specs.declared.kinds.Kind.{Kind}
-use Rattle.judge.specs.declared.kinds.Kind.TheVariants.{Area, Areas, Closed, Several}
+use Rattle.judge.specs.declared.kinds.GrantKind.{GrantKind}
+use Rattle.judge.specs.declared.kinds.GrantKind.TheVariants.{Area, Areas, Closed, Several}
 use Rattle.judge.specs.Deciding.{HasNoQuestion, IsGrant, IsKind, IsKindOf, IsList, IsOther}
 use Rattle.judge.specs.Judging.{AskEach, GrantsAreShown, GrantIsShown, AreaIsShown, IsForList, IsFound, ListIsShown, IsListAt, IsOpen, IsOpenAt, IsQuestion, leaves_open}
 
@@ -63,7 +63,7 @@ asked_decides script output text outcome f number a found is = at (subst (IsFoun
 -- ---- lines that are open
 
 -- the kind of what a line says is that of the line
-pub kind_is : (step : Option JobValue) (bytes : List ℕ) (l : Line) (k : Kind) → LineOf (is_first step) bytes l → IsKindOf l k → IsKind step bytes k
+pub kind_is : (step : Option JobValue) (bytes : List ℕ) (l : Line) (k : GrantKind) → LineOf (is_first step) bytes l → IsKindOf l k → IsKind step bytes k
 kind_is step bytes l Closed is x = λ other is_other. ap leaves_open (one_reading.one_line (is_first step) bytes other l is_other is) ∙ x
 kind_is step bytes l (Area task area variable) is x = (l, is, x)
 kind_is step bytes l (Areas task areas) is x = (l, is, x)

@@ -35,7 +35,7 @@ use Rattle.mvs_job.specs.LineEvents.{ServesAsUnder, WalkValue, events_of_line, f
 use Rattle.judge.specs.Deciding.{InBounds, IsServed, MayPrint}
 use Rattle.mvs_model.specs.View.{IsBounded}
 use Rattle.judge.specs.Excluding.{Alike, IsBegunLine, IsUndecidedAt, IsVerdict, LineShowsSome, ShowsSome, answer_in, is_certain, is_shown}
-use Rattle.judge.specs.declared.exclusion.Verdict.TheVariants as verdict
+use Rattle.judge.specs.declared.exclusion.LineVerdict.TheVariants as verdict
 use Rattle.judge.specs.Outline.{AreAlike, BeginsOpen, is_settled}
 use Rattle.judge.proofs.Compared.{begins_alike, is_followed, report_alike, settled_alike, shown_alike}
 use Rattle.judge.proofs.Decided.{HasTold, Serving, fault_served, line_served, may_serve, one_leads, told_cases}

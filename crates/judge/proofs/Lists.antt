@@ -36,7 +36,7 @@ use Rattle.mvs_model.specs.Runs.{Any, Makes, Does}
 use Rattle.mvs_model.specs.View.{IsBounded}
 use Rattle.mvs_model.specs.Determined.{granted_at, ListFollowsHints}
 use Rattle.mvs_model.proofs.OneSteps.{by_two, head_of, none_granted, one_grant, one_step, tail_of}
-use Rattle.mvs_model.proofs.Orders.{name_cmp_total, told as told_apart}
+use Rattle.mvs_model.proofs.Orders.{name_cmp_total, told_apart}
 use Rattle.mvs_laws.proofs.RegionsKept.{list_inside}
 use Rattle.request_forms.specs.Taking.{Takes}
 use Rattle.judge.specs.Judging.{AnswersList, AreApart}

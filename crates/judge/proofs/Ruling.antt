@@ -16,7 +16,7 @@ use Rattle.mvs_job.specs.LineEvents.{WalkValue, closing, new_walk}
 use Rattle.judge.specs.Deciding.{MayPrint, PrintsEnd, HasReached}
 use Rattle.judge.specs.Excluding.{Alike, IsRuling, IsVerdict}
 use Rattle.judge.specs.declared.exclusion.Ruling.TheVariants as ruling
-use Rattle.judge.specs.declared.exclusion.Verdict.TheVariants as verdict
+use Rattle.judge.specs.declared.exclusion.LineVerdict.TheVariants as verdict
 use Rattle.judge.proofs.Decided.{stands_end, stands_fault, stands_served, taken_more}
 
 -- Each run of the script that prints the output comes here, and differs from the job in nothing but places.

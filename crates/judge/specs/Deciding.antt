@@ -15,8 +15,8 @@ use Rattle.mvs_model.specs.Texts.{printing, reply_line, one_line_text}
 use Rattle.mvs_model.specs.View.{IsBounded}
 use Rattle.mvs_model.specs.Walk.{Closes, Faults, JobEnds, Leads, Walks, is_first}
 use Rattle.mvs_job.specs.LineEvents.{WalkValue, closing}
-use Rattle.judge.specs.declared.kinds.Kind.{Kind}
-use Rattle.judge.specs.declared.kinds.Kind.TheVariants.{Area, Areas, Closed, Several}
+use Rattle.judge.specs.declared.kinds.GrantKind.{GrantKind}
+use Rattle.judge.specs.declared.kinds.GrantKind.TheVariants.{Area, Areas, Closed, Several}
 use Rattle.judge.specs.declared.Finding.{Finding}
 use Rattle.judge.specs.declared.Finding.TheVariants as finding
 use Rattle.judge.specs.Judging.{AsksArea, AsksList, BeginsAnswered, GrantsAreShownBefore, IsNoPrinting, IsOpen, IsOpenIn, IsQuestion, leaves_open}
@@ -48,14 +48,14 @@ abbrev pub IsOther : Option JobValue → List ℕ → Type 0
 IsOther step bytes = (l : Line) × LineOf (is_first step) bytes l × AsksOther l
 
 -- what kind a line is of that says this
-abbrev pub IsKindOf : Line → Kind → Type 0
+abbrev pub IsKindOf : Line → GrantKind → Type 0
 IsKindOf l Closed = leaves_open l ≡ false
 IsKindOf l (Area task area variable) = AsksArea l task area variable
 IsKindOf l (Areas task areas) = AsksList l task areas
 IsKindOf l Several = AsksOther l
 
 -- the text of a line is a request for areas
-abbrev pub IsKind : Option JobValue → List ℕ → Kind → Type 0
+abbrev pub IsKind : Option JobValue → List ℕ → GrantKind → Type 0
 IsKind step bytes Closed = IsClosed step bytes
 IsKind step bytes (Area task area variable) = IsGrant step bytes task area variable
 IsKind step bytes (Areas task areas) = IsList step bytes task areas

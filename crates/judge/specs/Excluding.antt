@@ -21,8 +21,8 @@ use Rattle.mvs_job.specs.declared.walk.LineEvent.TheVariants as tells
 use Rattle.mvs_job.specs.LineEvents.{WalkValue}
 use Rattle.judge.specs.declared.exclusion.Ruling.{Ruling}
 use Rattle.judge.specs.declared.exclusion.Ruling.TheVariants as ruling
-use Rattle.judge.specs.declared.exclusion.Verdict.{Verdict}
-use Rattle.judge.specs.declared.exclusion.Verdict.TheVariants as verdict
+use Rattle.judge.specs.declared.exclusion.LineVerdict.{LineVerdict}
+use Rattle.judge.specs.declared.exclusion.LineVerdict.TheVariants as verdict
 use Rattle.judge.specs.Judging.{IsNoPrinting}
 use Rattle.judge.specs.Deciding.{IsServed, MayPrint}
 use Rattle.judge.specs.Outline.{AreAlike, BeginsOneOf, BeginsOpen, head, is_settled}
@@ -100,7 +100,7 @@ LineShowsSome (line.Statement t s) = ShowsSome s
 
 -- what a line prints of a text: so many bytes, or none, since no run prints it; all of it, where the job ends at a fault; or what places
 -- decide
-abbrev pub IsVerdict : WalkValue → List ℕ → List ℕ → WalkValue → Verdict → Type 0
+abbrev pub IsVerdict : WalkValue → List ℕ → List ℕ → WalkValue → LineVerdict → Type 0
 IsVerdict old bytes left new (verdict.Agrees n) = (text : List ℕ) × (n ≡ length text) × Agrees old bytes left text new × IsServed (bytes ∷ []) old text true new
 IsVerdict old bytes left new verdict.Excluded = Excludes old bytes left
 IsVerdict old bytes left new verdict.Ends = IsServed (bytes ∷ []) old left false new

@@ -13,7 +13,7 @@ ghost use Rattle.mvs_model.specs.declared.name.Name.{Name as TaskName};
 ghost use Rattle.judge.specs.Deciding.{Decides, DecidesBefore, InBounds, IsClosed, IsFoundFirst, IsGrant, IsList, IsServed, ReadsEach, at_text, no_bytes};
 ghost use Rattle.judge.specs.Judging.{AskEach, BeginsAnswered, IsOpen, IsQuestion};
 
-use crate::kinds::{GrantQuestion, Kind, asks_each, next_kind, question_end};
+use crate::kinds::{GrantKind, GrantQuestion, asks_each, next_kind, question_end};
 use crate::list_answers::opens_list;
 use job_script::digits::{are_hex_digits, hex_number};
 use job_script::print_short_answer;
@@ -28,7 +28,7 @@ use std::alloc::Global;
 
 /// The lines of a script that were executed, and how an output continues.
 #[derive(Drop)]
-pub struct Served {
+pub struct ServedLines {
     /// What is printed of it.
     pub text: Vec<u8>,
     /// Whether the job continues: no line has a fault.
@@ -39,14 +39,14 @@ pub struct Served {
 
 /// The lines that were executed, as a number of bytes of the script.
 #[derive(Drop)]
-pub struct Decided {
+pub struct DecidedLines {
     pub taken: usize,
-    pub served: Served,
+    pub served: ServedLines,
     /// Whether they leave it open: a list is granted that the output refuses, or the other way round.
     pub is_open: bool,
 }
 
-impl Decided {
+impl DecidedLines {
     /// Whether it is decided that the job continues, and that a run can still print the output.
     pub fn follows(&self) -> bool
         ensures { result ≡ (self.now.served.passes && self.now.served.continues && not self.now.is_open) }
@@ -113,7 +113,7 @@ fn decide_line(
     walk: &mut Walk,
     line: &[u8],
     left: &[u8],
-) -> Result<Served, OutOfMemory>
+) -> Result<ServedLines, OutOfMemory>
     requires number { walk.old.number + 1 < 2 ^ 32 }
     requires closed { IsClosed walk.old.step line.now }
     ensures served { IfOk result
@@ -128,14 +128,14 @@ fn decide_line(
     let text = printed.text;
     if let LineEvent::Faulted(_) = printed.told {
         let passes = left == text.as_slice();
-        return Ok(Served {
+        return Ok(ServedLines {
             text,
             continues: false,
             passes,
         });
     }
     let passes = begins(left, text.as_slice());
-    Ok(Served {
+    Ok(ServedLines {
         text,
         continues: true,
         passes,
@@ -174,7 +174,11 @@ fn no_bytes(variable: bool) -> Answer
 }
 
 // How many bytes are printed of a granted request for an area, whose line has this number, and of a question for it, up to the end.
-fn answered_len(alloc: Global, line_number: u32, asked: &GrantQuestion) -> Result<usize, OutOfMemory>
+fn answered_len(
+    alloc: Global,
+    line_number: u32,
+    asked: &GrantQuestion,
+) -> Result<usize, OutOfMemory>
     requires { line_number + 1 < 2 ^ 32 }
     ensures { IfOk result (λ n. n
         ≡ length (answer_text line_number asked.now.task (no_bytes asked.now.variable))
@@ -216,7 +220,7 @@ fn decide_pair(
     question: &[u8],
     left: &[u8],
     asked: &GrantQuestion,
-) -> Result<Served, OutOfMemory>
+) -> Result<ServedLines, OutOfMemory>
     requires number { walk.old.number + 2 < 2 ^ 32 }
     requires bounds { InBounds walk.old.step }
     requires grant { IsGrant walk.old.step line.now asked.now.task asked.now.area
@@ -236,7 +240,7 @@ fn decide_pair(
     let granted = print_next(walk, line, &[addr], Vec::new(alloc))?;
     let answered = print_next(walk, question, &[], granted.text)?;
     let passes = begins(left, answered.text.as_slice());
-    Ok(Served {
+    Ok(ServedLines {
         text: answered.text,
         continues: true,
         passes,
@@ -252,7 +256,7 @@ fn decide_shown(
     end: usize,
     left: &[u8],
     asked: &GrantQuestion,
-) -> Result<Option<Decided>, OutOfMemory>
+) -> Result<Option<DecidedLines>, OutOfMemory>
     requires number { walk.old.number + 2 < 2 ^ 32 }
     requires bounds { InBounds walk.old.step }
     requires within { end ≤ length script.now }
@@ -275,7 +279,7 @@ fn decide_shown(
         return Ok(None);
     };
     let served = decide_pair(alloc, walk, &script[..end], &behind[..second], left, asked)?;
-    Ok(Some(Decided {
+    Ok(Some(DecidedLines {
         taken: end + 1 + (second + 1),
         served,
         is_open: false,
@@ -386,7 +390,7 @@ fn decide_list(
     behind: &[u8],
     left: &[u8],
     listed: &Listed,
-) -> Result<Served, OutOfMemory>
+) -> Result<ServedLines, OutOfMemory>
     requires number { walk.old.number + 18 < 2 ^ 32 }
     requires bounds { InBounds walk.old.step }
     requires list { IsList walk.old.step line.now listed.now.task listed.now.areas }
@@ -411,7 +415,7 @@ fn decide_list(
     let told = read_areas(alloc, walk.number(), left, listed)?;
     let printed = print_next(walk, line, told.as_slice(), Vec::new(alloc))?;
     let passes = begins(left, printed.text.as_slice());
-    Ok(Served {
+    Ok(ServedLines {
         text: printed.text,
         continues: true,
         passes,
@@ -426,7 +430,7 @@ fn decide_areas(
     end: usize,
     left: &[u8],
     listed: &Listed,
-) -> Result<Option<Decided>, OutOfMemory>
+) -> Result<Option<DecidedLines>, OutOfMemory>
     requires number { walk.old.number + 18 < 2 ^ 32 }
     requires bounds { InBounds walk.old.step }
     requires within { end ≤ length script.now }
@@ -451,7 +455,7 @@ fn decide_areas(
     let mut served = decide_list(alloc, walk, &script[..end], behind, left, listed)?;
     let is_open = opens_list(alloc, line_number, &listed.task, left, served.passes)?;
     served.passes |= is_open;
-    Ok(Some(Decided {
+    Ok(Some(DecidedLines {
         taken: end + 1,
         served,
         is_open,
@@ -464,7 +468,7 @@ pub fn decide(
     walk: &mut Walk,
     script: &[u8],
     left: &[u8],
-) -> Result<Option<Decided>, OutOfMemory>
+) -> Result<Option<DecidedLines>, OutOfMemory>
     requires some { 0 < length script.now }
     requires number { walk.old.number + 18 < 2 ^ 32 }
     requires bounds { InBounds walk.old.step }
@@ -481,7 +485,7 @@ pub fn decide(
     let end = line_end(script);
     let line = &script[..end];
     match next_kind(walk, line) {
-        Kind::Area(task, area, variable) => {
+        GrantKind::Area(task, area, variable) => {
             let asked = GrantQuestion {
                 task,
                 area,
@@ -489,18 +493,18 @@ pub fn decide(
             };
             decide_shown(alloc, walk, script, end, left, &asked)
         }
-        Kind::Closed => {
+        GrantKind::Closed => {
             let served = decide_line(alloc, walk, line, left)?;
-            Ok(Some(Decided {
+            Ok(Some(DecidedLines {
                 taken: end + 1,
                 served,
                 is_open: false,
             }))
         }
-        Kind::Areas(task, areas) => {
+        GrantKind::Areas(task, areas) => {
             let listed = Listed { task, areas };
             decide_areas(alloc, walk, script, end, left, &listed)
         }
-        Kind::Several => Ok(None),
+        GrantKind::Several => Ok(None),
     }
 }

@@ -16,7 +16,7 @@ use crate::following::print_end;
 use crate::kinds::is_first;
 use crate::openings::{Continued, begins_open};
 use job_script::read_line;
-use mvs_job::{LineEvent, AddressHints, Walk, line_end};
+use mvs_job::{AddressHints, LineEvent, Walk, line_end};
 use mvs_model::error::OutOfMemory;
 use mvs_model::line::{Line, Statement, Written};
 use mvs_model::outcome::Outcome;
@@ -26,7 +26,7 @@ use std::alloc::Global;
 
 /// What a line prints of an output.
 #[derive(Clone, Copy, Debug, PartialEq, Eq)]
-pub enum Verdict {
+pub enum LineVerdict {
     /// It prints so many bytes of it, and so does each run that prints the output.
     Agrees(usize),
     /// No run prints it.
@@ -102,24 +102,24 @@ fn begins_line(
 }
 
 // Returns the verdict at a line that every run prints alike.
-fn verdict_if(passes: bool, len: usize) -> Verdict
-    ensures { result ≡ (if passes then Verdict.Agrees len else Verdict.Excluded) }
+fn verdict_if(passes: bool, len: usize) -> LineVerdict
+    ensures { result ≡ (if passes then LineVerdict.Agrees len else LineVerdict.Excluded) }
 {
     if passes {
-        Verdict::Agrees(len)
+        LineVerdict::Agrees(len)
     } else {
-        Verdict::Excluded
+        LineVerdict::Excluded
     }
 }
 
 // Returns the verdict at a line whose answer places decide, and that prints something else.
-fn undecided_if(is_possible: bool) -> Verdict
-    ensures { result ≡ (if is_possible then Verdict.Undecided else Verdict.Excluded) }
+fn undecided_if(is_possible: bool) -> LineVerdict
+    ensures { result ≡ (if is_possible then LineVerdict.Undecided else LineVerdict.Excluded) }
 {
     if is_possible {
-        Verdict::Undecided
+        LineVerdict::Undecided
     } else {
-        Verdict::Excluded
+        LineVerdict::Excluded
     }
 }
 
@@ -138,7 +138,7 @@ fn compare_read(
     told: &[Addr],
     left: &[u8],
     read: &Line,
-) -> Result<Verdict, OutOfMemory>
+) -> Result<LineVerdict, OutOfMemory>
     requires number { walk.old.number + 1 < 2 ^ 32 }
     requires bounds { InBounds walk.old.step }
     requires read { LineOf (is_first walk.old.step) line.now read.now }
@@ -156,20 +156,20 @@ fn compare_read(
     }
     let agrees = both(passes, is_shown);
     if agrees {
-        return Ok(Verdict::Agrees(len));
+        return Ok(LineVerdict::Agrees(len));
     }
     let is_possible = begins_line(alloc, line_number, read, left)?;
     Ok(undecided_if(is_possible))
 }
 
 // Returns the verdict at a line with a fault.
-fn ends_if(is_same: bool) -> Verdict
-    ensures { result ≡ (if is_same then Verdict.Ends else Verdict.Excluded) }
+fn ends_if(is_same: bool) -> LineVerdict
+    ensures { result ≡ (if is_same then LineVerdict.Ends else LineVerdict.Excluded) }
 {
     if is_same {
-        Verdict::Ends
+        LineVerdict::Ends
     } else {
-        Verdict::Excluded
+        LineVerdict::Excluded
     }
 }
 
@@ -179,7 +179,7 @@ fn compare_fault(
     walk: &mut Walk,
     line: &[u8],
     left: &[u8],
-) -> Result<Verdict, OutOfMemory>
+) -> Result<LineVerdict, OutOfMemory>
     requires number { walk.old.number + 1 < 2 ^ 32 }
     requires bounds { InBounds walk.old.step }
     requires fault { (fault : LineFault) × FaultOf (is_first walk.old.step) line.now fault }
@@ -199,7 +199,7 @@ fn compare_line(
     line: &[u8],
     told: &[Addr],
     left: &[u8],
-) -> Result<Verdict, OutOfMemory>
+) -> Result<LineVerdict, OutOfMemory>
     requires number { walk.old.number + 1 < 2 ^ 32 }
     requires bounds { InBounds walk.old.step }
     ensures verdict { IfOk result (IsVerdict walk.old line.now left.now walk.new) }
@@ -225,7 +225,12 @@ fn ruling_if(is_same: bool, outcome: Outcome) -> Ruling
 }
 
 /// Compares an output with a run of its script that uses these hints, up to the first line at which they part.
-pub fn rule(alloc: Global, script: &[u8], output: &[u8], told: &AddressHints) -> Result<Ruling, OutOfMemory>
+pub fn rule(
+    alloc: Global,
+    script: &[u8],
+    output: &[u8],
+    told: &AddressHints,
+) -> Result<Ruling, OutOfMemory>
     requires short { length script.now ≤ most_script_bytes }
     ensures { IfOk result (IsRuling script.now output.now) }
 {
@@ -238,13 +243,13 @@ pub fn rule(alloc: Global, script: &[u8], output: &[u8], told: &AddressHints) ->
         let hints = told.of(walk.number());
         let verdict = compare_line(alloc, &mut walk, &rest[..end], hints, left)?;
         match verdict {
-            Verdict::Agrees(len) => {
+            LineVerdict::Agrees(len) => {
                 at += end + 1;
                 left = text_after(left, len);
             }
-            Verdict::Excluded => return Ok(Ruling::Excluded),
-            Verdict::Ends => return Ok(Ruling::Printed(Outcome::ScriptFault)),
-            Verdict::Undecided => return Ok(Ruling::Undecided),
+            LineVerdict::Excluded => return Ok(Ruling::Excluded),
+            LineVerdict::Ends => return Ok(Ruling::Printed(Outcome::ScriptFault)),
+            LineVerdict::Undecided => return Ok(Ruling::Undecided),
         }
     }
     let (outcome, last) = print_end(alloc, &walk)?;

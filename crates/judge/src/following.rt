@@ -5,7 +5,7 @@ ghost use Rattle.mvs_model.specs.Numbers.{most_script_bytes};
 ghost use Rattle.mvs_job.specs.LineEvents.{new_walk};
 ghost use Rattle.judge.specs.Deciding.{IsFollowed, PrintsEnd, end_at};
 
-use crate::deciding::{Decided, Served, decide};
+use crate::deciding::{DecidedLines, ServedLines, decide};
 use mvs_job::{Walk, print_closing};
 use mvs_model::error::OutOfMemory;
 use mvs_model::outcome::Outcome;
@@ -60,11 +60,11 @@ fn within(script: &[u8], at: usize) -> usize
 }
 
 // Stops following. The last lines that were executed begin with this number, and this text was printed before them.
-fn parted(
+fn split_once(
     alloc: Global,
     at: usize,
     front: &[u8],
-    served: &Served,
+    served: &ServedLines,
     line_number: u32,
 ) -> Result<Followed, OutOfMemory>
     ensures { IfOk result
@@ -113,10 +113,10 @@ pub fn follow(
             });
         };
         let follows = decided.follows();
-        let Decided { taken, served, .. } = decided;
+        let DecidedLines { taken, served, .. } = decided;
         if !follows {
             let behind = within(script, at + taken);
-            let followed = parted(alloc, behind, &output[..done], &served, line_number)?;
+            let followed = split_once(alloc, behind, &output[..done], &served, line_number)?;
             return Ok(followed);
         }
         at += taken;

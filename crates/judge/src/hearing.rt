@@ -15,23 +15,23 @@ use std::str;
 
 // A member of a grant: its line, and its position in the list; a single area or a cell has position 0.
 #[derive(Clone, Copy, Debug, PartialEq, Eq, PartialOrd, Ord)]
-struct Member {
+struct ListMember {
     line: u32,
     place: usize,
 }
 
 // The place of a member.
 #[derive(Clone, Copy, Debug, PartialEq, Eq, PartialOrd, Ord)]
-struct Spot {
-    member: Member,
+struct CellPlace {
+    member: ListMember,
     addr: u32,
 }
 
 // What is known of the lines so far: the grants that set the names, the members whose places are shown, and the parts of the pools.
 #[derive(Drop)]
 struct Hearing {
-    names: HashMap<Name, Member>,
-    told: Vec<Spot>,
+    names: HashMap<Name, ListMember>,
+    told: Vec<CellPlace>,
     parts: Parts,
 }
 
@@ -45,7 +45,7 @@ impl Hearing {
     }
 
     // A grant sets a name.
-    fn set(&mut self, area: Name, member: Member) -> Result<(), OutOfMemory> {
+    fn set(&mut self, area: Name, member: ListMember) -> Result<(), OutOfMemory> {
         match self.names.insert(area, member) {
             Ok(_) => Ok(()),
             Err(_) => Err(OutOfMemory),
@@ -55,7 +55,7 @@ impl Hearing {
     // Records the names of a list.
     fn set_each(&mut self, areas: &[Name], line: u32) -> Result<(), OutOfMemory> {
         for (place, area) in areas.iter().enumerate() {
-            self.set(*area, Member { line, place })?;
+            self.set(*area, ListMember { line, place })?;
         }
         Ok(())
     }
@@ -64,9 +64,9 @@ impl Hearing {
     fn take_request(&mut self, written: &Written, line: u32) -> Result<(), OutOfMemory> {
         self.parts.take(written, line)?;
         match written {
-            Written::Obtain { area, .. } => self.set(*area, Member { line, place: 0 }),
+            Written::Obtain { area, .. } => self.set(*area, ListMember { line, place: 0 }),
             Written::ObtainList { areas, .. } => self.set_each(areas.as_slice(), line),
-            Written::Get { cell, .. } => self.set(*cell, Member { line, place: 0 }),
+            Written::Get { cell, .. } => self.set(*cell, ListMember { line, place: 0 }),
             Written::Release { .. }
             | Written::ReleaseArea { .. }
             | Written::ReleaseList { .. }
@@ -84,11 +84,11 @@ impl Hearing {
     }
 
     // Records the place of a name.
-    fn tell(&mut self, name: &Name, addr: u32) -> Result<(), OutOfMemory> {
+    fn add_hint(&mut self, name: &Name, addr: u32) -> Result<(), OutOfMemory> {
         let Some(member) = self.names.get(name).copied() else {
             return Ok(());
         };
-        match self.told.push(Spot { member, addr }) {
+        match self.told.push(CellPlace { member, addr }) {
             Ok(()) => Ok(()),
             Err(_) => Err(OutOfMemory),
         }
@@ -113,7 +113,7 @@ impl Hearing {
             }
             Statement::Where(name) => {
                 if let Some(PrintedAnswer::At(addr)) = said {
-                    return self.tell(name, addr);
+                    return self.add_hint(name, addr);
                 }
             }
             Statement::ReportSubpools | Statement::ReportMap => {}
@@ -123,12 +123,12 @@ impl Hearing {
 }
 
 // Returns the addresses of each line, of its cell or in the order of its areas, up to the first that is not shown.
-fn by_lines(alloc: Global, spots: &[Spot]) -> Result<AddressHints, OutOfMemory> {
+fn by_lines(alloc: Global, spots: &[CellPlace]) -> Result<AddressHints, OutOfMemory> {
     let mut told = AddressHints::nothing(alloc);
     for spot in spots {
         let line = spot.member.line;
         if told.of(line).len() == spot.member.place && spot.addr < 0x8000_0000 {
-            told.tell(alloc, line, Addr::new(spot.addr))?;
+            told.add(alloc, line, Addr::new(spot.addr))?;
         }
     }
     Ok(told)
@@ -173,7 +173,7 @@ fn hear_text(
     }
     let mut told = by_lines(alloc, &hearing.told)?;
     if by_cells {
-        hearing.parts.tell(alloc, &mut told)?;
+        hearing.parts.add_hints(alloc, &mut told)?;
     } else {
         hearing.parts.leave(alloc, &mut told)?;
     }

@@ -14,7 +14,7 @@ use mvs_model::name::Name;
 
 /// What a line can be granted.
 #[derive(Drop)]
-pub enum Kind {
+pub enum GrantKind {
     /// No place.
     Closed,
     /// An area of a task, which sets a name, by a request that is variable or not.
@@ -67,25 +67,25 @@ fn are_apart(names: &[Name]) -> bool
 }
 
 // Of what kind a line is that says this.
-fn kind_of(read: &Line) -> Kind
+fn kind_of(read: &Line) -> GrantKind
     ensures { IsKindOf read.now result }
 {
     match read {
         Line::Statement(task, Statement::Request(Written::Obtain { area, variable, .. })) => {
-            Kind::Area(*task, *area, *variable)
+            GrantKind::Area(*task, *area, *variable)
         }
         Line::Statement(task, Statement::Request(Written::ObtainList { lengths, areas, .. })) => {
             if lengths.len() == areas.len() && are_apart(areas.as_slice()) {
-                Kind::Areas(*task, areas.copied())
+                GrantKind::Areas(*task, areas.copied())
             } else {
-                Kind::Several
+                GrantKind::Several
             }
         }
         Line::Statement(_, Statement::Request(written)) => {
             if may_grant(written) {
-                Kind::Several
+                GrantKind::Several
             } else {
-                Kind::Closed
+                GrantKind::Closed
             }
         }
         Line::Statement(
@@ -94,8 +94,8 @@ fn kind_of(read: &Line) -> Kind
             | Statement::Where(_)
             | Statement::ReportSubpools
             | Statement::ReportMap,
-        ) => Kind::Closed,
-        Line::Nothing => Kind::Closed,
+        ) => GrantKind::Closed,
+        Line::Nothing => GrantKind::Closed,
     }
 }
 
@@ -107,13 +107,13 @@ pub(crate) fn is_first(walk: &Walk) -> bool
 }
 
 /// Of what kind the next line of a job is.
-pub fn next_kind(walk: &Walk, line: &[u8]) -> Kind
+pub fn next_kind(walk: &Walk, line: &[u8]) -> GrantKind
     ensures { IsKind walk.now.step line.now result }
 {
     let mut read = Line::Nothing;
     match read_line(line, is_first(walk), &mut read) {
         Ok(()) => kind_of(&read),
-        Err(_) => Kind::Closed,
+        Err(_) => GrantKind::Closed,
     }
 }
 

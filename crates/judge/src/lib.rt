@@ -26,7 +26,7 @@ use crate::exclusion::{Ruling, rule};
 use crate::following::follow;
 use crate::hearing::hear;
 use crate::resting::run_rest;
-use mvs_job::{RunFault, AddressHints, Walk};
+use mvs_job::{AddressHints, RunFault, Walk};
 use mvs_model::error::OutOfMemory;
 use mvs_model::numbers::MOST_SCRIPT_BYTES;
 use mvs_model::outcome::Outcome;

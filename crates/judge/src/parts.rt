@@ -19,7 +19,7 @@ struct Cells {
 // A part: the line that added it to its pool, the line that built the pool, the size of a cell, the number of cells, and the known
 // ones.
 #[derive(Clone, Copy)]
-struct Part {
+struct PoolPart {
     line: u32,
     pool_line: u32,
     cell_size: u32,
@@ -40,7 +40,7 @@ struct Pool {
 
 // A cell that was taken: the line, and the part that was put last then.
 #[derive(Clone, Copy)]
-struct Taken {
+struct PartCells {
     line: u32,
     part: usize,
 }
@@ -49,8 +49,8 @@ struct Taken {
 #[derive(Drop)]
 pub struct Parts {
     pools: HashMap<Name, Pool>,
-    parts: Vec<Part>,
-    taken: Vec<Taken>,
+    parts: Vec<PoolPart>,
+    taken: Vec<PartCells>,
 }
 
 impl Cells {
@@ -65,9 +65,9 @@ impl Cells {
     }
 }
 
-impl Part {
+impl PoolPart {
     // Returns the part after one of its cells is known.
-    fn with_cell(&self, addr: u32) -> Part {
+    fn with_cell(&self, addr: u32) -> PoolPart {
         let cells = match self.cells {
             Some(cells) => Cells {
                 first: cells.first,
@@ -80,7 +80,7 @@ impl Part {
                 highest: addr,
             },
         };
-        Part {
+        PoolPart {
             cells: Some(cells),
             ..*self
         }
@@ -143,7 +143,7 @@ impl Parts {
     }
 
     // Puts a part, and answers its place in the list.
-    fn put(&mut self, part: Part) -> Result<usize, OutOfMemory> {
+    fn put(&mut self, part: PoolPart) -> Result<usize, OutOfMemory> {
         let place = self.parts.len();
         match self.parts.push(part) {
             Ok(()) => Ok(place),
@@ -160,7 +160,7 @@ impl Parts {
         primary: u32,
         secondary: u32,
     ) -> Result<(), OutOfMemory> {
-        let part = self.put(Part {
+        let part = self.put(PoolPart {
             line,
             pool_line: line,
             cell_size,
@@ -183,7 +183,7 @@ impl Parts {
             return Ok(());
         };
         if pool.free == 0 {
-            pool.part = self.put(Part {
+            pool.part = self.put(PoolPart {
                 line,
                 pool_line: pool.line,
                 cell_size: pool.cell_size,
@@ -193,7 +193,7 @@ impl Parts {
             pool.free = pool.secondary;
         }
         pool.free = pool.free.saturating_sub(1);
-        let taken = Taken {
+        let taken = PartCells {
             line,
             part: pool.part,
         };
@@ -248,7 +248,7 @@ impl Parts {
         &mut self,
         place: usize,
         addr: u32,
-        seen: &mut HashMap<u32, Part>,
+        seen: &mut HashMap<u32, PoolPart>,
     ) -> Result<(), OutOfMemory> {
         let Some(part) = self.parts.get(place).copied() else {
             return Ok(());
@@ -297,7 +297,7 @@ impl Parts {
 
     /// Returns the hint for the first cell of each part: of the first part of a pool for the line of its BUILD, and of a further
     /// one after the cell of the line that added it.
-    pub fn tell(&mut self, alloc: Global, told: &mut AddressHints) -> Result<(), OutOfMemory> {
+    pub fn add_hints(&mut self, alloc: Global, told: &mut AddressHints) -> Result<(), OutOfMemory> {
         self.see_each(alloc, told)?;
         let go_down = self.go_down();
         for part in &self.parts {
@@ -306,7 +306,7 @@ impl Parts {
                 continue;
             }
             if let Some(first) = part.first_cell(go_down) {
-                told.tell(alloc, part.line, Addr::new(first.min(0x7FFF_FFFF)))?;
+                told.add(alloc, part.line, Addr::new(first.min(0x7FFF_FFFF)))?;
             }
         }
         Ok(())
@@ -316,7 +316,7 @@ impl Parts {
     pub fn leave(&self, alloc: Global, told: &mut AddressHints) -> Result<(), OutOfMemory> {
         for part in &self.parts {
             if part.line != part.pool_line && !told.of(part.line).is_empty() {
-                told.tell(alloc, part.line, Addr::new(0))?;
+                told.add(alloc, part.line, Addr::new(0))?;
             }
         }
         Ok(())

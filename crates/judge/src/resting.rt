@@ -11,7 +11,7 @@ use mvs_model::watched::Watched;
 
 /// How a job ended, and what it printed.
 #[derive(Drop)]
-pub struct Ran {
+pub struct RunResult {
     pub outcome: Outcome,
     pub text: Vec<u8>,
 }
@@ -22,7 +22,7 @@ pub fn run_rest(
     script: &[u8],
     told: &AddressHints,
     text: Vec<u8>,
-) -> Result<Ran, OutOfMemory>
+) -> Result<RunResult, OutOfMemory>
     requires { walk.number + length script.now + 1 < 2 ^ 32 }
     ensures run { (whole : List ℕ) → HasReached whole text.items walk script.now
         → IfOk result (λ ran. IsPrinting whole ran.text.items ran.outcome) }
@@ -38,7 +38,7 @@ pub fn run_rest(
         match run_line(&mut walk, &rest[..end], line_told, &mut writer) {
             Ok(true) => at += end + 1,
             Ok(false) => {
-                return Ok(Ran {
+                return Ok(RunResult {
                     outcome: Outcome::ScriptFault,
                     text: writer.into_inner(),
                 });
@@ -48,7 +48,7 @@ pub fn run_rest(
     }
     let closing = walk.close();
     match print_closing(&mut writer, walk.number(), closing.ended) {
-        Ok(()) => Ok(Ran {
+        Ok(()) => Ok(RunResult {
             outcome: closing.outcome,
             text: writer.into_inner(),
         }),

@@ -11,7 +11,7 @@ use Rattle.mvs_model.specs.Numbers.{subpool_numbers}
 use Rattle.mvs_model.specs.Place.{IsPlace, place_at}
 use Rattle.request_forms.specs.Reports.{HasNone, IsMapEnd, IsMapRun, IsSubpoolLine}
 use Rattle.mvs_c.specs.declared.access.Subpool.{Subpool}
-use Rattle.mvs_c.specs.declared.access.Run.{Run}
+use Rattle.mvs_c.specs.declared.access.RunFields.{RunFields}
 use Rattle.mvs_job.specs.LineEvents.{WalkValue}
 use Rattle.mvs_job.specs.Valued.{WritesOf}
 use Rattle.mvs_c.specs.Asks.{IsNamed, name_value}
@@ -43,8 +43,8 @@ pub record WritesAt (old : OpenValue) (address : ℕ) (bytes : List ℕ) (new : 
   pub refused : old.session.continues ≡ true → (MayRead old address (length bytes) → ⊥) → (new ≡ old) × (status ≡ 36)
 
 -- One of several things is returned, or there is none, and nothing changes.
-abbrev pub TellsOne : {X Y : Type 0} → Option X → (X → Y) → Y → Y → ℕ → Type 0
-TellsOne found told before after status = MatchOption found ((after ≡ before) × (status ≡ 40)) (λ x. (after ≡ told x) × (status ≡ 0))
+abbrev pub ReturnsOne : {X Y : Type 0} → Option X → (X → Y) → Y → Y → ℕ → Type 0
+ReturnsOne found told before after status = MatchOption found ((after ≡ before) × (status ≡ 40)) (λ x. (after ≡ told x) × (status ≡ 0))
 
 -- the number of bytes of a line of REPORT SP, and of REPORT MAP
 abbrev pub subpool_bytes : ℕ
@@ -73,12 +73,12 @@ AnswersSubpool o name from before after status = (found : Result SubpoolLine ℕ
     × MatchResult found (λ l. (after ≡ subpool_value l) × (status ≡ 0)) (λ refused. (after ≡ before) × (status ≡ refused))
 
 -- what pages are assigned to: nothing; or the number and the owner of a subpool
-abbrev pub holder_value : ℕ → ℕ → Option (ℕ × Name) → Run
+abbrev pub holder_value : ℕ → ℕ → Option (ℕ × Name) → RunFields
 holder_value addr len None = record { size = run_bytes; address = addr; length = len; assigned = false; number = 0; owner = replicate 8 32 }
 holder_value addr len (Some label) = record { size = run_bytes; address = addr; length = len; assigned = true; number = label.0; owner = label.1 }
 
 -- a line of REPORT MAP
-abbrev pub run_value : Pages → Run
+abbrev pub run_value : Pages → RunFields
 run_value p = holder_value p.addr p.len p.holder
 
 -- What is found of the first run of pages at or after an address.

@@ -17,20 +17,20 @@ use Rattle.mvs_model.specs.Numbers.{least_cell_bytes, most_cell_bytes, most_cell
 use Rattle.mvs_model.specs.Place.{place_at}
 use Rattle.mvs_model.specs.Reading.{is_name}
 use Rattle.mvs_model.specs.Want.{AskValue, IsExponent}
-use Rattle.mvs_c.specs.declared.ask.Ask.{Ask}
-use Rattle.mvs_c.specs.declared.field.Field.{Field}
-use Rattle.mvs_c.specs.declared.field.Field.TheVariants as field
-use Rattle.mvs_c.specs.declared.ask.Kind.{Kind}
-use Rattle.mvs_c.specs.declared.ask.Kind.TheVariants.{Obtain, Release, ReleaseWhole, Build, Get, Free, Delete, Attach, Return, Abend, Show, Move}
+use Rattle.mvs_c.specs.declared.ask.RawRequest.{RawRequest}
+use Rattle.mvs_c.specs.declared.field.RequestField.{RequestField}
+use Rattle.mvs_c.specs.declared.field.RequestField.TheVariants as field
+use Rattle.mvs_c.specs.declared.ask.RequestKind.{RequestKind}
+use Rattle.mvs_c.specs.declared.ask.RequestKind.TheVariants.{Obtain, Release, ReleaseWhole, Build, Get, Free, Delete, Attach, Return, Abend, Show, Move}
 
 -- the kinds of requests and the forms, by their numbers from 1 on; 0 is none
-abbrev pub kinds : List (Option Kind)
+abbrev pub kinds : List (Option RequestKind)
 kinds = None ∷ Some Obtain ∷ Some Release ∷ Some ReleaseWhole ∷ Some Build ∷ Some Get ∷ Some Free ∷ Some Delete ∷ Some Attach ∷ Some Return ∷ Some Abend ∷ Some Show ∷ Some Move ∷ []
 
 abbrev pub forms : List (Option Form)
 forms = None ∷ Some R ∷ Some Rc ∷ Some Ru ∷ Some Vrc ∷ Some Vru ∷ Some Ec ∷ Some Eu ∷ Some Vc ∷ Some Vu ∷ Some Storage ∷ Some StorageConditional ∷ Some Lc ∷ Some Lu ∷ []
 
-abbrev pub kind_numbered : ℕ → Option Kind
+abbrev pub kind_numbered : ℕ → Option RequestKind
 kind_numbered n = unwrap_or (slice_get kinds n) None
 
 abbrev pub form_numbered : ℕ → Option Form
@@ -145,7 +145,7 @@ abbrev pub within_value : ℕ → Option ℕ
 within_value n = if n == 0 then None else Some n
 
 -- what is asked for by an obtain: with no least length the greatest one is the least, and with no boundary it is a doubleword
-abbrev pub ask_value : Ask → AskValue
+abbrev pub ask_value : RawRequest → AskValue
 ask_value a = record { least = or_else a.least a.length; most = a.length; start = or_else a.boundary 3; within = within_value a.within; loc = location_value a.location }
 
 -- a name of eight bytes ends before the first blank or zero byte
@@ -159,7 +159,7 @@ abbrev pub name_value : List ℕ → Name
 name_value bytes = padded (name_text bytes)
 
 -- what an attaching task gives and shares
-abbrev pub gifts_value : Ask → GiftsValue
+abbrev pub gifts_value : RawRequest → GiftsValue
 gifts_value a = record { given = a.given_low + 2 ^ 64 * a.given_high; shared = a.shared_low + 2 ^ 64 * a.shared_high; zero = not a.keeps_zero }
 
 -- where a program resides
@@ -202,7 +202,7 @@ abbrev pub form_value : ℕ → Form
 form_value n = unwrap_or (form_numbered n) R
 
 -- The field of a request of this kind is in its range. A field that the kind does not read is not looked at.
-abbrev pub Fits : Kind → Ask → Field → Type 0
+abbrev pub Fits : RequestKind → RawRequest → RequestField → Type 0
 Fits Obtain a field.Form = TakesForm obtains_one a.form
 Fits Obtain a field.Subpool = a.subpool < 256
 Fits Obtain a field.Length = IsLength a.length
@@ -237,7 +237,7 @@ Fits Move a field.Length = (1 ≤ a.length) × (a.length ≤ most_moved)
 Fits k a f = Unit {0}
 
 -- the fields that a kind reads, in the order in which they are checked
-abbrev pub reads : Kind → List Field
+abbrev pub reads : RequestKind → List RequestField
 reads Obtain = field.Form ∷ field.Subpool ∷ field.Length ∷ field.Least ∷ field.Boundary ∷ field.Within ∷ field.Location ∷ []
 reads Release = field.Form ∷ field.Subpool ∷ field.Length ∷ field.Address ∷ []
 reads ReleaseWhole = field.Form ∷ field.Subpool ∷ []
@@ -252,12 +252,12 @@ reads Show = field.Length ∷ field.Address ∷ []
 reads Move = field.Length ∷ field.Address ∷ field.Source ∷ []
 
 -- The result is what is wanted if all these fields fit, and else the first that does not.
-abbrev pub FitsOr : {X : Type 0} → (Field → Type 0) → List Field → X → Result X Field → Type 0
+abbrev pub FitsOr : {X : Type 0} → (RequestField → Type 0) → List RequestField → X → Result X RequestField → Type 0
 FitsOr fits [] wanted r = r ≡ Ok wanted
 FitsOr fits (f ∷ fs) wanted r = (fits f → FitsOr fits fs wanted r) × ((fits f → ⊥) → r ≡ Err f)
 
 -- the request that a struct of a kind asks for, if its fields fit
-abbrev pub request_value : Kind → Ask → Request
+abbrev pub request_value : RequestKind → RawRequest → Request
 request_value Obtain a = request.Obtain (form_value a.form) a.subpool (ask_value a)
 request_value Release a = request.Release (form_value a.form) a.subpool (place_at a.address a.length)
 request_value ReleaseWhole a = request.ReleaseWhole (form_value a.form) a.subpool
@@ -272,7 +272,7 @@ request_value Show a = request.Show a.address a.length
 request_value Move a = request.Move a.address a.source a.length
 
 -- The request of a struct of this kind, or the first field that does not fit.
-pub record AsksOf (k : Kind) (a : Ask) (r : Result Request Field) : Type 0 where
+pub record AsksOf (k : RequestKind) (a : RawRequest) (r : Result Request RequestField) : Type 0 where
   pub first : FitsOr (Fits k a) (reads k) (request_value k a) r
 
 -- The number of bytes of a struct, which it has to have in its own field.
@@ -280,29 +280,29 @@ abbrev pub ask_bytes : ℕ
 ask_bytes = 112
 
 -- The request of a struct of any kind that is one of these.
-abbrev pub AsksFor : (Kind → Result Request Field → Type 0) → Option Kind → Result Request Field → Type 0
+abbrev pub AsksFor : (RequestKind → Result Request RequestField → Type 0) → Option RequestKind → Result Request RequestField → Type 0
 AsksFor asks None r = r ≡ Err field.Kind
 AsksFor asks (Some k) r = asks k r
 
-abbrev pub Asks : Ask → Result Request Field → Type 0
+abbrev pub Asks : RawRequest → Result Request RequestField → Type 0
 Asks a r = AsksFor (λ k r. AsksOf k a r) (kind_numbered a.kind) r
 
 -- The size, and the name of the task.
-abbrev pub FitsTask : Ask → Field → Type 0
+abbrev pub FitsTask : RawRequest → RequestField → Type 0
 FitsTask a field.Size = a.size ≡ ask_bytes
 FitsTask a field.Task = IsNamed a.task
 FitsTask a f = Unit {0}
 
 -- the task that is named, if the size and its name fit
-abbrev pub NamesTask : Ask → Result Name Field → Type 0
+abbrev pub NamesTask : RawRequest → Result Name RequestField → Type 0
 NamesTask a r = FitsOr (FitsTask a) (field.Size ∷ field.Task ∷ []) (name_value a.task) r
 
 -- a request with its task
-abbrev pub with_task : Name → Result Request Field → Result (Name × Request) Field
+abbrev pub with_task : Name → Result Request RequestField → Result (Name × Request) RequestField
 with_task t (Ok request) = Ok (t, request)
 with_task t (Err f) = Err f
 
 -- The task that is named with the request that a struct may ask for, or the first field that does not fit.
-abbrev pub TaskAsks : Ask → (Result Request Field → Type 0) → Result (Name × Request) Field → Type 0
-TaskAsks a asks r = (task : Result Name Field) × NamesTask a task
-    × MatchResult task (λ t. (request : Result Request Field) × asks request × (r ≡ with_task t request)) (λ f. r ≡ Err f)
+abbrev pub TaskAsks : RawRequest → (Result Request RequestField → Type 0) → Result (Name × Request) RequestField → Type 0
+TaskAsks a asks r = (task : Result Name RequestField) × NamesTask a task
+    × MatchResult task (λ t. (request : Result Request RequestField) × asks request × (r ≡ with_task t request)) (λ f. r ≡ Err f)

@@ -13,7 +13,7 @@ use Rattle.mvs_job.specs.declared.walk.LineEvent.{LineEvent}
 use Rattle.mvs_job.specs.declared.walk.LineEvent.TheVariants as told
 use Rattle.mvs_job.specs.declared.walk.OutOfMemoryAt.{OutOfMemoryAt}
 use Rattle.mvs_c.specs.declared.event.Event.{Event}
-use Rattle.mvs_c.specs.declared.field.Field.{Field}
+use Rattle.mvs_c.specs.declared.field.RequestField.{RequestField}
 use Rattle.mvs_c.specs.Fields.{offset}
 
 -- the number of bytes of an event
@@ -88,5 +88,5 @@ abbrev pub end_event : Option Bool → Event
 end_event end = record (of_kind 20) { ended = step_number end }
 
 -- the event of a request that is refused because of a field
-abbrev pub refused_event : Field → Event
+abbrev pub refused_event : RequestField → Event
 refused_event f = record (of_kind 21) { code = offset f }

@@ -15,9 +15,9 @@ use Rattle.mvs_job.specs.LineEvents.{WalkValue, ServesAs, KeepsReplyOf, closing,
 use Rattle.mvs_job.specs.Valued.{RequestsOf}
 use Rattle.mvs_c.specs.declared.event.Event.{Event}
 use Rattle.mvs_c.specs.declared.last.Last.TheVariants as last
-use Rattle.mvs_c.specs.declared.ask.Ask.{Ask}
-use Rattle.mvs_c.specs.declared.field.Field.{Field}
-use Rattle.mvs_c.specs.declared.list.Area.{Area}
+use Rattle.mvs_c.specs.declared.ask.RawRequest.{RawRequest}
+use Rattle.mvs_c.specs.declared.field.RequestField.{RequestField}
+use Rattle.mvs_c.specs.declared.list.ListArea.{ListArea}
 use Rattle.mvs_c.specs.Asks.{TaskAsks}
 use Rattle.mvs_c.specs.Events.{line_event, end_event, refused_event, reply_event}
 use Rattle.mvs_c.specs.Lists.{AsksList, area_values, listed}
@@ -70,20 +70,20 @@ Leaves old new before after status answered = (new ≡ old) × (after ≡ before
 
 -- A session executes a request that is given by values. If a field does not fit, or no step runs, nothing changes but the event that
 -- names the field.
-abbrev pub AnswersValues : OpenValue → Result (Name × Request) Field → OpenValue → Event → Event → ℕ → Type 0
+abbrev pub AnswersValues : OpenValue → Result (Name × Request) RequestField → OpenValue → Event → Event → ℕ → Type 0
 AnswersValues old (Err f) new before after status = (new ≡ old) × (after ≡ refused_event f) × (status ≡ 52)
 AnswersValues old (Ok asked) new before after status = MatchOption old.session.walk.step
     (Leaves old new before after 56 status)
     (λ _. (later : WalkValue) × RequestsOf old.session.walk asked.0 asked.1 true later × (new ≡ without_line later) × (after ≡ reply_event asked.0 later.reply) × (status ≡ 0))
 
 -- What a call answers that gives a session a request by values, of those that a struct may ask for: a job that has ended takes none.
-abbrev pub AnswersRequest : OpenValue → Ask → (Result Request Field → Type 0) → OpenValue → Event → Event → ℕ → Type 0
+abbrev pub AnswersRequest : OpenValue → RawRequest → (Result Request RequestField → Type 0) → OpenValue → Event → Event → ℕ → Type 0
 AnswersRequest old a asks new before after status = MatchBool old.session.continues
-    ((asked : Result (Name × Request) Field) × TaskAsks a asks asked × AnswersValues old asked new before after status)
+    ((asked : Result (Name × Request) RequestField) × TaskAsks a asks asked × AnswersValues old asked new before after status)
     (Leaves old new before after 24 status)
 
 -- The result of a call with a list request: the same as for one area, and the granted places are returned.
-abbrev pub AnswersList : OpenValue → Ask → List Area → OpenValue → List Area → Event → Event → ℕ → Type 0
+abbrev pub AnswersList : OpenValue → RawRequest → List ListArea → OpenValue → List ListArea → Event → Event → ℕ → Type 0
 AnswersList old a areas new told before after status =
     AnswersRequest old a (AsksList a areas) new before after status
     × (status ≡ 0 → told ≡ area_values (listed new.session.walk.reply) areas) × (status ≢ 0 → told ≡ areas)

@@ -1,10 +1,10 @@
 -- The places of the fields in a request by values.
 use Rattle.std.specs.Prelude.{ℕ}
-use Rattle.mvs_c.specs.declared.field.Field.{Field}
-use Rattle.mvs_c.specs.declared.field.Field.TheVariants.{Size, Kind, Form, Subpool, Length, Least, Boundary, Within, Location, Address, Source, Primary, Secondary, Code, Subpools, Task, Name, Areas}
+use Rattle.mvs_c.specs.declared.field.RequestField.{RequestField}
+use Rattle.mvs_c.specs.declared.field.RequestField.TheVariants.{Size, Kind, Form, Subpool, Length, Least, Boundary, Within, Location, Address, Source, Primary, Secondary, Code, Subpools, Task, Name, Areas}
 
 -- the offset of a field in bytes; the areas of a list, which are no field, come after the struct
-abbrev pub offset : Field → ℕ
+abbrev pub offset : RequestField → ℕ
 offset Size = 0
 offset Kind = 4
 offset Form = 8

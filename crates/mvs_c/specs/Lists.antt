@@ -9,12 +9,12 @@ use Rattle.mvs_model.specs.declared.request.Reply.{Reply}
 use Rattle.mvs_model.specs.declared.request.Reply.TheVariants.{Listed}
 use Rattle.mvs_model.specs.Numbers.{most_items}
 use Rattle.mvs_model.specs.Place.{PlaceValue, place_at}
-use Rattle.mvs_c.specs.declared.ask.Ask.{Ask}
-use Rattle.mvs_c.specs.declared.ask.Kind.{Kind}
-use Rattle.mvs_c.specs.declared.ask.Kind.TheVariants.{Obtain, Release, ReleaseWhole, Build, Get, Free, Delete, Attach, Return, Abend, Show, Move}
-use Rattle.mvs_c.specs.declared.field.Field.{Field}
-use Rattle.mvs_c.specs.declared.field.Field.TheVariants as field
-use Rattle.mvs_c.specs.declared.list.Area.{Area}
+use Rattle.mvs_c.specs.declared.ask.RawRequest.{RawRequest}
+use Rattle.mvs_c.specs.declared.ask.RequestKind.{RequestKind}
+use Rattle.mvs_c.specs.declared.ask.RequestKind.TheVariants.{Obtain, Release, ReleaseWhole, Build, Get, Free, Delete, Attach, Return, Abend, Show, Move}
+use Rattle.mvs_c.specs.declared.field.RequestField.{RequestField}
+use Rattle.mvs_c.specs.declared.field.RequestField.TheVariants as field
+use Rattle.mvs_c.specs.declared.list.ListArea.{ListArea}
 use Rattle.mvs_c.specs.Asks.{AsksFor, FitsOr, IsLength, TakesForm, form_value, kind_numbered, or_else}
 
 -- whether a form is that of a list
@@ -34,10 +34,10 @@ is_list_form Storage = false
 is_list_form StorageConditional = false
 
 -- The lengths, and the places, are in their ranges, and there are 1 to 16 of them.
-abbrev pub AreLengths : List Area → Type 0
+abbrev pub AreLengths : List ListArea → Type 0
 AreLengths areas = AllByRecursion (λ a. IsLength a.length) areas
 
-abbrev pub ArePlaces : List Area → Type 0
+abbrev pub ArePlaces : List ListArea → Type 0
 ArePlaces areas = AllByRecursion (λ a. (a.address < 2 ^ 31) × IsLength a.length) areas
 
 abbrev pub IsListLength : ℕ → Type 0
@@ -48,30 +48,30 @@ abbrev pub IsListStart : ℕ → Type 0
 IsListStart n = (or_else n 3 ≡ 3) ⊎ (n ≡ 12)
 
 -- The field of a list request that obtains, or releases, is in its range.
-abbrev pub FitsObtain : Ask → List Area → Field → Type 0
+abbrev pub FitsObtain : RawRequest → List ListArea → RequestField → Type 0
 FitsObtain a areas field.Form = TakesForm is_list_form a.form
 FitsObtain a areas field.Subpool = a.subpool < 256
 FitsObtain a areas field.Boundary = IsListStart a.boundary
 FitsObtain a areas field.Areas = IsListLength (length areas) × AreLengths areas
 FitsObtain a areas f = Unit {0}
 
-abbrev pub FitsRelease : Ask → List Area → Field → Type 0
+abbrev pub FitsRelease : RawRequest → List ListArea → RequestField → Type 0
 FitsRelease a areas field.Form = TakesForm is_list_form a.form
 FitsRelease a areas field.Subpool = a.subpool < 256
 FitsRelease a areas field.Areas = IsListLength (length areas) × ArePlaces areas
 FitsRelease a areas f = Unit {0}
 
 -- The list request that obtains, or releases, these areas, or the first field that does not fit.
-pub record ObtainsList (a : Ask) (areas : List Area) (r : Result Request Field) : Type 0 where
+pub record ObtainsList (a : RawRequest) (areas : List ListArea) (r : Result Request RequestField) : Type 0 where
   pub first : FitsOr (FitsObtain a areas) (field.Form ∷ field.Subpool ∷ field.Boundary ∷ field.Areas ∷ [])
       (ObtainList (form_value a.form) a.subpool (map (λ x. x.length) areas) (or_else a.boundary 3)) r
 
-pub record ReleasesList (a : Ask) (areas : List Area) (r : Result Request Field) : Type 0 where
+pub record ReleasesList (a : RawRequest) (areas : List ListArea) (r : Result Request RequestField) : Type 0 where
   pub first : FitsOr (FitsRelease a areas) (field.Form ∷ field.Subpool ∷ field.Areas ∷ [])
       (ReleaseList (form_value a.form) a.subpool (map (λ x. place_at x.address x.length) areas)) r
 
 -- The same of a struct of any kind; the other kinds have no lists.
-abbrev pub AsksOfList : Ask → List Area → Kind → Result Request Field → Type 0
+abbrev pub AsksOfList : RawRequest → List ListArea → RequestKind → Result Request RequestField → Type 0
 AsksOfList a areas Obtain r = ObtainsList a areas r
 AsksOfList a areas Release r = ReleasesList a areas r
 AsksOfList a areas ReleaseWhole r = r ≡ Err field.Kind
@@ -85,7 +85,7 @@ AsksOfList a areas Abend r = r ≡ Err field.Kind
 AsksOfList a areas Show r = r ≡ Err field.Kind
 AsksOfList a areas Move r = r ≡ Err field.Kind
 
-abbrev pub AsksList : Ask → List Area → Result Request Field → Type 0
+abbrev pub AsksList : RawRequest → List ListArea → Result Request RequestField → Type 0
 AsksList a areas r = AsksFor (λ k r. AsksOfList a areas k r) (kind_numbered a.kind) r
 
 -- the places that a reply grants to a list
@@ -94,7 +94,7 @@ listed (Listed ps) = ps
 listed _ = []
 
 -- the areas of a list, with these places in place of the first ones
-abbrev pub area_values : List PlaceValue → List Area → List Area
+abbrev pub area_values : List PlaceValue → List ListArea → List ListArea
 area_values [] areas = areas
 area_values (p ∷ ps) [] = []
 area_values (p ∷ ps) (a ∷ areas) = record { address = p.addr; length = p.len } ∷ area_values ps areas

@@ -4,7 +4,7 @@ ghost use Rattle.std.specs.Prelude.{◌≡◌, ◌≢◌, ◌<◌, ◌≤◌, �
 ghost use Rattle.mvs_model.specs.FullAnswers.{ended_with_in};
 ghost use Rattle.mvs_model.specs.Place.{IsPlace, place_at};
 ghost use Rattle.mvs_model.specs.declared.report.MapRun.{MapRun};
-ghost use Rattle.mvs_c.specs.Access.{AnswersSubpool, FindsRun, FindsSubpool, Reads, TellsOne, WritesAt, run_bytes, run_value, subpool_bytes};
+ghost use Rattle.mvs_c.specs.Access.{AnswersSubpool, FindsRun, FindsSubpool, Reads, ReturnsOne, WritesAt, run_bytes, run_value, subpool_bytes};
 
 use crate::ask::name_of;
 use crate::open::Open;
@@ -36,7 +36,7 @@ pub struct Subpool {
 /// A line of REPORT MAP.
 #[repr(C)]
 #[derive(Clone, Copy)]
-pub struct Run {
+pub struct RunFields {
     /// The number of bytes of this struct.
     pub size: u32,
     pub address: u32,
@@ -56,7 +56,7 @@ impl Subpool {
     }
 }
 
-impl Run {
+impl RunFields {
     /// Returns whether the size is that of such a line.
     pub fn is_sized(&self) -> bool
         ensures { MatchBool result (self.now.size ≡ run_bytes) (self.now.size ≢ run_bytes) }
@@ -127,7 +127,7 @@ pub fn write(held: &mut Open, address: u32, bytes: &[u8]) -> u32
 
 /// Copies the name of one of the tasks that ended with the one that abended last.
 pub fn copy_ended_with(held: &Open, index: usize, name: &mut [u8; 8]) -> u32
-    ensures { TellsOne (slice_get (ended_with_in held.now.session.walk.reply) index) (λ t. t) name.old name.new
+    ensures { ReturnsOne (slice_get (ended_with_in held.now.session.walk.reply) index) (λ t. t) name.old name.new
         result }
 {
     match held.fallen().get(index) {
@@ -187,14 +187,14 @@ fn find_run(held: &Open, from: u32) -> Option<MapRun>
 }
 
 // A run of pages, for C.
-fn run_value(run: &MapRun) -> Run
+fn run_value(run: &MapRun) -> RunFields
     ensures { result ≡ run_value run.now }
 {
     let (assigned, number, owner) = match run.holder {
         Some((number, owner)) => (true, u32::from(number.get()), owner.bytes()),
         None => (false, 0, [b' '; 8]),
     };
-    Run {
+    RunFields {
         size: RUN_BYTES,
         address: run.addr.get(),
         length: run.len,
@@ -205,9 +205,9 @@ fn run_value(run: &MapRun) -> Run
 }
 
 /// Returns the first run of pages at or after an address.
-pub fn copy_run(held: &Open, from: u32, told: &mut Run) -> u32
+pub fn copy_run(held: &Open, from: u32, told: &mut RunFields) -> u32
     ensures { (found : Option MapRun) × FindsRun held.now from found
-        × TellsOne found run_value told.old told.new result }
+        × ReturnsOne found run_value told.old told.new result }
 {
     match find_run(held, from) {
         Some(run) => {

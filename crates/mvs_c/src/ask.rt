@@ -8,9 +8,9 @@ ghost use Rattle.mvs_model.specs.Place.{place_at};
 ghost use Rattle.mvs_model.specs.Want.{IsExponent};
 ghost use Rattle.mvs_c.specs.Asks as asks;
 ghost use Rattle.mvs_c.specs.Asks.{Asks, AsksOf, IsCount, IsLeast, IsLength, IsLocation, IsNamed, IsStart, IsWithin, NamesTask, TakesForm, TaskAsks, ends_name, form_numbered, form_value, gifts_value, kind_numbered, location_value, name_value, name_text, or_else, within_value};
-ghost use Rattle.mvs_c.specs.declared.ask.Kind.TheVariants as kind;
+ghost use Rattle.mvs_c.specs.declared.ask.RequestKind.TheVariants as kind;
 
-use crate::field::Field;
+use crate::field::RequestField;
 use job_script::addresses::{is_name, name};
 use mvs_model::bounded::{CellCount, CellSize, Exponent, Length, MoveLength, ShowLength, UserCode};
 use mvs_model::code::Form;
@@ -28,7 +28,7 @@ const ADDRESSES: u32 = 1 << 31;
 
 /// The kinds of requests.
 #[derive(Clone, Copy)]
-pub enum Kind {
+pub enum RequestKind {
     Obtain,
     Release,
     ReleaseWhole,
@@ -44,20 +44,20 @@ pub enum Kind {
 }
 
 /// The kinds by their numbers, from 1 on.
-const KINDS: [Option<Kind>; 13] = [
+const KINDS: [Option<RequestKind>; 13] = [
     None,
-    Some(Kind::Obtain),
-    Some(Kind::Release),
-    Some(Kind::ReleaseWhole),
-    Some(Kind::Build),
-    Some(Kind::Get),
-    Some(Kind::Free),
-    Some(Kind::Delete),
-    Some(Kind::Attach),
-    Some(Kind::Return),
-    Some(Kind::Abend),
-    Some(Kind::Show),
-    Some(Kind::Move),
+    Some(RequestKind::Obtain),
+    Some(RequestKind::Release),
+    Some(RequestKind::ReleaseWhole),
+    Some(RequestKind::Build),
+    Some(RequestKind::Get),
+    Some(RequestKind::Free),
+    Some(RequestKind::Delete),
+    Some(RequestKind::Attach),
+    Some(RequestKind::Return),
+    Some(RequestKind::Abend),
+    Some(RequestKind::Show),
+    Some(RequestKind::Move),
 ];
 
 /// The forms by their numbers, from 1 on.
@@ -84,7 +84,7 @@ const LOCATIONS: [Loc; 3] = [Loc::Res, Loc::Below, Loc::Any];
 /// A request of a task. A field that a kind of request does not read is ignored.
 #[repr(C)]
 #[derive(Clone, Copy)]
-pub struct Ask {
+pub struct RawRequest {
     /// The number of bytes of this struct.
     pub size: u32,
     pub kind: u32,
@@ -123,7 +123,7 @@ pub struct Ask {
 }
 
 // A kind of request.
-fn kind_of(number: u32) -> Option<Kind>
+fn kind_of(number: u32) -> Option<RequestKind>
     ensures { result ≡ kind_numbered number }
 {
     match KINDS.get(number as usize) {
@@ -375,7 +375,7 @@ fn set_of(low: u64, high: u64) -> u128
     u128::from(low) + (u128::from(high) << 64)
 }
 
-impl Ask {
+impl RawRequest {
     // What an attaching task gives and shares.
     fn gifts(&self) -> Option<Gifts>
         ensures { SomeIff result (IsGifts (gifts_value self.now)) (gifts_value self.now) }
@@ -385,31 +385,31 @@ impl Ask {
         Gifts::new(given, shared, !self.keeps_zero)
     }
 
-    fn obtain(&self) -> Result<Request, Field>
+    fn obtain(&self) -> Result<Request, RequestField>
         ensures { AsksOf kind.Obtain self.now result }
     {
         let Some(form) = obtaining(self.form) else {
-            return Err(Field::Form);
+            return Err(RequestField::Form);
         };
         let Some(number) = subpool_of(self.subpool) else {
-            return Err(Field::Subpool);
+            return Err(RequestField::Subpool);
         };
         let Some(most) = length_of(self.length) else {
-            return Err(Field::Length);
+            return Err(RequestField::Length);
         };
         let Some(least) = least_in(form, self.least, most) else {
-            return Err(Field::Least);
+            return Err(RequestField::Least);
         };
         let Some(start) = start_in(form, self.boundary) else {
-            return Err(Field::Boundary);
+            return Err(RequestField::Boundary);
         };
         let Some(within) = within_in(form, self.within) else {
-            return Err(Field::Within);
+            return Err(RequestField::Within);
         };
         let Some(loc) = location_in(form, self.location) else {
-            return Err(Field::Location);
+            return Err(RequestField::Location);
         };
-        let ask = want::Ask::fixed(most, start, loc).at_least(least);
+        let ask = want::RawRequest::fixed(most, start, loc).at_least(least);
         let ask = match within {
             Some(within) => ask.within(within),
             None => ask,
@@ -417,20 +417,20 @@ impl Ask {
         Ok(Request::Obtain { form, number, ask })
     }
 
-    fn release(&self) -> Result<Request, Field>
+    fn release(&self) -> Result<Request, RequestField>
         ensures { AsksOf kind.Release self.now result }
     {
         let Some(form) = releasing(self.form) else {
-            return Err(Field::Form);
+            return Err(RequestField::Form);
         };
         let Some(number) = subpool_of(self.subpool) else {
-            return Err(Field::Subpool);
+            return Err(RequestField::Subpool);
         };
         let Some(len) = length_of(self.length) else {
-            return Err(Field::Length);
+            return Err(RequestField::Length);
         };
         let Some(addr) = address_of(self.address) else {
-            return Err(Field::Address);
+            return Err(RequestField::Address);
         };
         Ok(Request::Release {
             form,
@@ -439,38 +439,38 @@ impl Ask {
         })
     }
 
-    fn release_whole(&self) -> Result<Request, Field>
+    fn release_whole(&self) -> Result<Request, RequestField>
         ensures { AsksOf kind.ReleaseWhole self.now result }
     {
         let Some(form) = releasing_whole(self.form) else {
-            return Err(Field::Form);
+            return Err(RequestField::Form);
         };
         let Some(number) = subpool_of(self.subpool) else {
-            return Err(Field::Subpool);
+            return Err(RequestField::Subpool);
         };
         Ok(Request::ReleaseWhole { form, number })
     }
 
-    fn build(&self) -> Result<Request, Field>
+    fn build(&self) -> Result<Request, RequestField>
         ensures { AsksOf kind.Build self.now result }
     {
         let Some(number) = subpool_of(self.subpool) else {
-            return Err(Field::Subpool);
+            return Err(RequestField::Subpool);
         };
         let Some(size) = cell_size(self.length) else {
-            return Err(Field::Length);
+            return Err(RequestField::Length);
         };
         let Some(loc) = location_of(self.location) else {
-            return Err(Field::Location);
+            return Err(RequestField::Location);
         };
         let Some(primary) = count_of(self.primary) else {
-            return Err(Field::Primary);
+            return Err(RequestField::Primary);
         };
         let Some(secondary) = count_of(or_else(self.secondary, self.primary)) else {
-            return Err(Field::Secondary);
+            return Err(RequestField::Secondary);
         };
         let Some(pool) = name_of(&self.name) else {
-            return Err(Field::Name);
+            return Err(RequestField::Name);
         };
         Ok(Request::Build {
             pool,
@@ -482,11 +482,11 @@ impl Ask {
         })
     }
 
-    fn get(&self) -> Result<Request, Field>
+    fn get(&self) -> Result<Request, RequestField>
         ensures { AsksOf kind.Get self.now result }
     {
         let Some(pool) = name_of(&self.name) else {
-            return Err(Field::Name);
+            return Err(RequestField::Name);
         };
         Ok(Request::Get {
             pool,
@@ -494,35 +494,35 @@ impl Ask {
         })
     }
 
-    fn free(&self) -> Result<Request, Field>
+    fn free(&self) -> Result<Request, RequestField>
         ensures { AsksOf kind.Free self.now result }
     {
         let Some(cell) = address_of(self.address) else {
-            return Err(Field::Address);
+            return Err(RequestField::Address);
         };
         let Some(pool) = name_of(&self.name) else {
-            return Err(Field::Name);
+            return Err(RequestField::Name);
         };
         Ok(Request::Free { pool, cell })
     }
 
-    fn delete(&self) -> Result<Request, Field>
+    fn delete(&self) -> Result<Request, RequestField>
         ensures { AsksOf kind.Delete self.now result }
     {
         let Some(pool) = name_of(&self.name) else {
-            return Err(Field::Name);
+            return Err(RequestField::Name);
         };
         Ok(Request::Delete { pool })
     }
 
-    fn attach(&self) -> Result<Request, Field>
+    fn attach(&self) -> Result<Request, RequestField>
         ensures { AsksOf kind.Attach self.now result }
     {
         let Some(gifts) = self.gifts() else {
-            return Err(Field::Subpools);
+            return Err(RequestField::Subpools);
         };
         let Some(name) = name_of(&self.name) else {
-            return Err(Field::Name);
+            return Err(RequestField::Name);
         };
         Ok(Request::Attach {
             name,
@@ -535,94 +535,94 @@ impl Ask {
         })
     }
 
-    fn abend(&self) -> Result<Request, Field>
+    fn abend(&self) -> Result<Request, RequestField>
         ensures { AsksOf kind.Abend self.now result }
     {
         if self.code >= 4_096 {
-            return Err(Field::Code);
+            return Err(RequestField::Code);
         }
         Ok(Request::Abend(UserCode::new(self.code)))
     }
 
-    fn show(&self) -> Result<Request, Field>
+    fn show(&self) -> Result<Request, RequestField>
         ensures { AsksOf kind.Show self.now result }
     {
         let Some(len) = ShowLength::checked(self.length) else {
-            return Err(Field::Length);
+            return Err(RequestField::Length);
         };
         let Some(from) = address_of(self.address) else {
-            return Err(Field::Address);
+            return Err(RequestField::Address);
         };
         Ok(Request::Show { from, len })
     }
 
-    fn copy(&self) -> Result<Request, Field>
+    fn copy(&self) -> Result<Request, RequestField>
         ensures { AsksOf kind.Move self.now result }
     {
         let Some(len) = MoveLength::checked(self.length) else {
-            return Err(Field::Length);
+            return Err(RequestField::Length);
         };
         let Some(to) = address_of(self.address) else {
-            return Err(Field::Address);
+            return Err(RequestField::Address);
         };
         let Some(from) = address_of(self.source) else {
-            return Err(Field::Source);
+            return Err(RequestField::Source);
         };
         Ok(Request::Move { to, from, len })
     }
 
     // Returns the request of a struct of this kind, or the first field that does not fit.
-    fn request_of(&self, kind: Kind) -> Result<Request, Field>
+    fn request_of(&self, kind: RequestKind) -> Result<Request, RequestField>
         ensures { AsksOf kind self.now result }
     {
         match kind {
-            Kind::Obtain => self.obtain(),
-            Kind::Release => self.release(),
-            Kind::ReleaseWhole => self.release_whole(),
-            Kind::Build => self.build(),
-            Kind::Get => self.get(),
-            Kind::Free => self.free(),
-            Kind::Delete => self.delete(),
-            Kind::Attach => self.attach(),
-            Kind::Return => Ok(Request::Return),
-            Kind::Abend => self.abend(),
-            Kind::Show => self.show(),
-            Kind::Move => self.copy(),
+            RequestKind::Obtain => self.obtain(),
+            RequestKind::Release => self.release(),
+            RequestKind::ReleaseWhole => self.release_whole(),
+            RequestKind::Build => self.build(),
+            RequestKind::Get => self.get(),
+            RequestKind::Free => self.free(),
+            RequestKind::Delete => self.delete(),
+            RequestKind::Attach => self.attach(),
+            RequestKind::Return => Ok(Request::Return),
+            RequestKind::Abend => self.abend(),
+            RequestKind::Show => self.show(),
+            RequestKind::Move => self.copy(),
         }
     }
 
     // Returns the request, or the first field that does not fit.
-    fn request(&self) -> Result<Request, Field>
+    fn request(&self) -> Result<Request, RequestField>
         ensures { Asks self.now result }
     {
         match self.kind() {
             Some(kind) => self.request_of(kind),
-            None => Err(Field::Kind),
+            None => Err(RequestField::Kind),
         }
     }
 
     /// Returns the kind of request, or None if the number is that of no kind.
-    pub fn kind(&self) -> Option<Kind>
+    pub fn kind(&self) -> Option<RequestKind>
         ensures { result ≡ kind_numbered self.now.kind }
     {
         kind_of(self.kind)
     }
 
     /// Returns the task that makes the request, or the field if the size or the name does not fit.
-    pub fn named_task(&self) -> Result<Name, Field>
+    pub fn named_task(&self) -> Result<Name, RequestField>
         ensures { NamesTask self.now result }
     {
         if self.size != ASK_BYTES {
-            return Err(Field::Size);
+            return Err(RequestField::Size);
         }
         let Some(task) = name_of(&self.task) else {
-            return Err(Field::Task);
+            return Err(RequestField::Task);
         };
         Ok(task)
     }
 
     /// Returns the task and the request that it makes, or the first field that does not fit.
-    pub fn task_request(&self) -> Result<(Name, Request), Field>
+    pub fn task_request(&self) -> Result<(Name, Request), RequestField>
         ensures { TaskAsks self.now (Asks self.now) result }
     {
         let task = match self.named_task() {

@@ -5,7 +5,7 @@ ghost use Rattle.mvs_model.specs.Texts.{fault_number};
 ghost use Rattle.mvs_job.specs.declared.walk.LineEvent.TheVariants as told;
 ghost use Rattle.mvs_c.specs.Events.{answer_event, completion, end_event, event_bytes, line_event, of_kind, of_place, of_task, refused_event, reply_event, step_number};
 
-use crate::field::Field;
+use crate::field::RequestField;
 use mvs_job::{LineEvent, OutOfMemoryAt};
 use mvs_model::answer::Answer;
 use mvs_model::code::Code;
@@ -209,7 +209,7 @@ pub fn end_event(ended: Option<bool>) -> Event
 }
 
 /// The event of a request that is refused because of a field.
-pub fn refused_event(field: Field) -> Event
+pub fn refused_event(field: RequestField) -> Event
     ensures { result ≡ refused_event field }
 {
     Event {

@@ -3,7 +3,7 @@
 ghost use Rattle.std.specs.Prelude.{◌≡◌, ◌≢◌, ◌⊎◌, ◌↔◌, ◌≤◌, ◌<◌, [], Some, None, Option, slice_get, true, false, IfSome, IsSome};
 ghost use Rattle.mvs_model.specs.FullAnswers.{ended_with_in};
 ghost use Rattle.mvs_model.specs.declared.report.MapRun.{MapRun};
-ghost use Rattle.mvs_c.specs.Access.{AnswersSubpool, FindsRun, Reads, TellsOne, WritesAt, run_bytes, run_value, subpool_bytes};
+ghost use Rattle.mvs_c.specs.Access.{AnswersSubpool, FindsRun, Reads, ReturnsOne, WritesAt, run_bytes, run_value, subpool_bytes};
 ghost use Rattle.mvs_c.specs.Opens.{TakesLine, events_of, new_open, text_of};
 ghost use Rattle.mvs_c.specs.Asks.{Asks};
 ghost use Rattle.mvs_c.specs.Events.{event_bytes};
@@ -11,15 +11,15 @@ ghost use Rattle.mvs_c.specs.Regions.{region_bytes, region_line};
 ghost use Rattle.mvs_c.specs.Lists.{AsksList, area_values, listed};
 ghost use Rattle.mvs_c.specs.Exports.{AnswersValues, AnswersEnd, AnswersLine, AnswersList, AnswersRequest, HandsOver, IsPlaceNumber, TriesLine, WithSession, line_status, outcome_status};
 
-use crate::access::{self, Run, Subpool};
-use crate::ask::Ask;
+use crate::access::{self, RunFields, Subpool};
+use crate::ask::RawRequest;
 use crate::buffer::hand_over;
 use crate::event::{Event, end_event, fault_event, line_event, refused_event, reply_event};
-use crate::field::Field;
+use crate::field::RequestField;
 use crate::handle::Handle;
-use crate::list::{Area, write_listed};
+use crate::list::{ListArea, write_listed};
 use crate::open::Open;
-use crate::region::Region;
+use crate::region::RegionFields;
 use crate::status::{
     NO_MEMORY, NO_PLACE, NO_REQUEST, NO_SESSION, NO_STEP, OK, OVER, SCRIPT_FAULT, WRONG_SIZE,
 };
@@ -114,7 +114,7 @@ fn try_line(held: &mut Open, line: &[u8], event: &mut Event) -> u32
 }
 
 // Passes a request to a session that continues, if there is a request and a step is running.
-fn serve(held: &mut Open, asked: Result<(Name, Request), Field>, event: &mut Event) -> u32
+fn serve(held: &mut Open, asked: Result<(Name, Request), RequestField>, event: &mut Event) -> u32
     requires { held.old.session.continues ≡ true }
     ensures { AnswersValues held.old asked held.new event.old event.new result }
 {
@@ -133,7 +133,7 @@ fn serve(held: &mut Open, asked: Result<(Name, Request), Field>, event: &mut Eve
 }
 
 // Passes a request to a session, if it continues and a step is running.
-fn execute_request(held: &mut Open, ask: &Ask, event: &mut Event) -> u32
+fn execute_request(held: &mut Open, ask: &RawRequest, event: &mut Event) -> u32
     ensures { AnswersRequest held.old ask.now (Asks ask.now) held.new event.old event.new result }
 {
     if !held.continues() {
@@ -143,7 +143,7 @@ fn execute_request(held: &mut Open, ask: &Ask, event: &mut Event) -> u32
 }
 
 // Passes a list request to a session, if it continues and a step is running.
-fn execute_list(held: &mut Open, ask: &Ask, areas: &mut [Area], event: &mut Event) -> u32
+fn execute_list(held: &mut Open, ask: &RawRequest, areas: &mut [ListArea], event: &mut Event) -> u32
     ensures answer { AnswersRequest held.old ask.now
         (AsksList ask.now areas.old) held.new event.old event.new
         result }
@@ -274,7 +274,7 @@ pub extern "C" fn mvs_try(
 pub extern "C" fn mvs_begin(
     alloc: Global,
     session: &mut Handle,
-    region: &Region,
+    region: &RegionFields,
     event: &mut Event,
 ) -> u32
     ensures size { (region.now.size ≡ region_bytes → ⊥) ⊎ (event.old.size ≡ event_bytes → ⊥)
@@ -300,7 +300,7 @@ pub extern "C" fn mvs_begin(
 pub extern "C" fn mvs_request(
     alloc: Global,
     session: &mut Handle,
-    ask: &Ask,
+    ask: &RawRequest,
     event: &mut Event,
 ) -> u32
     ensures size { event.old.size ≢ event_bytes
@@ -326,8 +326,8 @@ pub extern "C" fn mvs_request(
 pub extern "C" fn mvs_list(
     alloc: Global,
     session: &mut Handle,
-    ask: &Ask,
-    areas: &mut [Area],
+    ask: &RawRequest,
+    areas: &mut [ListArea],
     event: &mut Event,
 ) -> u32
     ensures size { event.old.size ≢ event_bytes
@@ -444,7 +444,7 @@ pub extern "C" fn mvs_fallen(
     ensures session { session.new.open ≡ session.old.open }
     ensures none { session.old.open ≡ None → (result ≡ 20) × (name.new ≡ name.old) }
     ensures told { IfSome session.old.open
-        (λ old. TellsOne (slice_get (ended_with_in old.session.walk.reply) index) (λ t. t) name.old name.new
+        (λ old. ReturnsOne (slice_get (ended_with_in old.session.walk.reply) index) (λ t. t) name.old name.new
         result) }
 {
     let Some(held) = take_out(alloc, session) else {
@@ -484,7 +484,12 @@ pub extern "C" fn mvs_subpool(
 
 /// Returns the first run of pages at or after an address.
 #[unsafe(no_mangle)]
-pub extern "C" fn mvs_map(alloc: Global, session: &mut Handle, from: u32, told: &mut Run) -> u32
+pub extern "C" fn mvs_map(
+    alloc: Global,
+    session: &mut Handle,
+    from: u32,
+    told: &mut RunFields,
+) -> u32
     ensures session { session.new.open ≡ session.old.open }
     ensures size { told.old.size ≢ run_bytes → (result ≡ 64) × (told.new ≡ told.old) }
     ensures none { told.old.size ≡ run_bytes → session.old.open ≡ None
@@ -492,7 +497,7 @@ pub extern "C" fn mvs_map(alloc: Global, session: &mut Handle, from: u32, told: 
     ensures told { told.old.size ≡ run_bytes
         → IfSome session.old.open
         (λ old. (found : Option MapRun) × FindsRun old from found
-        × TellsOne found run_value told.old told.new result) }
+        × ReturnsOne found run_value told.old told.new result) }
 {
     if !told.is_sized() {
         return WRONG_SIZE;

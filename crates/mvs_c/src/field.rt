@@ -3,9 +3,9 @@
 ghost use Rattle.std.specs.Prelude.{◌≡◌};
 ghost use Rattle.mvs_c.specs.Fields.{offset};
 
-/// A field of `Ask` that a refusal can name.
+/// A field of `RawRequest` that a refusal can name.
 #[derive(Clone, Copy, Debug, PartialEq, Eq)]
-pub enum Field {
+pub enum RequestField {
     Size,
     Kind,
     Form,
@@ -28,30 +28,30 @@ pub enum Field {
     Areas,
 }
 
-impl Field {
+impl RequestField {
     /// Returns the offset of the field in bytes. The areas, which are no field, come after the struct.
     pub fn offset(self) -> u32
         ensures { result ≡ offset self }
     {
         match self {
-            Field::Size => 0,
-            Field::Kind => 4,
-            Field::Form => 8,
-            Field::Subpool => 12,
-            Field::Length => 16,
-            Field::Least => 20,
-            Field::Boundary => 24,
-            Field::Within => 28,
-            Field::Location => 32,
-            Field::Address => 36,
-            Field::Source => 40,
-            Field::Primary => 44,
-            Field::Secondary => 48,
-            Field::Code => 52,
-            Field::Subpools => 64,
-            Field::Task => 96,
-            Field::Name => 104,
-            Field::Areas => 112,
+            RequestField::Size => 0,
+            RequestField::Kind => 4,
+            RequestField::Form => 8,
+            RequestField::Subpool => 12,
+            RequestField::Length => 16,
+            RequestField::Least => 20,
+            RequestField::Boundary => 24,
+            RequestField::Within => 28,
+            RequestField::Location => 32,
+            RequestField::Address => 36,
+            RequestField::Source => 40,
+            RequestField::Primary => 44,
+            RequestField::Secondary => 48,
+            RequestField::Code => 52,
+            RequestField::Subpools => 64,
+            RequestField::Task => 96,
+            RequestField::Name => 104,
+            RequestField::Areas => 112,
         }
     }
 }

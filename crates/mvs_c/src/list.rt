@@ -5,8 +5,10 @@ ghost use Rattle.mvs_model.specs.Place.{place_at};
 ghost use Rattle.mvs_c.specs.Asks.{TakesForm, TaskAsks, form_value, or_else};
 ghost use Rattle.mvs_c.specs.Lists.{AreLengths, ArePlaces, AsksList, IsListLength, IsListStart, ObtainsList, ReleasesList, area_values, is_list_form, listed};
 
-use crate::ask::{Ask, Kind, exponent_of, form_of, length_of, or_else, place_of, subpool_of};
-use crate::field::Field;
+use crate::ask::{
+    RawRequest, RequestKind, exponent_of, form_of, length_of, or_else, place_of, subpool_of,
+};
+use crate::field::RequestField;
 use mvs_model::bounded::Exponent;
 use mvs_model::code::Form;
 use mvs_model::name::Name;
@@ -17,7 +19,7 @@ use mvs_model::request::{Lengths, Places, Reply, Request};
 /// An area of a list: its length, and its address if it is released; after a request that obtains, what was granted.
 #[repr(C)]
 #[derive(Clone, Copy)]
-pub struct Area {
+pub struct ListArea {
     pub address: u32,
     pub length: u32,
 }
@@ -53,7 +55,7 @@ fn list_start(number: u32) -> Option<Exponent>
 }
 
 // Appends the lengths of areas, if all are in range.
-fn push_lengths(lengths: &mut Lengths, areas: &[Area]) -> bool
+fn push_lengths(lengths: &mut Lengths, areas: &[ListArea]) -> bool
     requires { length lengths.old + length areas.now ≤ 16 }
     ensures { MatchBool result
         (AreLengths areas.now × (lengths.new ≡ lengths.old ++ map (λ a. a.length) areas.now))
@@ -70,7 +72,7 @@ fn push_lengths(lengths: &mut Lengths, areas: &[Area]) -> bool
 }
 
 // The lengths of areas.
-fn lengths_of(areas: &[Area]) -> Option<Lengths>
+fn lengths_of(areas: &[ListArea]) -> Option<Lengths>
     ensures { SomeIff result (IsListLength (length areas.now) × AreLengths areas.now) (map (λ a. a.length) areas.now) }
 {
     if areas.len() > MOST_ITEMS {
@@ -86,7 +88,7 @@ fn lengths_of(areas: &[Area]) -> Option<Lengths>
 }
 
 // Appends the places of areas, if all are in range.
-fn push_places(places: &mut Places, areas: &[Area]) -> bool
+fn push_places(places: &mut Places, areas: &[ListArea]) -> bool
     requires { length places.old + length areas.now ≤ 16 }
     ensures { MatchBool result
         (ArePlaces areas.now × (places.new ≡ places.old ++ map (λ a. place_at a.address a.length) areas.now))
@@ -103,7 +105,7 @@ fn push_places(places: &mut Places, areas: &[Area]) -> bool
 }
 
 // The places of areas.
-fn places_of(areas: &[Area]) -> Option<Places>
+fn places_of(areas: &[ListArea]) -> Option<Places>
     ensures { SomeIff result (IsListLength (length areas.now) × ArePlaces areas.now)
         (map (λ a. place_at a.address a.length) areas.now) }
 {
@@ -119,21 +121,21 @@ fn places_of(areas: &[Area]) -> Option<Places>
     }
 }
 
-impl Ask {
-    fn obtain_list(&self, areas: &[Area]) -> Result<Request, Field>
+impl RawRequest {
+    fn obtain_list(&self, areas: &[ListArea]) -> Result<Request, RequestField>
         ensures { ObtainsList self.now areas.now result }
     {
         let Some(form) = list_form(self.form) else {
-            return Err(Field::Form);
+            return Err(RequestField::Form);
         };
         let Some(number) = subpool_of(self.subpool) else {
-            return Err(Field::Subpool);
+            return Err(RequestField::Subpool);
         };
         let Some(start) = list_start(self.boundary) else {
-            return Err(Field::Boundary);
+            return Err(RequestField::Boundary);
         };
         let Some(lengths) = lengths_of(areas) else {
-            return Err(Field::Areas);
+            return Err(RequestField::Areas);
         };
         Ok(Request::ObtainList {
             form,
@@ -143,17 +145,17 @@ impl Ask {
         })
     }
 
-    fn release_list(&self, areas: &[Area]) -> Result<Request, Field>
+    fn release_list(&self, areas: &[ListArea]) -> Result<Request, RequestField>
         ensures { ReleasesList self.now areas.now result }
     {
         let Some(form) = list_form(self.form) else {
-            return Err(Field::Form);
+            return Err(RequestField::Form);
         };
         let Some(number) = subpool_of(self.subpool) else {
-            return Err(Field::Subpool);
+            return Err(RequestField::Subpool);
         };
         let Some(places) = places_of(areas) else {
-            return Err(Field::Areas);
+            return Err(RequestField::Areas);
         };
         Ok(Request::ReleaseList {
             form,
@@ -162,30 +164,30 @@ impl Ask {
         })
     }
 
-    fn list_request(&self, areas: &[Area]) -> Result<Request, Field>
+    fn list_request(&self, areas: &[ListArea]) -> Result<Request, RequestField>
         ensures { AsksList self.now areas.now result }
     {
         let Some(kind) = self.kind() else {
-            return Err(Field::Kind);
+            return Err(RequestField::Kind);
         };
         match kind {
-            Kind::Obtain => self.obtain_list(areas),
-            Kind::Release => self.release_list(areas),
-            Kind::ReleaseWhole
-            | Kind::Build
-            | Kind::Get
-            | Kind::Free
-            | Kind::Delete
-            | Kind::Attach
-            | Kind::Return
-            | Kind::Abend
-            | Kind::Show
-            | Kind::Move => Err(Field::Kind),
+            RequestKind::Obtain => self.obtain_list(areas),
+            RequestKind::Release => self.release_list(areas),
+            RequestKind::ReleaseWhole
+            | RequestKind::Build
+            | RequestKind::Get
+            | RequestKind::Free
+            | RequestKind::Delete
+            | RequestKind::Attach
+            | RequestKind::Return
+            | RequestKind::Abend
+            | RequestKind::Show
+            | RequestKind::Move => Err(RequestField::Kind),
         }
     }
 
     /// Returns the task and the list request that it makes, or the first field that does not fit.
-    pub fn task_list_request(&self, areas: &[Area]) -> Result<(Name, Request), Field>
+    pub fn task_list_request(&self, areas: &[ListArea]) -> Result<(Name, Request), RequestField>
         ensures { TaskAsks self.now (AsksList self.now areas.now) result }
     {
         let task = match self.named_task() {
@@ -200,7 +202,7 @@ impl Ask {
 }
 
 // Writes places over the first areas.
-fn write_places(places: &[Place], areas: &mut [Area])
+fn write_places(places: &[Place], areas: &mut [ListArea])
     ensures { areas.new ≡ area_values places.now areas.old }
 {
     let Some((place, places)) = places.split_first() else {
@@ -209,7 +211,7 @@ fn write_places(places: &[Place], areas: &mut [Area])
     let Some((area, areas)) = areas.split_first_mut() else {
         return;
     };
-    *area = Area {
+    *area = ListArea {
         address: place.addr().get(),
         length: place.len(),
     };
@@ -217,7 +219,7 @@ fn write_places(places: &[Place], areas: &mut [Area])
 }
 
 /// Writes the places that a reply grants to a list.
-pub fn write_listed(reply: &Reply, areas: &mut [Area])
+pub fn write_listed(reply: &Reply, areas: &mut [ListArea])
     ensures { areas.new ≡ area_values (listed reply.now) areas.old }
 {
     if let Reply::Listed(places) = reply {

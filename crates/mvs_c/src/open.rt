@@ -13,7 +13,7 @@ ghost use Rattle.mvs_c.specs.Opens.{TakesLine, events_of, fault_of, last_of, new
 
 use crate::last::Last;
 use job_script::read_line;
-use mvs_job::{JobEnd, Job, LineEvent, Session, OutOfMemoryAt, print_closing, print_line};
+use mvs_job::{Job, JobEnd, LineEvent, OutOfMemoryAt, Session, print_closing, print_line};
 use mvs_model::line::{Fault, Line};
 use mvs_model::name::Name;
 use mvs_model::place::Place;

@@ -4,7 +4,7 @@ ghost use Rattle.std.specs.Prelude.{◌≡◌, ◌≢◌, MatchBool};
 ghost use Rattle.mvs_c.specs.Regions.{region_bytes, region_line};
 
 use crate::ask::text_len;
-use job_script::text::Text;
+use job_script::text::LineText;
 
 /// The number of bytes of a region by values.
 const REGION_BYTES: u32 = 24;
@@ -12,7 +12,7 @@ const REGION_BYTES: u32 = 24;
 /// What a REGION statement has: the pages of a step, and its job step task.
 #[repr(C)]
 #[derive(Clone, Copy)]
-pub struct Region {
+pub struct RegionFields {
     /// The number of bytes of this struct.
     pub size: u32,
     /// The pages below and above 16 megabytes.
@@ -25,7 +25,7 @@ pub struct Region {
     pub task: [u8; 8],
 }
 
-impl Region {
+impl RegionFields {
     /// Returns whether the size is that of a region.
     pub fn is_sized(&self) -> bool
         ensures { MatchBool result (self.now.size ≡ region_bytes) (self.now.size ≢ region_bytes) }
@@ -34,21 +34,21 @@ impl Region {
     }
 
     /// Returns the line of the REGION statement.
-    pub fn line(&self) -> Text
+    pub fn line(&self) -> LineText
         ensures { result ≡ region_line self.now }
     {
-        let mut text = Text::new();
-        text.push_all(&self.task[..text_len(&self.task)]);
-        text.push_all(b" REGION BELOW=");
+        let mut text = LineText::new();
+        text.push_str(&self.task[..text_len(&self.task)]);
+        text.push_str(b" REGION BELOW=");
         text.push_decimal(self.below);
-        text.push_all(b",ABOVE=");
+        text.push_str(b",ABOVE=");
         text.push_decimal(self.above);
-        text.push_all(b",FILL=");
+        text.push_str(b",FILL=");
         text.push_byte(self.fill);
         if self.resides_above {
-            text.push_all(b",RES=ABOVE");
+            text.push_str(b",RES=ABOVE");
         } else {
-            text.push_all(b",RES=BELOW");
+            text.push_str(b",RES=BELOW");
         }
         text
     }

@@ -9,7 +9,7 @@ use Rattle.std.proofs.lemmas.Slice.Eq.{slice_eq-Decides}
 use Rattle.mvs_model.specs.Name.{same_name}
 use Rattle.mvs_model.specs.Reports.{each_below, label_of, number_of}
 use Rattle.mvs_model.specs.State.{State}
-use Rattle.mvs_model.proofs.Orders.{same_name_self, told as told_apart}
+use Rattle.mvs_model.proofs.Orders.{same_name_self, told_apart}
 use Rattle.request_forms.specs.Facts.{bytes_of, has_subpool, listed, owned_at, pages_of}
 use Rattle.request_forms.specs.declared.facts.OwnedSubpool.{OwnedSubpool}
 use Rattle.mvs_model.specs.declared.name.Name.{Name}

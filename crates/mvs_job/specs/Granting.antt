@@ -24,7 +24,7 @@ use Rattle.mvs_model.specs.Reports.{each_below}
 use Rattle.mvs_model.specs.State.{State}
 use Rattle.job_script.specs.FactTexts.{fact_line}
 use Rattle.request_forms.specs.Facts.{listed}
-use Rattle.request_forms.specs.SubpoolLabels.{free_above, free_below, label_had, label_meant}
+use Rattle.request_forms.specs.SubpoolLabels.{free_above, free_below, entry_owner, resolved_owner}
 use Rattle.mvs_job.specs.declared.granting.Baseline.{Baseline}
 
 -- ---- the step before
@@ -39,7 +39,7 @@ looked_at job had parts = record { below = free_below job.state; above = free_ab
 
 -- whether a task means a subpool by a number
 abbrev pub means : JobValue → Name → ℕ → Bool
-means job t number = is_some (label_meant job.state.owners t number)
+means job t number = is_some (resolved_owner job.state.owners t number)
 
 -- what is looked up before the request of a task; nothing, if its changes are not reported
 abbrev pub before_request : JobValue → Name → Written → Option Baseline
@@ -74,7 +74,7 @@ before_line (Some job) (line.Statement t says.ReportMap) = None
 
 -- an area that was obtained from the subpool that the task means by the number
 abbrev pub area_fact : JobValue → Name → ℕ → Name → ℕ → ℕ → Option Fact
-area_fact new t number area least most = option_and_then (λ p. option_map (λ l. Obtained area p least most l.0 l.1) (label_meant new.state.owners t number)) (get new.names area)
+area_fact new t number area least most = option_and_then (λ p. option_map (λ l. Obtained area p least most l.0 l.1) (resolved_owner new.state.owners t number)) (get new.names area)
 
 -- the areas of a list
 abbrev pub area_facts : JobValue → Name → ℕ → List Name → List ℕ → List Fact
@@ -88,7 +88,7 @@ greater_fact b new area most = if has (λ p. nat_lt p.len (round8 most)) (get ne
 
 -- a subpool that the task did not mean by the number before
 abbrev pub subpool_fact : Baseline → JobValue → Name → ℕ → Option Fact
-subpool_fact b new t number = if b.had then None else option_map (λ l. NewSubpool l.0 l.1) (label_meant new.state.owners t number)
+subpool_fact b new t number = if b.had then None else option_map (λ l. NewSubpool l.0 l.1) (resolved_owner new.state.owners t number)
 
 -- how many pages hold nothing
 abbrev pub free_in : JobValue → ℕ
@@ -104,7 +104,7 @@ freed_fact b new = if free_in new - (b.below + b.above) == 0 then None else Some
 
 -- the subpool that the task means by the number, which holds nothing any more
 abbrev pub emptied_fact : JobValue → Name → ℕ → Option Fact
-emptied_fact new t number = option_map (λ l. Emptied l.0 l.1) (label_meant new.state.owners t number)
+emptied_fact new t number = option_map (λ l. Emptied l.0 l.1) (resolved_owner new.state.owners t number)
 
 -- the last part of a pool
 abbrev pub last_part : Name → Pool → Option Fact
@@ -124,7 +124,7 @@ cell_fact new pool cell = option_map (λ p. CellTaken cell pool p) (get new.name
 
 -- what a subtask has under a number: it owns what its mother gave, and shares the rest
 abbrev pub subtask_fact : JobValue → Name → Name → ℕ → Option Fact
-subtask_fact new mother name n = option_map (λ l. if same_name l.1 name then Given name l.0 mother else Shared name l.0 l.1) (label_had new.state.owners name n)
+subtask_fact new mother name n = option_map (λ l. if same_name l.1 name then Given name l.0 mother else Shared name l.0 l.1) (entry_owner new.state.owners name n)
 
 -- what a task's request did that was granted
 abbrev pub facts_of : Baseline → Name → Written → JobValue → List Fact

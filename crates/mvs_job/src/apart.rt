@@ -102,7 +102,7 @@ impl Explainer {
         ensures write { IsErrOf result Stop.Write
             → (writer.new.failed ≡ true) ⊎ (behind.new.failed ≡ true) }
     {
-        let told = match self.explained.tell(walk, line, writer) {
+        let told = match self.explained.run_line(walk, line, writer) {
             Ok(told) => told,
             Err(stop) => return Err(stop),
         };

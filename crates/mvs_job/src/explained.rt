@@ -16,7 +16,7 @@ ghost use Rattle.mvs_job.specs.Why.{OfNext, line_reason};
 use crate::consumer::{Consumer, End};
 use crate::ends::print_frees;
 use crate::job::Job;
-use crate::name_origins::{NamedAddress, NameOrigins, reason_address, print_named};
+use crate::name_origins::{NameOrigins, NamedAddress, print_named, reason_address};
 use crate::observer::Observer;
 use crate::printing::{Stop, print_closing, print_ended, print_line};
 use crate::walk::{LineEvent, OutOfMemoryAt, Walk};
@@ -189,7 +189,7 @@ impl Explained {
     }
 
     /// Looks at a line, executes it, and prints its events.
-    pub(crate) fn tell<W: Write>(
+    pub(crate) fn run_line<W: Write>(
         &mut self,
         walk: &mut Walk,
         line: &[u8],

@@ -10,10 +10,10 @@ ghost use Rattle.mvs_job.specs.Explaining.{without_starred};
 ghost use Rattle.mvs_job.specs.Streams.{StopsText};
 
 use crate::explained::Explained;
+use crate::hints::AddressHints;
 use crate::laws::explained_are_printings;
 use crate::run::{RunFault, run_source};
 use crate::source::Source;
-use crate::hints::AddressHints;
 use mvs_model::outcome::Outcome;
 use mvs_model::want::Placement;
 use mvs_model::watched::Watched;

@@ -59,7 +59,7 @@ fn looked_at(job: &Job, had: bool, parts: u32) -> Baseline
 fn means(job: &Job, task: &Name, number: u8) -> bool
     ensures { result ≡ means job.now task.now number }
 {
-    job.step().machine().label_meant(task, number).is_some()
+    job.step().machine().resolved_owner(task, number).is_some()
 }
 
 // How many parts the pool of a name has.
@@ -108,7 +108,7 @@ fn area_fact(job: &Job, task: &Name, number: u8, area: &Name, least: u32, most: 
     let Some(place) = job.place_of(area) else {
         return None;
     };
-    let Some((number, owner)) = job.step().machine().label_meant(task, number) else {
+    let Some((number, owner)) = job.step().machine().resolved_owner(task, number) else {
         return None;
     };
     Some(Fact::Obtained {
@@ -145,7 +145,7 @@ fn subpool_fact(before: &Baseline, job: &Job, task: &Name, number: u8) -> Option
     if before.had {
         return None;
     }
-    let Some((number, owner)) = job.step().machine().label_meant(task, number) else {
+    let Some((number, owner)) = job.step().machine().resolved_owner(task, number) else {
         return None;
     };
     Some(Fact::NewSubpool { number, owner })
@@ -188,7 +188,7 @@ fn freed_fact(before: &Baseline, job: &Job) -> Option<Fact>
 fn emptied_fact(job: &Job, task: &Name, number: u8) -> Option<Fact>
     ensures { result ≡ emptied_fact job.now task.now number }
 {
-    let Some((number, owner)) = job.step().machine().label_meant(task, number) else {
+    let Some((number, owner)) = job.step().machine().resolved_owner(task, number) else {
         return None;
     };
     Some(Fact::Emptied { number, owner })
@@ -240,7 +240,7 @@ fn cell_fact(job: &Job, pool: &Name, cell: &Name) -> Option<Fact>
 fn subtask_fact(job: &Job, mother: &Name, subtask: &Name, number: SubNo) -> Option<Fact>
     ensures { result ≡ subtask_fact job.now mother.now subtask.now number }
 {
-    let Some((number, owner)) = job.step().machine().label_had(subtask, number) else {
+    let Some((number, owner)) = job.step().machine().entry_owner(subtask, number) else {
         return None;
     };
     if is_same(&owner, subtask) {

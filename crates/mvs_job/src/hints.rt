@@ -30,7 +30,7 @@ impl AddressHints {
     }
 
     /// Adds an address for the line with a number.
-    pub fn tell(&mut self, alloc: Global, line_number: u32, addr: Addr) -> Result<(), OutOfMemory> {
+    pub fn add(&mut self, alloc: Global, line_number: u32, addr: Addr) -> Result<(), OutOfMemory> {
         if let Some(addrs) = self.lines.get_mut(&line_number) {
             return addrs.push(addr).map_err(|_| OutOfMemory);
         }

@@ -24,7 +24,7 @@ ghost use Rattle.mvs_model.specs.Steps.{Step as MachineStep};
 ghost use Rattle.mvs_job.specs.Observing.{Fails, ObservesRequest, KeepsNamesAndFormer, Observes, Passes};
 
 use crate::observer::Observer;
-use job_script::{Names, resolve, set_names, unset};
+use job_script::{NamePlaces, resolve, set_names, unset};
 use job_step::Step;
 use mvs_model::answer::Answer;
 use mvs_model::card::Card;
@@ -43,7 +43,7 @@ use std::marker::Model;
 #[derive(Drop)]
 pub struct Job {
     step: Step,
-    names: Names,
+    names: NamePlaces,
     former: bool,
 }
 
@@ -168,7 +168,7 @@ impl Job {
         let step = Step::new(alloc, card, placement)?;
         Ok(Job {
             step,
-            names: Names::new(alloc),
+            names: NamePlaces::new(alloc),
             former,
         })
     }

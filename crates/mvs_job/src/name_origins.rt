@@ -131,7 +131,13 @@ fn comes_later(latest: &Option<NamedAddress>, number: u32) -> bool
 }
 
 // The later one of a name and the next, of those that have an address in their places.
-fn later(latest: Option<NamedAddress>, job: &Job, addr: Addr, name: &Name, number: u32) -> Option<NamedAddress>
+fn later(
+    latest: Option<NamedAddress>,
+    job: &Job,
+    addr: Addr,
+    name: &Name,
+    number: u32,
+) -> Option<NamedAddress>
     ensures { result ≡ later job.now addr latest (name.now, number) }
 {
     if !comes_later(&latest, number) {

@@ -15,7 +15,9 @@ use crate::printer::Printer;
 use crate::reports::{print_map, print_subpools};
 use crate::stream::fault_of;
 use crate::walk::{LineEvent, Walk};
-use job_script::{print_abend, print_data, print_fault, print_region, print_short_answer, print_step_end};
+use job_script::{
+    print_abend, print_data, print_fault, print_region, print_short_answer, print_step_end,
+};
 use mvs_model::answer::Answer;
 use mvs_model::line::Fault;
 use mvs_model::name::Name;

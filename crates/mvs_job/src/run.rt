@@ -12,10 +12,10 @@ ghost use Rattle.mvs_job.specs.Giving.{fault_text};
 ghost use Rattle.mvs_job.specs.Streams.{HasEnded, HasGivenUp};
 
 use crate::consumer::Consumer;
+use crate::hints::AddressHints;
 use crate::printer::Printer;
 use crate::source::Source;
-use crate::stream::{Stream, Progress};
-use crate::hints::AddressHints;
+use crate::stream::{Progress, Stream};
 use mvs_model::numbers::MOST_SCRIPT_BYTES;
 use mvs_model::outcome::Outcome;
 use mvs_model::want::Placement;

@@ -8,10 +8,10 @@ ghost use Rattle.mvs_job.specs.Streams.{Feeds, FeedsSome, Finishes, HasEnded, Ha
 
 use crate::consumer::Consumer;
 use crate::driver::{run_end, run_entry};
+use crate::hints::AddressHints;
 use crate::printing::Stop;
 use crate::run::RunFault;
 use crate::source::Source;
-use crate::hints::AddressHints;
 use crate::walk::Walk;
 use job_script::{LineBuffer, Pushed};
 use memchr::memchr;

@@ -7,8 +7,10 @@ ghost use Rattle.mvs_job.specs.Granting.{IsReadIn, before_line, granted_text, re
 ghost use Rattle.mvs_job.specs.LineEvents.{IsAvailable, WalkValue, events_of_line};
 ghost use Rattle.mvs_job.specs.Why.{IsRequestOf, IsSurvey, KeepsWhy, line_reason, unset_of};
 
-use crate::ends::{OwnedSubpools, no_subpools, collect_owned_subpools};
-use crate::granting::{Baseline, Facts, before_request, is_grant, no_facts, print_facts, put_facts};
+use crate::ends::{OwnedSubpools, collect_owned_subpools, no_subpools};
+use crate::granting::{
+    Baseline, Facts, before_request, is_grant, no_facts, print_facts, put_facts,
+};
 use crate::job::Job;
 use crate::observer::Observer;
 use crate::walk::{LineEvent, Walk};

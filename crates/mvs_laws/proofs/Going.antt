@@ -102,7 +102,7 @@ asks_some old t a (Some q) r all =
     let s = step_some old.state t q all (r q refl) in (
       _,
       record { state = s.1.0; names = all_set old.names (names_set a) (places_in s.0); abended = old.abended || is_abend s.0; former = old.former },
-      record { reply = s.0; step = s.1.1; meets = tt; names = refl; abended = refl; former = refl; told = refl },
+      record { reply = s.0; step = s.1.1; meets = tt; names = refl; abended = refl; former = refl; hints = refl },
     )
 
 says_some : (old : JobValue) (t : Name) (s : Statement) → IsOfStep s → IsStatement false t s → PoolsSized old.state → (answer : Answer) × (new : JobValue) × AnswersTo Any old t s answer new
@@ -207,9 +207,9 @@ module _ (all : List (List ℕ)) where
     at : (old : Option JobValue) (said : Line) → Reaches all events number old (l ∷ lines) → LineOf (is_first old) l said → TakesMemory old said more → Front (printing events ++ printing more)
     at old (line.Statement t (says.Region below above fill residence)) r is e =
         let card = card_of t below above fill residence in
-        let told = AnswerTo number t (Region card) ∷ [] in
+        let hints = AnswerTo number t (Region card) ∷ [] in
         let said = line.Statement t (says.Region below above fill residence) in
-        front_in_line events (ending machine old ++ told) (printing more) (printing told) number old _ l lines (printed_both (ending machine old) told ∙ ap (λ x. printing x ++ printing told) (sym e)) r (said, is, (refl, refl))
+        front_in_line events (ending machine old ++ hints) (printing more) (printing hints) number old _ l lines (printed_both (ending machine old) hints ∙ ap (λ x. printing x ++ printing hints) (sym e)) r (said, is, (refl, refl))
     at (Some job) (line.Statement t (says.Request a)) r is h = none (Some job) r h.0
     at None line.Nothing r is h = absurd h
     at (Some job) line.Nothing r is h = absurd h

@@ -40,11 +40,11 @@ Fails false old t code answer new = Abends old t code answer new
 
 -- An invalid subpool number abends; else all is granted, and the names are set.
 abbrev pub Obtains : Labels → Name → Form → ℕ → List ℕ → List Name → Answer → Answer → Labels → Type 0
-Obtains old t form n lengths areas told answer new =
+Obtains old t form n lengths areas hints answer new =
     MatchBool (is_invalid n)
     (Abends old t (bad_subpool (family form) true) answer new)
     ((mid : Labels) × GrantsEach old (keeper old.owners t n) n lengths mid
-    × AnswersWith told (record mid { names = all_named mid.names areas lengths old.count }) answer new)
+    × AnswersWith hints (record mid { names = all_named mid.names areas lengths old.count }) answer new)
 
 -- whether the places may be released from what the task has under a number
 abbrev pub may_free : Labels → Option ℕ → List Spot → Bool
@@ -190,11 +190,11 @@ module _ (old new : Labels) (t : Name) (answer : Answer) where
   settled true code s = s
   settled false code s = s
 
-  obtain_cases : (form : Form) (n : ℕ) (lengths : List ℕ) (areas : List Name) (told : Answer) → now.Obtains old t form n lengths areas told answer new → Obtains old t form n lengths areas told answer new
-  obtain_cases form n lengths areas told = by_when (Settled form true) _ InvalidNumber (is_invalid n) (λ s. s) (last (Settled form true) _)
+  obtain_cases : (form : Form) (n : ℕ) (lengths : List ℕ) (areas : List Name) (hints : Answer) → now.Obtains old t form n lengths areas hints answer new → Obtains old t form n lengths areas hints answer new
+  obtain_cases form n lengths areas hints = by_when (Settled form true) _ InvalidNumber (is_invalid n) (λ s. s) (last (Settled form true) _)
 
-  cases_obtain : (form : Form) (n : ℕ) (lengths : List ℕ) (areas : List Name) (told : Answer) → Obtains old t form n lengths areas told answer new → now.Obtains old t form n lengths areas told answer new
-  cases_obtain form n lengths areas told = when_by (Settled form true) _ InvalidNumber (is_invalid n) (λ s. s) (first (Settled form true) _)
+  cases_obtain : (form : Form) (n : ℕ) (lengths : List ℕ) (areas : List Name) (hints : Answer) → Obtains old t form n lengths areas hints answer new → now.Obtains old t form n lengths areas hints answer new
+  cases_obtain form n lengths areas hints = when_by (Settled form true) _ InvalidNumber (is_invalid n) (λ s. s) (first (Settled form true) _)
 
   module _ (form : Form) where
     out : (r : Refusal) → (r ≡ NoSubpool) ⊎ ((r ≡ NotHeld) ⊎ (r ≡ Overlap)) → Settled form false r → Fails (is_conditional form) old t (not_held (family form)) answer new

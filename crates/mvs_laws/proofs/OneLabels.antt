@@ -44,11 +44,11 @@ module _ (old : Labels) (t : Name) (answer other : Answer) (a b : Labels) where
   abbrev pub One : Type 0
   One = (answer ≡ other) × (a ≡ b)
 
-  tells_one : (told : Answer) (after : Labels) → AnswersWith told after answer a → AnswersWith told after other b → One
-  tells_one told after x y = (x.0 ∙ sym y.0, x.1 ∙ sym y.1)
+  tells_one : (hints : Answer) (after : Labels) → AnswersWith hints after answer a → AnswersWith hints after other b → One
+  tells_one hints after x y = (x.0 ∙ sym y.0, x.1 ∙ sym y.1)
 
-  tells_two : (told : Answer) (after later : Labels) → after ≡ later → AnswersWith told after answer a → AnswersWith told later other b → One
-  tells_two told after later e x y = (x.0 ∙ sym y.0, x.1 ∙ e ∙ sym y.1)
+  tells_two : (hints : Answer) (after later : Labels) → after ≡ later → AnswersWith hints after answer a → AnswersWith hints later other b → One
+  tells_two hints after later e x y = (x.0 ∙ sym y.0, x.1 ∙ e ∙ sym y.1)
 
   abends_one : (code : Code) → Abends old t code answer a → Abends old t code other b → One
   abends_one code x y =
@@ -61,9 +61,9 @@ module _ (old : Labels) (t : Name) (answer other : Answer) (a b : Labels) where
   fails_one true code x y = tells_one tells.Rc4 old x y
   fails_one false code x y = abends_one code x y
 
-  obtains_one : (form : Form) (n : ℕ) (ns : List ℕ) (areas : List Name) (told : Answer) → Obtains old t form n ns areas told answer a → Obtains old t form n ns areas told other b → One
-  obtains_one form n ns areas told x y = by_two (is_invalid n) x y (λ p q. abends_one _ p q) (λ p q.
-      tells_two told _ _ (ap named (grants_each_one (keeper old.owners t n) n ns old p.0 q.0 p.1 q.1)) p.2 q.2) where
+  obtains_one : (form : Form) (n : ℕ) (ns : List ℕ) (areas : List Name) (hints : Answer) → Obtains old t form n ns areas hints answer a → Obtains old t form n ns areas hints other b → One
+  obtains_one form n ns areas hints x y = by_two (is_invalid n) x y (λ p q. abends_one _ p q) (λ p q.
+      tells_two hints _ _ (ap named (grants_each_one (keeper old.owners t n) n ns old p.0 q.0 p.1 q.1)) p.2 q.2) where
         named : Labels → Labels
         named m = record m { names = all_named m.names areas ns old.count }
 

@@ -17,7 +17,7 @@ use Rattle.mvs_model.specs.Changes.{Drops, Extends, GrantTo, ShortOf, with_part}
 use Rattle.mvs_model.specs.Codes.{bad_subpool, family, is_conditional, short}
 use Rattle.mvs_model.specs.Place.{PlaceValue}
 use Rattle.mvs_model.specs.Pools.{Pool}
-use Rattle.mvs_laws.specs.Sparing.{GrantsSpare, OwnerStays, Spares}
+use Rattle.mvs_laws.specs.LeavesUntouched.{GrantsSpare, OwnerStays, LeavesUntouched}
 use Rattle.mvs_model.specs.Consequences.{Abends, Refuses}
 use Rattle.mvs_model.proofs.ByCase.{Acts, Fails}
 use Rattle.mvs_model.specs.Requests.{is_invalid, new_pool, side_for}
@@ -322,6 +322,6 @@ grants_spare job is a t form number ask p new step = at (is_active job.state.own
   obtained false (inl f) = absurd (no_refusal (is_conditional form) _ f.1)
   obtained false (inr g) = let same : g.0 ≡ p = (let e : Obtained p ≡ Obtained g.0 = g.1 in cc) in spared (subst (λ q. GrantTo job.state (keeper job.state.owners t number) number (want_of ask (side_for job.state t form ask.loc)) q new) same g.2)
 
-  at : (c : Bool) → MatchBool (not c) (Refuses job.state NotRun (Obtained p) new) (Acts job.state t (Obtain form number ask) (Obtained p) new) → Spares job.state t a (Obtain form number ask) × OwnerStays job.state a new
+  at : (c : Bool) → MatchBool (not c) (Refuses job.state NotRun (Obtained p) new) (Acts job.state t (Obtain form number ask) (Obtained p) new) → LeavesUntouched job.state t a (Obtain form number ask) × OwnerStays job.state a new
   at true h = (tt, obtained (is_invalid number) h)
   at false h = absurd (let e : Obtained p ≡ NotRun = h.0 in cc)

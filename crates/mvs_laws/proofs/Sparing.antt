@@ -11,7 +11,7 @@ use Rattle.mvs_model.proofs.StepCases.{step_cases}
 use Rattle.mvs_model.specs.declared.line.Line.TheVariants as line
 use Rattle.mvs_model.specs.declared.line.Statement.TheVariants as says
 use Rattle.mvs_model.specs.Gifts.{GiftsValue}
-use Rattle.mvs_model.specs.Finite.{has, kept}
+use Rattle.mvs_model.specs.Finite.{has, filtered}
 use Rattle.mvs_model.specs.Place.{PlaceValue, place_at}
 use Rattle.mvs_model.specs.Want.{WantValue, want_of, fixed_want, side_of}
 use Rattle.mvs_model.specs.Storage.{Chosen, Covers, has_address}
@@ -30,7 +30,7 @@ use Rattle.mvs_model.specs.Resolving.{resolved}
 use Rattle.mvs_model.specs.Answers.{Answer, Event}
 use Rattle.mvs_model.specs.Walk.{Serves}
 use Rattle.mvs_model.specs.Runs.{Asks, AnswersTo, Does, Any, machine}
-use Rattle.mvs_laws.specs.Sparing.{Spares, OwnerStays, StatementSpares, LineSpares, RunsSparing, BytesStay}
+use Rattle.mvs_laws.specs.LeavesUntouched.{LeavesUntouched, OwnerStays, StatementSpares, LineSpares, RunsSparing, BytesStay}
 use Rattle.mvs_laws.proofs.Going.{line_keeps, running_keeps, start_sized}
 use Rattle.mvs_laws.proofs.Walking.{served_in}
 use Rattle.mvs_laws.proofs.PartsApart.{StaysApart, apart_closed, start_apart}
@@ -97,7 +97,7 @@ module _ (old : State) (apart : Apart old) (a b : ℕ) (is : get old.bytes a ≡
   end_spares t new e stays = drops_spare (ends_with old.owners t e.fallen) new e.drops (λ s h. at s h (get old.owners.owner s) refl) where
     inactive : (u : Name) → is_among_ended t e.fallen u ≡ true → is_active new.owners u ≡ false
     inactive u f = ap is_some (e.owners.tasks u) ∙ gone (get old.owners.tasks u) where
-      gone : (o : Option Task) → is_some (kept (λ _. not (is_among_ended t e.fallen u)) o) ≡ false
+      gone : (o : Option Task) → is_some (filtered (λ _. not (is_among_ended t e.fallen u)) o) ≡ false
       gone None = refl
       gone (Some x) = ap (λ c. is_some (cond (not c) (Some x) None)) f
 
@@ -217,7 +217,7 @@ list_spares t number [] (p ∷ ps) old new a b apart is h = absurd h
 list_spares t number (want ∷ wants) [] old new a b apart is h = absurd h
 list_spares t number (want ∷ wants) (p ∷ ps) old new a b apart is h = grind (arith, nat_tests, grant_spares, grant_apart, list_spares t number wants ps h.0 new a b (grant_apart old h.0 t number want p h.1 apart) (grant_spares old apart a b is t number want p h.0 h.1) h.2)
 
-acts : (old : State) (t : Name) (request : Request) (reply : Reply) (new : State) (a b : ℕ) → Apart old → get old.bytes a ≡ Some b → Spares old t a request → OwnerStays old a new → Acts old t request reply new → get new.bytes a ≡ Some b
+acts : (old : State) (t : Name) (request : Request) (reply : Reply) (new : State) (a b : ℕ) → Apart old → get old.bytes a ≡ Some b → LeavesUntouched old t a request → OwnerStays old a new → Acts old t request reply new → get new.bytes a ≡ Some b
 acts old t (Obtain form number ask) reply new a b apart is out stays h = obtains old apart a b is t form number (want_of ask (side_for old t form ask.loc)) reply new h stays
 acts old t (ObtainList form number lengths start) reply new a b apart is out stays h =
     by_test (is_invalid number) h (λ _ k. abends old apart a b is t _ reply new k stays)
@@ -248,7 +248,7 @@ active_or_not c h1 h2 h3 = grind (arith, common_steps)
 
 module _ (a b : ℕ) where
   asks_spare : (old : JobValue) (t : Name) (w : Written) (o : Option Request) (answer : Answer) (new : JobValue) → Apart old.state → get old.state.bytes a ≡ Some b
-      → is_active old.state.owners t ≡ true → ((request : Request) → o ≡ Some request → Spares old.state t a request × OwnerStays old.state a new.state) → Asks Any old t w o answer new → get new.state.bytes a ≡ Some b
+      → is_active old.state.owners t ≡ true → ((request : Request) → o ≡ Some request → LeavesUntouched old.state t a request × OwnerStays old.state a new.state) → Asks Any old t w o answer new → get new.state.bytes a ≡ Some b
   asks_spare old t w None answer new apart is active out h = ap (λ job. get job.state.bytes a) h.1 ∙ is
   asks_spare old t w (Some request) answer new apart is active out h =
       let k = out request refl in

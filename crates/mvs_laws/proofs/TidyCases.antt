@@ -35,10 +35,10 @@ pub record Made (job new : JobValue) (a : Written) (r : Request) (reply : Reply)
   pub names : new.names ≡ all_set job.names (names_set a) (places_in reply)
   pub abended : new.abended ≡ (job.abended || is_abend reply)
   pub former : new.former ≡ job.former
-  pub told : answer ≡ answer_of job.state a r reply
+  pub hints : answer ≡ answer_of job.state a r reply
 
 pub made_of : (job new : JobValue) (t : Name) (a : Written) (r : Request) (answer : Answer) (k : Makes InFull job t a r answer new) → Made job new a r k.reply answer
-made_of job new t a r answer k = record { names = k.names; abended = k.abended; former = k.former; told = k.told }
+made_of job new t a r answer k = record { names = k.names; abended = k.abended; former = k.former; hints = k.hints }
 
 -- the labels that a relation allows, linked with the job
 abbrev pub Linked : JobValue → (Labels → Type 0) → Type 0
@@ -74,7 +74,7 @@ module _ (job new : JobValue) (m : Labels) (k : Link job m) (t : Name) (a : Writ
       let now = turned reply (Abended code h.0.fallen) h.1 made in
       let e = ends true h.0 (now.names ∙ none_set job (names_set a)) true (now.abended ∙ or-true job.abended) now.former h.0 in (
         record (without m (λ l i. ends_with m.owners t h.0.fallen (m.subpool l))) { owners = new.state.owners; abended = true },
-        (h.0.fallen, record (without m (λ l i. ends_with m.owners t h.0.fallen (m.subpool l))) { owners = new.state.owners }, e.0, (now.told, refl)),
+        (h.0.fallen, record (without m (λ l i. ends_with m.owners t h.0.fallen (m.subpool l))) { owners = new.state.owners }, e.0, (now.hints, refl)),
         e.1,
       )
 
@@ -85,11 +85,11 @@ module _ (job new : JobValue) (m : Labels) (k : Link job m) (t : Name) (a : Writ
   pub same_names : (reply : Reply) → Plain reply → Replied reply → (new.names ≡ job.names) × (new.abended ≡ job.abended) × (new.former ≡ job.former)
   same_names reply p h = (h.names ∙ ap (all_set job.names (names_set a)) p.0 ∙ none_set job (names_set a), h.abended ∙ ap (λ b. job.abended || b) p.1 ∙ or-false job.abended, h.former)
 
-  pub refuses : (wanted reply : Reply) (told : Answer) → Plain wanted → answer_of job.state a r wanted ≡ told → Replied reply → Refuses job.state wanted reply new.state → Linked new (labels.AnswersWith told m answer)
-  refuses wanted reply told p said made h =
+  pub refuses : (wanted reply : Reply) (hints : Answer) → Plain wanted → answer_of job.state a r wanted ≡ hints → Replied reply → Refuses job.state wanted reply new.state → Linked new (labels.AnswersWith hints m answer)
+  refuses wanted reply hints p said made h =
       let now = turned reply wanted h.0 made in
       let s = same_names wanted p now in
-      (m, (now.told ∙ said, refl), link_same h.1 s.0 s.1 s.2)
+      (m, (now.hints ∙ said, refl), link_same h.1 s.0 s.1 s.2)
 
   pub fails : (conditional : Bool) (code : Code) (reply : Reply) → Replied reply → Fails conditional job.state t code reply new.state → Linked new (cases.Fails conditional m t code answer)
   fails true code reply made h = refuses Rc4 reply tells.Rc4 (refl, refl) refl made h
@@ -100,32 +100,32 @@ module _ (job new : JobValue) (m : Labels) (k : Link job m) (t : Name) (a : Writ
   not_short conditional form reply h1 h2 h3 = grind (arith, common_steps)
 
   -- all that is granted is named
-  obtained : (number_of : ℕ) (form : Form) (ns : List ℕ) (areas : List Name) (ps : List PlaceValue) (told : Answer) → is_invalid number_of ≡ false → new.names ≡ all_set job.names areas ps → new.abended ≡ job.abended → new.former ≡ job.former → answer ≡ told
-      → (mid : Labels) (later : Link (at_state job new.state) mid) → GrantsEach m (keeper m.owners t number_of) number_of ns mid → Placed later.base mid.len mid.count ns ps m.count → Linked new (cases.Obtains m t form number_of ns areas told answer)
-  obtained n form ns areas ps told valid names abended former said mid later grants placed = (
+  obtained : (number_of : ℕ) (form : Form) (ns : List ℕ) (areas : List Name) (ps : List PlaceValue) (hints : Answer) → is_invalid number_of ≡ false → new.names ≡ all_set job.names areas ps → new.abended ≡ job.abended → new.former ≡ job.former → answer ≡ hints
+      → (mid : Labels) (later : Link (at_state job new.state) mid) → GrantsEach m (keeper m.owners t number_of) number_of ns mid → Placed later.base mid.len mid.count ns ps m.count → Linked new (cases.Obtains m t form number_of ns areas hints answer)
+  obtained n form ns areas ps hints valid names abended former said mid later grants placed = (
     record mid { names = all_named mid.names areas ns m.count },
-    match_false _ ((x : Labels) × GrantsEach m (keeper m.owners t n) n ns x × labels.AnswersWith told (record x { names = all_named x.names areas ns m.count }) answer (record mid { names = all_named mid.names areas ns m.count })) (is_invalid n) valid (mid, grants, (said, refl)),
+    match_false _ ((x : Labels) × GrantsEach m (keeper m.owners t n) n ns x × labels.AnswersWith hints (record x { names = all_named x.names areas ns m.count }) answer (record mid { names = all_named mid.names areas ns m.count })) (is_invalid n) valid (mid, grants, (said, refl)),
     link_named (at_state job new.state) new mid later (all_named mid.names areas ns m.count) refl abended former
         (subst (λ x. Agrees later.base mid.len mid.count x (all_named mid.names areas ns m.count)) (sym names)
         (agrees_all later.base mid.len mid.count areas ns ps m.count job.names mid.names (record { place = later.names; low = later.labels.named }) placed)),
   )
 
-  bad : (form : Form) (n : ℕ) (ns : List ℕ) (areas : List Name) (told : Answer) → is_invalid n ≡ true → Linked new (labels.Abends m t (bad_subpool (family form) true) answer) → Linked new (cases.Obtains m t form n ns areas told answer)
-  bad form n ns areas told invalid l = (l.0, match_true (labels.Abends m t (bad_subpool (family form) true) answer l.0) _ (is_invalid n) invalid l.1, l.2)
+  bad : (form : Form) (n : ℕ) (ns : List ℕ) (areas : List Name) (hints : Answer) → is_invalid n ≡ true → Linked new (labels.Abends m t (bad_subpool (family form) true) answer) → Linked new (cases.Obtains m t form n ns areas hints answer)
+  bad form n ns areas hints invalid l = (l.0, match_true (labels.Abends m t (bad_subpool (family form) true) answer l.0) _ (is_invalid n) invalid l.1, l.2)
 
-  pub obtains : (form : Form) (n most : ℕ) (want : WantValue) (area : Name) (told : Answer) (reply : Reply) → names_set a ≡ area ∷ []
-      → ((p : PlaceValue) → p.len ≡ round8 most → answer_of job.state a r (Obtained p) ≡ told) → IsInFull r reply → (reply ≡ Rc4 → ⊥) → ((p : PlaceValue) → reply ≡ Obtained p → p.len ≡ round8 most)
-      → Replied reply → ObtainStep job.state t form n want reply new.state → Linked new (cases.Obtains m t form n (most ∷ []) (area ∷ []) told answer)
-  obtains form n most want area told reply sets said full answered largest made h =
+  pub obtains : (form : Form) (n most : ℕ) (want : WantValue) (area : Name) (hints : Answer) (reply : Reply) → names_set a ≡ area ∷ []
+      → ((p : PlaceValue) → p.len ≡ round8 most → answer_of job.state a r (Obtained p) ≡ hints) → IsInFull r reply → (reply ≡ Rc4 → ⊥) → ((p : PlaceValue) → reply ≡ Obtained p → p.len ≡ round8 most)
+      → Replied reply → ObtainStep job.state t form n want reply new.state → Linked new (cases.Obtains m t form n (most ∷ []) (area ∷ []) hints answer)
+  obtains form n most want area hints reply sets said full answered largest made h =
       by_test (is_invalid n) h
-      (λ invalid x. bad form n (most ∷ []) (area ∷ []) told invalid (abends _ reply made x))
+      (λ invalid x. bad form n (most ∷ []) (area ∷ []) hints invalid (abends _ reply made x))
       (λ valid x. elim x [
         | inl s ↦ absurd (not_short (is_conditional form) form reply full answered s.1)
         | inr g ↦
             let now = turned reply (Obtained g.0) g.1 made in
             let size = largest g.0 g.1 in
             let one = grant_one job m k (keeper m.owners t n) n (round8 most) want g.0 new.state (subst (λ o. GrantTo job.state (keeper o t n) n want g.0 new.state) k.owners g.2) size in
-            obtained n form (most ∷ []) (area ∷ []) (g.0 ∷ []) told valid (now.names ∙ ap (λ names. all_set job.names names (g.0 ∷ [])) sets) (now.abended ∙ or-false job.abended) now.former (now.told ∙ said g.0 size)
+            obtained n form (most ∷ []) (area ∷ []) (g.0 ∷ []) hints valid (now.names ∙ ap (λ names. all_set job.names names (g.0 ∷ [])) sets) (now.abended ∙ or-false job.abended) now.former (now.hints ∙ said g.0 size)
             one.0 one.1 (one.0, one.2, refl) (one.4, (let c : one.0.count ≡ m.count + 1 = one.5 in omega (arith, c)), tt)
       ])
 
@@ -140,6 +140,6 @@ module _ (job new : JobValue) (m : Labels) (k : Link job m) (t : Name) (a : Writ
         | inr g ↦
             let now = turned reply (Listed g.0) g.1 made in
             let all = grant_each (keeper m.owners t n) n ns wants g.0 new.state job m k fixed (subst (λ o. ListGrant job.state (keeper o t n) n wants g.0 new.state) k.owners g.2) in
-            obtained n form ns areas g.0 tells.Rc0 valid (now.names ∙ ap (λ names. all_set job.names names g.0) sets) (now.abended ∙ or-false job.abended) now.former (now.told ∙ said g.0)
+            obtained n form ns areas g.0 tells.Rc0 valid (now.names ∙ ap (λ names. all_set job.names names g.0) sets) (now.abended ∙ or-false job.abended) now.former (now.hints ∙ said g.0)
             all.0 all.1 all.2 all.4
       ])

@@ -38,10 +38,10 @@ Answers old (s ∷ ss) [] new = ⊥
 Answers old (s ∷ ss) (a ∷ answers) new = IsOfStep s.1 × IsTidy old s.0 s.1 × ((mid : Labels) × Does old s.0 s.1 a mid × Answers mid ss answers new)
 
 -- what is told then, from a line on
-abbrev pub told : ℕ → List (Name × Statement) → List Answer → List Event
-told number [] answers = []
-told number (s ∷ ss) [] = []
-told number (s ∷ ss) (a ∷ answers) = AnswerTo number s.0 a ∷ told (number + 1) ss answers
+abbrev pub hints : ℕ → List (Name × Statement) → List Answer → List Event
+hints number [] answers = []
+hints number (s ∷ ss) [] = []
+hints number (s ∷ ss) (a ∷ answers) = AnswerTo number s.0 a ∷ hints (number + 1) ss answers
 
 -- what a line says that is read so is tidy
 line_tidy : (m : Labels) (l : List ℕ) (t : Name) (s : Statement) → LineOf false l (line.Statement t s) → IsTidy m t s → TidyLine (Some m) l
@@ -51,7 +51,7 @@ abbrev pub outcome_of : Labels → Outcome
 outcome_of m = cond (m.abended || m.former) SomeAbend Clean
 
 walked : (lines : List (List ℕ)) (ss : List (Name × Statement)) (answers : List Answer) (number : ℕ) (old new : Labels) → ReadsAs false lines ss → Answers old ss answers new
-    → TidyLines number (Some old) lines × Walks label_machine (JobEnds label_machine (outcome_of new)) number (Some old) lines (told number ss answers ++ StepEnded new.abended ∷ [])
+    → TidyLines number (Some old) lines × Walks label_machine (JobEnds label_machine (outcome_of new)) number (Some old) lines (hints number ss answers ++ StepEnded new.abended ∷ [])
 walked [] [] [] number old new r w = (tt, (ap (λ m. StepEnded m.abended ∷ []) w, ap outcome_of w))
 walked [] [] (a ∷ answers) number old new r w = absurd w
 walked [] (s ∷ ss) answers number old new r w = absurd r
@@ -62,7 +62,7 @@ walked (l ∷ lines) (s ∷ ss) (a ∷ answers) number old new r w =
     let serves : ServesLine label_machine number (Some old) l (AnswerTo number s.0 a ∷ []) (Some mid) = (line.Statement s.0 s.1, r.0, steps_serve label_machine number old s.0 s.1 (AnswerTo number s.0 a ∷ []) (Some mid) w.0 (a, mid, w.2.1, refl, refl)) in
     let rest = walked lines ss answers (number + 1) mid new r.1 w.2.2 in (
       (line_tidy old l s.0 s.1 r.0 w.1, λ events later h. subst (λ m. TidyLines (number + 1) m lines) (line_one number (Some old) l (AnswerTo number s.0 a ∷ []) events (Some mid) later serves h).1 rest.0),
-      inr (Some mid, AnswerTo number s.0 a ∷ [], told (number + 1) ss answers ++ StepEnded new.abended ∷ [], serves, refl, rest.1),
+      inr (Some mid, AnswerTo number s.0 a ∷ [], hints (number + 1) ss answers ++ StepEnded new.abended ∷ [], serves, refl, rest.1),
     )
 
 -- the labels at the start of the examples
@@ -71,17 +71,17 @@ moves_start = first_labels (card_of job 1 0 0 Below) false
 
 -- all that is told of an example
 abbrev pub all_told : List (Name × Statement) → List Answer → Bool → List Event
-all_told ss answers abended = AnswerTo 1 job (Region (card_of job 1 0 0 Below)) ∷ told 2 ss answers ++ StepEnded abended ∷ []
+all_told ss answers abended = AnswerTo 1 job (Region (card_of job 1 0 0 Below)) ∷ hints 2 ss answers ++ StepEnded abended ∷ []
 
 pub shows : (ss : List (Name × Statement)) (answers : List Answer) (new : Labels) (abended : Bool) → new.abended ≡ abended → Answers moves_start ss answers new
     → ShowsTidy ((job, one_page) ∷ ss) (printing (all_told ss answers abended))
 shows ss answers new abended e w script r = at (lines_of script) r where
-  at : (lines : List (List ℕ)) → ReadsAs true lines ((job, one_page) ∷ ss) → TidyLines 1 None lines × ((told : List Event) × (outcome : Outcome) × Walks label_machine (JobEnds label_machine outcome) 1 None lines told × (printing (all_told ss answers abended) ≡ printing told))
+  at : (lines : List (List ℕ)) → ReadsAs true lines ((job, one_page) ∷ ss) → TidyLines 1 None lines × ((hints : List Event) × (outcome : Outcome) × Walks label_machine (JobEnds label_machine outcome) 1 None lines hints × (printing (all_told ss answers abended) ≡ printing hints))
   at [] r = absurd r
   at (l ∷ lines) r =
       let serves : ServesLine label_machine 1 None l (AnswerTo 1 job (Region (card_of job 1 0 0 Below)) ∷ []) (Some moves_start) = (line.Statement job one_page, r.0, (refl, refl)) in
       let rest = walked lines ss answers 2 moves_start new r.1 w in (
-        (tt, λ told later h. subst (λ m. TidyLines 2 m lines) (line_one 1 None l (AnswerTo 1 job (Region (card_of job 1 0 0 Below)) ∷ []) told (Some moves_start) later serves h).1 rest.0),
+        (tt, λ hints later h. subst (λ m. TidyLines 2 m lines) (line_one 1 None l (AnswerTo 1 job (Region (card_of job 1 0 0 Below)) ∷ []) hints (Some moves_start) later serves h).1 rest.0),
         (all_told ss answers new.abended, outcome_of new, inr (Some moves_start, _, _, serves, refl, rest.1), ap (λ b. printing (all_told ss answers b)) (sym e)),
       )
 

@@ -103,7 +103,7 @@ area_of m name = option_map (λ l. spot l 0 (m.len l)) (get m.names name)
 
 -- This is answered, and the labels are then these.
 abbrev pub AnswersWith : Answer → Labels → Answer → Labels → Type 0
-AnswersWith told after answer new = (answer ≡ told) × (new ≡ after)
+AnswersWith hints after answer new = (answer ≡ hints) × (new ≡ after)
 
 -- the labels without the bytes at the offsets that pass a test
 abbrev pub without : Labels → (ℕ → ℕ → Bool) → Labels
@@ -165,9 +165,9 @@ all_named names (name ∷ more) (n ∷ lengths) l = all_named (insert names name
 
 -- Where its number may be named, all is granted, and the names are set: the label machine has storage for everything.
 abbrev pub Obtains : Labels → Name → Form → ℕ → List ℕ → List Name → Answer → Answer → Labels → Type 0
-Obtains old t form n lengths areas told answer new =
+Obtains old t form n lengths areas hints answer new =
     Tries old t form true (number_causes n)
-    ((mid : Labels) × GrantsEach old (keeper old.owners t n) n lengths mid × AnswersWith told (record mid { names = all_named mid.names areas lengths old.count }) answer new)
+    ((mid : Labels) × GrantsEach old (keeper old.owners t n) n lengths mid × AnswersWith hints (record mid { names = all_named mid.names areas lengths old.count }) answer new)
     answer new
 
 -- All of the places are gone.

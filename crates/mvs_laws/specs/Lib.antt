@@ -3,7 +3,7 @@ pub mod Labels
 pub mod Tidy
 pub mod Going
 pub mod Laws
-pub mod Sparing
+pub mod LeavesUntouched
 pub mod TidyExamples
 pub mod Examples
 pub mod Refusals

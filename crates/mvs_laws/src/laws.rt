@@ -2,7 +2,7 @@
 
 ghost use Rattle.mvs_laws.specs.Laws.{PagesHaveOneSubpool, NeverStuck, PartsApart, StaysWellFormed, EachIsPrinted, SameFault};
 ghost use Rattle.mvs_laws.specs.Refusals.{AttemptsAreSteps, EachOneRefusal, ReasonsDecideReplies, RefusalsDecideReplies};
-ghost use Rattle.mvs_laws.specs.Sparing.{BytesStay, GrantsSpare};
+ghost use Rattle.mvs_laws.specs.LeavesUntouched.{BytesStay, GrantsSpare};
 ghost use Rattle.mvs_laws.specs.Tidy.{OneLabelRun, PlacesAreNotPrinted, PlacesDoNotMatter, TidyRun, TidyStep, TidyText};
 ghost use Rattle.mvs_laws.specs.TidyExamples.{BusyReturn, GivenEnds, MovesInFull, MovesOverlap};
 ghost use Rattle.mvs_model.specs.Determined.{OneStep, NothingPicked, ListEitherWay, HasPlaces, PlacesDetermine, HintsDecide, TakingObeys};

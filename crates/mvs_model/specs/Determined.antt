@@ -110,7 +110,7 @@ Needs at old t r reply new = (picked r reply new ≡ at) × (at ≡ [] → (othe
 
 -- The step picks the hinted addresses, if some step does.
 abbrev pub Obeys : Entered
-Obeys told old t r reply new = told ≢ [] → (other : Reply) (later : State) → Step old t r other later → picked r other later ≡ told → picked r reply new ≡ told
+Obeys hints old t r reply new = hints ≢ [] → (other : Reply) (later : State) → Step old t r other later → picked r other later ≡ hints → picked r reply new ≡ hints
 
 -- A run that obeys the addresses of another one, which refuses no list that could be granted, has the same events.
 abbrev pub HintsDecide : Type 0
@@ -120,30 +120,30 @@ HintsDecide =
 
 -- A grant uses the hinted address, if a place there can be granted.
 abbrev pub FollowsHint : State → Name → ℕ → WantValue → ℕ → PlaceValue → Type 0
-FollowsHint old t number want told p = (q : PlaceValue) (later : State) → GrantTo old t number want q later → q.addr ≡ told → p.addr ≡ told
+FollowsHint old t number want hints p = (q : PlaceValue) (later : State) → GrantTo old t number want q later → q.addr ≡ hints → p.addr ≡ hints
 
 -- Grants one after another, each of which uses its hint.
 abbrev pub ListFollowsHints : State → Name → ℕ → List WantValue → List ℕ → List PlaceValue → State → Type 0
-ListFollowsHints old t number [] told [] new = new ≡ old
-ListFollowsHints old t number [] told (p ∷ ps) new = ⊥
-ListFollowsHints old t number (want ∷ wants) told [] new = ⊥
+ListFollowsHints old t number [] hints [] new = new ≡ old
+ListFollowsHints old t number [] hints (p ∷ ps) new = ⊥
+ListFollowsHints old t number (want ∷ wants) hints [] new = ⊥
 ListFollowsHints old t number (want ∷ wants) [] (p ∷ ps) new = ⊥
-ListFollowsHints old t number (want ∷ wants) (a ∷ told) (p ∷ ps) new =
-    (mid : State) × GrantTo old t number want p mid × FollowsHint old t number want a p × ListFollowsHints mid t number wants told ps new
+ListFollowsHints old t number (want ∷ wants) (a ∷ hints) (p ∷ ps) new =
+    (mid : State) × GrantTo old t number want p mid × FollowsHint old t number want a p × ListFollowsHints mid t number wants hints ps new
 
 -- Such grants for some of the front leave no place for the next.
 abbrev pub ListStops : State → Name → ℕ → List WantValue → List ℕ → Type 0
-ListStops old t number [] told = ⊥
+ListStops old t number [] hints = ⊥
 ListStops old t number (want ∷ wants) [] = ⊥
-ListStops old t number (want ∷ wants) (a ∷ told) =
-    ShortOf old t number want ⊎ ((p : PlaceValue) × (mid : State) × GrantTo old t number want p mid × FollowsHint old t number want a p × ListStops mid t number wants told)
+ListStops old t number (want ∷ wants) (a ∷ hints) =
+    ShortOf old t number want ⊎ ((p : PlaceValue) × (mid : State) × GrantTo old t number want p mid × FollowsHint old t number want a p × ListStops mid t number wants hints)
 
 -- A request for an area obeys if it uses its hint. A request for a list obeys if each member does, and it is refused only if no
 -- list can be granted at these addresses.
 pub record TakingObeys : Type 0 where
   pub area : (old : State) (t : Name) (form : Form) (number : ℕ) (ask : AskValue) (a : ℕ) (p : PlaceValue) (new : State)
       → FollowsHint old (keeper old.owners t number) number (want_of ask (side_for old t form ask.loc)) a p → Obeys (a ∷ []) old t (request.Obtain form number ask) (Obtained p) new
-  pub areas : (old : State) (t : Name) (form : Form) (number : ℕ) (lengths : List ℕ) (start : ℕ) (told : List ℕ) (ps : List PlaceValue) (new : State)
-      → ListFollowsHints old (keeper old.owners t number) number (map (λ n. fixed_want n start Below) lengths) told ps new → Obeys told old t (request.ObtainList form number lengths start) (Listed ps) new
-  pub stops : (old : State) (t : Name) (form : Form) (number : ℕ) (lengths : List ℕ) (start : ℕ) (told : List ℕ) (reply : Reply) (new : State)
-      → list_all (λ n. nat_le 1 n) lengths ≡ true → ListStops old (keeper old.owners t number) number (map (λ n. fixed_want n start Below) lengths) told → Obeys told old t (request.ObtainList form number lengths start) reply new
+  pub areas : (old : State) (t : Name) (form : Form) (number : ℕ) (lengths : List ℕ) (start : ℕ) (hints : List ℕ) (ps : List PlaceValue) (new : State)
+      → ListFollowsHints old (keeper old.owners t number) number (map (λ n. fixed_want n start Below) lengths) hints ps new → Obeys hints old t (request.ObtainList form number lengths start) (Listed ps) new
+  pub stops : (old : State) (t : Name) (form : Form) (number : ℕ) (lengths : List ℕ) (start : ℕ) (hints : List ℕ) (reply : Reply) (new : State)
+      → list_all (λ n. nat_le 1 n) lengths ≡ true → ListStops old (keeper old.owners t number) number (map (λ n. fixed_want n start Below) lengths) hints → Obeys hints old t (request.ObtainList form number lengths start) reply new

@@ -1,7 +1,7 @@
 -- The machine: its numbers, its types' values, storage, owners, pools, steps.
 pub mod Numbers
 pub mod Name
-pub mod Newest
+pub mod LastPart
 pub mod NextOwned
 pub mod Place
 pub mod Subpool

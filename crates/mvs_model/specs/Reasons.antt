@@ -7,9 +7,9 @@ use Rattle.mvs_model.specs.declared.request.Request.{Request}
 use Rattle.mvs_model.specs.declared.request.Request.TheVariants.{Obtain, ObtainList, Release, ReleaseList, ReleaseWhole, Build, Get, Free, Attach, Abend, Show, Put, Move}
 use Rattle.mvs_model.specs.declared.reason.Holder.{Holder}
 use Rattle.mvs_model.specs.declared.reason.Holder.TheVariants.{Nobody, Subpool, Unowned, Part}
-use Rattle.mvs_model.specs.declared.reason.CellSpot.{CellSpot}
-use Rattle.mvs_model.specs.declared.reason.CellSpot.TheVariants.{Untaken, Inside, Elsewhere}
-use Rattle.mvs_model.specs.declared.reason.Room.{Room}
+use Rattle.mvs_model.specs.declared.reason.CellPosition.{CellPosition}
+use Rattle.mvs_model.specs.declared.reason.CellPosition.TheVariants.{Untaken, Inside, Elsewhere}
+use Rattle.mvs_model.specs.declared.reason.FreeSpace.{FreeSpace}
 use Rattle.mvs_model.specs.declared.reason.Shortfall.{Shortfall}
 use Rattle.mvs_model.specs.declared.reason.Reason.{Reason}
 use Rattle.mvs_model.specs.declared.reason.Reason.TheVariants.{NotActive, InvalidNumber, Shortage, NoMember, NoPart, OffDoubleword, NoSubpool, NotHeld, Overlap, WholeOfZero, PoolInUse, TooManyPools, NoPool, NoFreeCell, NoTakenCell, TaskInUse, TooManyTasks, NotOwned, ActiveSubtask, Asked, NoAccess}
@@ -97,7 +97,7 @@ abbrev pub free_pages : State → ℕ → ℕ → ℕ
 free_pages st first count = count_below count (λ p. not (is_some (page_subpool st (first + p))))
 
 -- The storage that s can obtain for a request.
-pub record IsRoom (st : State) (s : ℕ) (want : WantValue) (room : Room) : Type 0 where
+pub record IsRoom (st : State) (s : ℕ) (want : WantValue) (room : FreeSpace) : Type 0 where
   pub longest : IsLongest st.regions (holder st) s want room.longest
   pub runs : room.runs ≡ free_runs st.regions (holder st) s want.side
   pub below : room.below ≡ free_pages st first_page_below st.regions.below
@@ -106,7 +106,7 @@ pub record IsRoom (st : State) (s : ℕ) (want : WantValue) (room : Room) : Type
 -- ---- cells
 
 -- Where the address is, if no taken cell of the pool begins there: a free one begins there, or it is inside a cell, or in none.
-abbrev pub IsSpot : Pool → ℕ → CellSpot → Type 0
+abbrev pub IsSpot : Pool → ℕ → CellPosition → Type 0
 IsSpot pool c Untaken = IsFreeCell pool c
 IsSpot pool c (Inside first) = IsCell pool first × (first < c) × (c < first + pool.cell_size)
 IsSpot pool c Elsewhere = (first : ℕ) → IsCell pool first → first ≤ c → c < first + pool.cell_size → ⊥
@@ -144,11 +144,11 @@ requested_code _ = 0
 -- ---- what a refusal is about
 
 -- The storage that the subpool can obtain which a task has under the number, or would have.
-abbrev pub RoomUnder : State → Name → ℕ → WantValue → Room → Type 0
+abbrev pub RoomUnder : State → Name → ℕ → WantValue → FreeSpace → Type 0
 RoomUnder st t number want room = (s : ℕ) × SubpoolOf st.owners t number s × IsRoom st s want room
 
 -- the room for an area
-abbrev pub AreaRoom : State → Name → Request → Room → Type 0
+abbrev pub AreaRoom : State → Name → Request → FreeSpace → Type 0
 AreaRoom st t (Obtain form number ask) room = RoomUnder st (keeper st.owners t number) number (want_of ask (side_for st t form ask.loc)) room
 AreaRoom st t _ room = ⊥
 
@@ -163,12 +163,12 @@ MemberLacks st t (ObtainList form number lengths start) k short =
 MemberLacks st t _ k short = ⊥
 
 -- the room for a further part of a pool, which has so many cells of so many bytes
-abbrev pub FurtherRoom : State → Option Pool → ℕ → ℕ → Room → Type 0
+abbrev pub FurtherRoom : State → Option Pool → ℕ → ℕ → FreeSpace → Type 0
 FurtherRoom st None cells size room = ⊥
 FurtherRoom st (Some pool) cells size room = (cells ≡ pool.secondary) × (size ≡ pool.cell_size) × IsRoom st pool.subpool (part_want pool.cell_size pool.secondary pool.side) room
 
 -- the room for a part of a pool, the first one or a further one
-abbrev pub PartRoom : State → Name → Request → ℕ → ℕ → Room → Type 0
+abbrev pub PartRoom : State → Name → Request → ℕ → ℕ → FreeSpace → Type 0
 PartRoom st t (Build name number size primary secondary loc) cells bytes room =
     (cells ≡ primary) × (bytes ≡ size) × RoomUnder st (keeper st.owners t number) number (part_want size primary (side_of loc (residence_of st.owners t))) room
 PartRoom st t (Get name conditional) cells bytes room = FurtherRoom st (get st.pools name) cells bytes room
@@ -180,12 +180,12 @@ FirstUnheld st None ps d = ⊥
 FirstUnheld st (Some s) ps d = IsUnheld st s ps d
 
 -- where the address is at which no taken cell of the pool begins
-abbrev pub SpotIn : Option Pool → ℕ → CellSpot → Type 0
+abbrev pub SpotIn : Option Pool → ℕ → CellPosition → Type 0
 SpotIn None c spot = ⊥
 SpotIn (Some pool) c spot = IsSpot pool c spot
 
 -- the same of a cell that is given back
-abbrev pub SpotOf : State → Request → CellSpot → Type 0
+abbrev pub SpotOf : State → Request → CellPosition → Type 0
 SpotOf st (Free name c) spot = SpotIn (get st.pools name) c spot
 SpotOf st _ spot = ⊥
 

@@ -11,7 +11,7 @@ use crate::numbers::MOST_ITEMS;
 use crate::place::Addr;
 use crate::request::{Bytes, Lengths};
 use crate::short_list::ShortList;
-use crate::want::{Ask, Loc, Residence};
+use crate::want::{AreaRequest, Loc, Residence};
 
 /// An address as written: a number, or the name of an area or a cell with an offset in bytes.
 #[derive(Clone, Copy, Debug, PartialEq, Eq)]
@@ -32,7 +32,7 @@ pub enum Written {
     Obtain {
         form: Form,
         number: u8,
-        ask: Ask,
+        ask: AreaRequest,
         /// Whether a largest and a smallest length were written.
         variable: bool,
         area: Name,

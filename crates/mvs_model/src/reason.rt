@@ -19,7 +19,7 @@ pub enum Holder {
 
 /// Where an address is, if no taken cell of a pool begins there.
 #[derive(Clone, Copy, Debug, PartialEq, Eq)]
-pub enum CellSpot {
+pub enum CellPosition {
     /// A cell of the pool begins there, and is free.
     Untaken,
     /// It is inside the cell of the pool that begins at this address.
@@ -30,7 +30,7 @@ pub enum CellSpot {
 
 /// What room there is where no place is long enough.
 #[derive(Clone, Copy, Debug, PartialEq, Eq)]
-pub struct Room {
+pub struct FreeSpace {
     /// The greatest length that has a place on the same boundaries and side, 0 where none has.
     pub longest: u32,
     /// How many free runs the pages have that the subpool has on that side, each inside one page.
@@ -47,7 +47,7 @@ pub struct Shortfall {
     /// The length that it asked for, in bytes.
     pub bytes: u32,
     /// What room was left.
-    pub room: Room,
+    pub room: FreeSpace,
 }
 
 /// Why a request is refused: the refusal, with what it is about in the state before the request. What the request itself has is
@@ -59,12 +59,12 @@ pub enum Reason {
     /// A program may not name the subpool number.
     InvalidNumber,
     /// The least length fits nowhere.
-    Shortage(Room),
+    Shortage(FreeSpace),
     /// A member of a list does not fit once the members before it are granted: its number in the list, from 1 on, and what it
     /// lacked.
     NoMember(u32, Shortfall),
     /// A part with this number of cells of this size in bytes does not fit: the first part of a pool, or a further one.
-    NoPart(u32, u32, Room),
+    NoPart(u32, u32, FreeSpace),
     /// A place begins at this address, which is not on a doubleword.
     OffDoubleword(Addr),
     /// The task whose subpool is meant has none under the number.
@@ -84,7 +84,7 @@ pub enum Reason {
     /// No cell of the pool is free, and the request is conditional.
     NoFreeCell,
     /// No taken cell of the pool begins at the address. This is where the address is.
-    NoTakenCell(CellSpot),
+    NoTakenCell(CellPosition),
     /// A task of the name is active.
     TaskInUse,
     /// No more tasks can be active.

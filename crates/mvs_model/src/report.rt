@@ -27,7 +27,7 @@ pub struct MapRun {
 /// How many parts a cell pool has, the place of the one that was put to it last and how many cells that has, and the bytes of a
 /// cell.
 #[derive(Clone, Copy, Debug, PartialEq, Eq)]
-pub struct Newest {
+pub struct LastPart {
     pub parts: u32,
     pub place: Place,
     pub cells: u32,

@@ -10,7 +10,7 @@ use crate::name::Name;
 use crate::numbers::{MOST_FALLEN, MOST_ITEMS, MOST_PUT};
 use crate::place::{Addr, Place};
 use crate::short_list::ShortList;
-use crate::want::{Ask, Loc, Residence};
+use crate::want::{AreaRequest, Loc, Residence};
 use std::marker::Model;
 
 /// The lengths of a list request, in bytes.
@@ -67,7 +67,7 @@ pub enum Request {
     Obtain {
         form: Form,
         number: u8,
-        ask: Ask,
+        ask: AreaRequest,
     },
     ObtainList {
         form: Form,

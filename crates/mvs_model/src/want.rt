@@ -124,7 +124,7 @@ impl Want {
 /// What an obtain requests, as written: least and greatest length in bytes, the power of two of the boundary to begin on, that of
 /// the boundary not to cross, the location.
 #[derive(Clone, Copy, Debug, PartialEq, Eq)]
-pub struct Ask {
+pub struct AreaRequest {
     least: u32,
     most: u32,
     start: Exponent,
@@ -132,7 +132,7 @@ pub struct Ask {
     loc: Loc,
 }
 
-impl Model for Ask {
+impl Model for AreaRequest {
     ghost use Rattle.mvs_model.specs.Want.{AskValue, IsAsk};
 
     ghost Value = { AskValue };
@@ -144,14 +144,14 @@ impl Model for Ask {
     ghost inverse = { λ a. record { least = a.least; most = a.most; start = a.start; within = a.within; loc = a.loc } };
 }
 
-impl Ask {
+impl AreaRequest {
     /// A request for one length on a boundary.
-    pub fn fixed(len: Length, start: Exponent, loc: Loc) -> Ask
+    pub fn fixed(len: Length, start: Exponent, loc: Loc) -> AreaRequest
         ensures { result
             ≡ record { least = len; most = len; start = start; within = None; loc = loc } }
     {
         let len = len.get();
-        Ask {
+        AreaRequest {
             least: len,
             most: len,
             start,
@@ -161,21 +161,21 @@ impl Ask {
     }
 
     /// The same request for the greatest length that has a place, from a least one on.
-    pub fn at_least(self, least: Length) -> Ask
+    pub fn at_least(self, least: Length) -> AreaRequest
         requires { least ≤ self.most }
         ensures { result ≡ record self { least = least } }
     {
-        Ask {
+        AreaRequest {
             least: least.get(),
             ..self
         }
     }
 
     /// The same request within a boundary.
-    pub fn within(self, within: Exponent) -> Ask
+    pub fn within(self, within: Exponent) -> AreaRequest
         ensures { result ≡ record self { within = Some within } }
     {
-        Ask {
+        AreaRequest {
             within: Some(within),
             ..self
         }

@@ -13,7 +13,7 @@ use Rattle.mvs_job.specs.declared.run.RunFault.{RunFault}
 use Rattle.mvs_job.specs.declared.run.RunFault.TheVariants.{Memory, Read, ReadTooLong}
 use Rattle.mvs_job.specs.Exchanging.{Exchanges, IsRest}
 use Rattle.mvs_job.proofs.Feeding.{lines_ended, lines_last}
-use Rattle.mvsjob.specs.Faultless.{is_faulty, faultless, without_faults, passed, is_first_after, passed_of, rest_of, begun, coming, known_coming, Writes, WritesPart}
+use Rattle.mvsjob.specs.FaultFilter.{is_faulty, faultless, without_faults, passed, is_first_after, passed_of, rest_of, begun, coming, known_coming, Writes, WritesPart}
 
 -- ---- a line that is too long
 

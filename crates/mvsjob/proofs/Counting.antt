@@ -2,7 +2,7 @@
 use Rattle.std.proofs.Common.{ℕ, zero, suc, ◌≡◌, ◌≢◌, ◌≤◌, ◌+◌, Bool, true, false, List, [], ◌∷◌, ◌++◌, length, take, Option, refl, sym, ap, subst, ◌∙◌, arith, length-append}
 use Rattle.std.specs.Io.KnownBytes.{Consumes}
 use Rattle.std.proofs.KnownBytes.{Consumes-nil, Consumes-trans}
-use Rattle.mvsjob.specs.Faultless.{HasRead}
+use Rattle.mvsjob.specs.FaultFilter.{HasRead}
 
 one_taken : (n : ℕ) (buf : List ℕ) → n ≤ length buf → length buf ≡ 1 → n ≢ 0 → length (take n buf) ≡ 1
 one_taken n [] bound one some = absurd (omega (arith, one))

@@ -15,7 +15,7 @@ use Rattle.mvs_laws.specs.Laws.{EndsIn, fault_at, first_fault}
 use Rattle.mvs_model.specs.Lines.{lines_of}
 use Rattle.mvs_model.specs.Reading.{◌>>=◌, FaultOf, LineOf, checks, first_of, form_in, line_meaning, operands_of, operation_in, row_of, is_blank_or_comment, task_in}
 use Rattle.mvs_model.proofs.Reading.{said_with}
-use Rattle.mvsjob.specs.Faulty.{EndsAt, IsFirstFault, IsLineOf}
+use Rattle.mvsjob.specs.FaultyLine.{EndsAt, IsFirstFault, IsLineOf}
 
 -- ---- what a line says
 

@@ -11,7 +11,7 @@ use Rattle.mvs_job.specs.Exchanging.{Exchanges}
 use Rattle.mvs_job.specs.Printed.{printed}
 use Rattle.mvs_job.specs.Streams.{StopsText}
 use Rattle.mvs_job.proofs.Printed.{ended_printing, gives_up_answered, gives_up_before, gives_up_front}
-use Rattle.mvsjob.specs.Faultless.{StopsWithin, Writes, WritesPart, limited}
+use Rattle.mvsjob.specs.FaultFilter.{StopsWithin, Writes, WritesPart, limited}
 use Rattle.mvsjob.proofs.Coming.{writes_of}
 
 -- ---- the limit

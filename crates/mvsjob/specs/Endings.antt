@@ -12,12 +12,12 @@ use Rattle.mvs_job.specs.declared.run.RunFault.TheVariants as fault
 use Rattle.mvs_job.specs.Giving.{fault_text}
 use Rattle.mvsjob.specs.declared.ending.Cause.{Cause}
 use Rattle.mvsjob.specs.declared.ending.Cause.TheVariants.{Missing, Forbidden, Directory, Unnamed, TooLong, Other}
-use Rattle.mvsjob.specs.declared.ending.Ending.{Ending}
-use Rattle.mvsjob.specs.declared.ending.Ending.TheVariants.{Ran, NotServed, Printed, Checked, Judged, Refused, GaveUp}
-use Rattle.mvsjob.specs.declared.ending.GiveUp.{GiveUp}
-use Rattle.mvsjob.specs.declared.ending.GiveUp.TheVariants.{Script, Output, Pipe, Job}
+use Rattle.mvsjob.specs.declared.ending.ExitReason.{ExitReason}
+use Rattle.mvsjob.specs.declared.ending.ExitReason.TheVariants.{Ran, NotServed, Printed, Checked, Judged, Refused, GaveUp}
+use Rattle.mvsjob.specs.declared.ending.CliError.{CliError}
+use Rattle.mvsjob.specs.declared.ending.CliError.TheVariants.{Script, Output, Pipe, Job}
 
-abbrev pub status_of : Ending → ℕ
+abbrev pub status_of : ExitReason → ℕ
 status_of (Ran Clean) = 0
 status_of (Ran SomeAbend) = 8
 status_of (Ran ScriptFault) = 12
@@ -34,12 +34,12 @@ status_of (GaveUp (Output why)) = 16
 status_of (GaveUp (Job fault)) = 16
 
 -- how a strict run ends, in which each line was executed, or not
-abbrev pub strict_ending : Outcome → Bool → Ending
+abbrev pub strict_ending : Outcome → Bool → ExitReason
 strict_ending Clean all = if all then Ran Clean else NotServed
 strict_ending outcome all = Ran outcome
 
 -- why the program stops where a job stops
-abbrev pub gave_up : Stop → GiveUp
+abbrev pub gave_up : Stop → CliError
 gave_up stop.Write = Job fault.Write
 gave_up stop.Memory = Job fault.Memory
 
@@ -53,7 +53,7 @@ cause_of TooLong = codes "more than 268,435,455 bytes"
 cause_of Other = codes "cannot be opened or read"
 
 -- what comes after the name of the program
-abbrev pub text_of : Ending → Option (List ℕ)
+abbrev pub text_of : ExitReason → Option (List ℕ)
 text_of (GaveUp (Script Directory)) = Some (fault_text fault.Read)
 text_of (GaveUp (Script why)) = Some (codes "cannot open script")
 text_of (GaveUp (Output why)) = Some (codes "cannot read output")

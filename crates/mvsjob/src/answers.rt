@@ -4,14 +4,14 @@ ghost use Rattle.std.specs.Prelude.{◌≡◌, ◌≤◌, IfOk, length};
 ghost use Rattle.mvs_model.specs.Numbers.{most_script_bytes};
 ghost use Rattle.mvs_model.specs.Runs.{IsPrinting};
 ghost use Rattle.mvsjob.specs.Checking.{Checks, IsReported, checked_ending, hides_fault, line_of};
-ghost use Rattle.mvsjob.specs.Served.{Asks, Blanks, HasNoForeign};
+ghost use Rattle.mvsjob.specs.ModeResult.{Asks, Blanks, HasNoForeign};
 
-use crate::queries::write_with_queries;
-use crate::choices::Settings;
-use crate::ending::{Ending, GiveUp};
-use crate::faulty::Faulty;
+use crate::ending::{CliError, ExitReason};
+use crate::faulty::FaultyLine;
 use crate::front::front_of;
-use crate::served::{Served, fault_of};
+use crate::options::Settings;
+use crate::queries::write_with_queries;
+use crate::served::{ModeResult, fault_of};
 use annotated::{Counts, report_answers, statement_at, statements, write_blank};
 use job_script::write_all;
 use mvs_job::{Printer, RunFault, Stop, run_lines};
@@ -32,11 +32,11 @@ fn printing_of(alloc: Global, place: Placement, script: &[u8]) -> (Result<Outcom
 }
 
 // Returns a faulty line of the statements of a script as a line of the script.
-fn in_script<'a>(script: &'a [u8], faulty: &Faulty<'_>) -> Faulty<'a>
+fn in_script<'a>(script: &'a [u8], faulty: &FaultyLine<'_>) -> FaultyLine<'a>
     ensures number { result.number ≡ faulty.now.number }
     ensures fault { result.fault ≡ faulty.now.fault }
 {
-    Faulty {
+    FaultyLine {
         number: faulty.number,
         line: statement_at(script, faulty.number),
         fault: faulty.fault,
@@ -44,15 +44,15 @@ fn in_script<'a>(script: &'a [u8], faulty: &Faulty<'_>) -> Faulty<'a>
 }
 
 // Returns how a check ends, by its counts and the line whose fault ended the run.
-fn ending_of(counts: &Counts, faulty: &Option<Faulty<'_>>) -> Ending
+fn ending_of(counts: &Counts, faulty: &Option<FaultyLine<'_>>) -> ExitReason
     ensures { result ≡ checked_ending counts.now (line_of faulty.now) }
 {
     if !counts.are_right() {
-        return Ending::Checked { differs: true };
+        return ExitReason::Checked { differs: true };
     }
     match faulty {
-        Some(faulty) if faulty.number > counts.last => Ending::Ran(Outcome::ScriptFault),
-        Some(_) | None => Ending::Checked { differs: false },
+        Some(faulty) if faulty.number > counts.last => ExitReason::Ran(Outcome::ScriptFault),
+        Some(_) | None => ExitReason::Checked { differs: false },
     }
 }
 
@@ -69,8 +69,8 @@ fn reported<'a>(
     script: &'a [u8],
     is_hidden: bool,
     counts: &Counts,
-    faulty: &Option<Faulty<'_>>,
-) -> Option<Faulty<'a>>
+    faulty: &Option<FaultyLine<'_>>,
+) -> Option<FaultyLine<'a>>
     ensures { IsReported is_hidden counts.now faulty.now result }
 {
     match faulty {
@@ -87,27 +87,27 @@ pub fn check_answers<'a, W: Write>(
     settings: &Settings<'_>,
     script: &'a [u8],
     writer: &mut Watched<W>,
-) -> Result<Served<'a>, GiveUp>
+) -> Result<ModeResult<'a>, CliError>
     requires { length script.now ≤ most_script_bytes }
     ensures { Checks (W.contents writer.old.inner) (W.contents writer.new.inner) settings.now.form
         settings.now.file.now script.now result }
 {
     let Ok(run) = statements(alloc, script) else {
-        return Err(GiveUp::Job(RunFault::Memory));
+        return Err(CliError::Job(RunFault::Memory));
     };
     let (ran, printed) = printing_of(alloc, settings.placement, &run);
     let Ok(outcome) = ran else {
         // A vector that accepts no byte has no memory for it.
-        return Err(GiveUp::Job(RunFault::Memory));
+        return Err(CliError::Job(RunFault::Memory));
     };
     let Ok(report) = report_answers(alloc, settings.form, settings.file, script, &printed) else {
-        return Err(GiveUp::Job(RunFault::Memory));
+        return Err(CliError::Job(RunFault::Memory));
     };
     let Ok(()) = write_all(writer, &report.text) else {
-        return Err(GiveUp::Job(RunFault::Write));
+        return Err(CliError::Job(RunFault::Write));
     };
     let faulty = fault_of(&run, outcome);
-    Ok(Served {
+    Ok(ModeResult {
         ending: ending_of(&report.counts, &faulty),
         faulty: reported(script, settings.form.is_hidden, &report.counts, &faulty),
     })
@@ -117,14 +117,14 @@ pub fn check_answers<'a, W: Write>(
 pub fn write_blanks<'a, W: Write>(
     script: &'a [u8],
     writer: &mut Watched<W>,
-) -> Result<Served<'a>, GiveUp>
+) -> Result<ModeResult<'a>, CliError>
     ensures { HasNoForeign script.now
         → Blanks (W.contents writer.old.inner) (W.contents writer.new.inner) script.now result }
 {
     let front = front_of(script);
     match write_blank(writer, front.bytes) {
-        Ok(()) => Ok(Served::of_front(front.faulty)),
-        Err(_) => Err(GiveUp::Job(RunFault::Write)),
+        Ok(()) => Ok(ModeResult::of_front(front.faulty)),
+        Err(_) => Err(CliError::Job(RunFault::Write)),
     }
 }
 
@@ -132,13 +132,13 @@ pub fn write_blanks<'a, W: Write>(
 pub fn write_questions<'a, W: Write>(
     script: &'a [u8],
     writer: &mut Watched<W>,
-) -> Result<Served<'a>, GiveUp>
+) -> Result<ModeResult<'a>, CliError>
     ensures { HasNoForeign script.now
         → Asks (W.contents writer.old.inner) (W.contents writer.new.inner) script.now result }
 {
     let front = front_of(script);
     match write_with_queries(writer, front.bytes) {
-        Ok(()) => Ok(Served::of_front(front.faulty)),
-        Err(_) => Err(GiveUp::Job(RunFault::Write)),
+        Ok(()) => Ok(ModeResult::of_front(front.faulty)),
+        Err(_) => Err(CliError::Job(RunFault::Write)),
     }
 }

@@ -1,8 +1,8 @@
 //! What may help where a line of a script was not executed: the line that makes what is missing, or a name that is near.
 
-use diagnosis::{Clue, edits_between};
-use job_script::parted::parted;
+use diagnosis::{Suggestion, edits_between};
 use job_script::read_line;
+use job_script::split_once::split_once;
 use mvs_job::Job;
 use mvs_model::line::{Line, Location, Statement, Written};
 use mvs_model::name::Name;
@@ -38,7 +38,7 @@ pub struct Makers {
 
 /// The lines of a step: the first, and the one after the last.
 #[derive(Clone, Copy)]
-struct Step {
+struct StepLines {
     begin: u32,
     end: u32,
 }
@@ -78,7 +78,7 @@ impl Made {
     }
 
     // Returns the line of an entry in the order of the names, if it makes a name in a step.
-    fn line_in(&self, at: usize, name: Name, step: Step) -> Option<u32> {
+    fn line_in(&self, at: usize, name: Name, step: StepLines) -> Option<u32> {
         match self.by_name.get(at) {
             Some((other, line)) if *other == name && step.begin <= *line && *line < step.end => {
                 Some(*line)
@@ -88,26 +88,26 @@ impl Made {
     }
 
     // Returns the last line before a line of a step that makes a name, or else the first one after it.
-    fn clue(&self, name: Name, line_number: u32, step: Step) -> Clue {
+    fn clue(&self, name: Name, line_number: u32, step: StepLines) -> Suggestion {
         let first = self
             .by_name
             .partition_point(|made| *made < (name, line_number));
         if let Some(before) = first.checked_sub(1) {
             if let Some(line) = self.line_in(before, name, step) {
-                return Clue::Before(line);
+                return Suggestion::Before(line);
             }
         }
         let behind = self
             .by_name
             .partition_point(|made| *made <= (name, line_number));
         match self.line_in(behind, name, step) {
-            Some(line) => Clue::Behind(line),
-            None => Clue::Nothing,
+            Some(line) => Suggestion::Behind(line),
+            None => Suggestion::Nothing,
         }
     }
 
     // Returns the last names that the lines of a step before a line are to make.
-    fn last_before(&self, line_number: u32, step: Step) -> &[(Name, u32)] {
+    fn last_before(&self, line_number: u32, step: StepLines) -> &[(Name, u32)] {
         let from = self.by_line.partition_point(|made| made.1 < step.begin);
         let to = self.by_line.partition_point(|made| made.1 < line_number);
         let first = from.max(to.saturating_sub(MOST_NEAR));
@@ -194,13 +194,13 @@ impl Makers {
     }
 
     // Returns the step of a line.
-    fn step_of(&self, line_number: u32) -> Step {
+    fn step_of(&self, line_number: u32) -> StepLines {
         let next = self.steps.partition_point(|begin| *begin <= line_number);
         let begin = match next.checked_sub(1) {
             Some(at) => self.steps.get(at).copied().unwrap_or(0),
             None => 0,
         };
-        Step {
+        StepLines {
             begin,
             end: self.steps.get(next).copied().unwrap_or(u32::MAX),
         }
@@ -208,19 +208,19 @@ impl Makers {
 
     /// Returns what may help a line that lacks a task or a name. Of the names that are near, the last 64 that its step makes are
     /// looked at; where memory is refused none is found.
-    pub fn clue(&self, alloc: Global, job: &Job, line_number: u32, lacked: Needed) -> Clue {
+    pub fn clue(&self, alloc: Global, job: &Job, line_number: u32, lacked: Needed) -> Suggestion {
         let step = self.step_of(line_number);
         let made = match lacked {
             Needed::Task(_) => &self.tasks,
             Needed::Name(_) => &self.names,
         };
         let clue = made.clue(lacked.name(), line_number, step);
-        if !matches!(clue, Clue::Nothing) {
+        if !matches!(clue, Suggestion::Nothing) {
             return clue;
         }
         match lacked.nearest(alloc, job, made.last_before(line_number, step)) {
-            Some(name) => Clue::Meant(name),
-            None => Clue::Nothing,
+            Some(name) => Suggestion::Meant(name),
+            None => Suggestion::Nothing,
         }
     }
 }

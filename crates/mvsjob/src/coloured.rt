@@ -1,6 +1,6 @@
 //! A writer that colours lines of answers for a terminal.
 
-use crate::choices::Color;
+use crate::options::Color;
 use std::env::{self, VarError};
 use std::io::{self, IsTerminal, Write};
 

@@ -2,15 +2,15 @@
 
 ghost use Rattle.std.specs.Prelude.{◌≡◌, ◌↔◌, ◌⊎◌, ◌<◌, ◌≤◌, ◌^◌, ℕ, [], None, Some, IfOk, IfErr, IsTrue, codes, map, string_bytes};
 ghost use Rattle.std.specs.Option.{unwrap_or};
-ghost use Rattle.clap.specs.Words.{IsAmong, Kinds, Text, app_of, first_value, found_of, kind_of, new_app, new_rule, with_rule};
+ghost use Rattle.clap.specs.Words.{IsAmong, Kinds, LineText, app_of, first_value, found_of, kind_of, new_app, new_rule, with_rule};
 ghost use Rattle.clap.specs.declared.error.kind.ErrorKind.TheVariants.{OutOfMemory};
 ghost use Rattle.clap.specs.declared.builder.value_parser.ValueParser.{ValueParser as Parser};
 ghost use Rattle.mvsjob.specs.CommandLine.{AreParsers, FindsWrong, IsColor, IsFormat, IsMode, IsNumber, IsOneOf, IsProfile, IsRecipe, IsScriptMode, IsTaken, Parsers, answers_app, assigned, checking_app, colors, command, formats, flag_rule, judging_app, places, profiles, random_app, rule_app, output_app, value_rule, versioned};
 ghost use Rattle.reference.specs.Texts.{names};
 
-use crate::choices::{Color, Mode, Recipe, Settings};
 use crate::exclusions::apart;
-use annotated::{Form, Format};
+use crate::options::{Color, Mode, Recipe, Settings};
+use annotated::{Format, ReportForm};
 use clap::builder::ValueParser;
 use clap::{Arg, ArgAction, ArgMatches, Command};
 use mvs_model::want::Placement;
@@ -446,7 +446,7 @@ fn format(matches: &ArgMatches<'_>) -> Format
     } else if has_value(matches, "format", "junit") {
         Format::Junit
     } else {
-        Format::Text
+        Format::LineText
     }
 }
 
@@ -477,7 +477,7 @@ fn profile(matches: &ArgMatches<'_>) -> Profile
 
 // Returns the number of an option, or another number where it has none.
 fn number_of(matches: &ArgMatches<'_>, name: &str, usual: u64) -> u64
-    ensures number { (text : Text) (n : ℕ) → first_value (found_of matches.now) name.now ≡ Some text
+    ensures number { (text : LineText) (n : ℕ) → first_value (found_of matches.now) name.now ≡ Some text
         → IsNumber text n → n < 2 ^ 64 → result ≡ n }
     ensures usual { first_value (found_of matches.now) name.now ≡ None → result ≡ usual }
 {
@@ -520,7 +520,7 @@ fn coded<'a>(matches: &ArgMatches<'a>) -> &'a str
 
 // Returns the number of the rule of which the text is asked for.
 fn rule_number(matches: &ArgMatches<'_>) -> u32
-    ensures { (text : Text) (n : ℕ) → first_value (found_of matches.now) (codes "rule") ≡ Some text
+    ensures { (text : LineText) (n : ℕ) → first_value (found_of matches.now) (codes "rule") ≡ Some text
         → IsNumber text n → n ≤ 74 → result ≡ n }
 {
     u32::try_from(number_of(matches, "rule", 0)).unwrap_or(0)
@@ -646,7 +646,7 @@ pub fn settings<'a>(alloc: Global, words: &'a [String]) -> Result<Settings<'a>, 
         strict: is_set(&matches, "strict"),
         interactive: is_set(&matches, "interactive"),
         color: color(&matches),
-        form: Form {
+        form: ReportForm {
             format: format(&matches),
             is_hidden: is_set(&matches, "hide"),
         },

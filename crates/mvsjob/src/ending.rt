@@ -58,7 +58,7 @@ impl From<ErrorKind> for Cause {
 
 /// Why the program stops before its work is done.
 #[derive(Clone, Copy, Debug, PartialEq, Eq, Error)]
-pub enum GiveUp {
+pub enum CliError {
     /// The script cannot be opened, or is a directory.
     #[error("cannot open script: {0}")]
     Script(Cause),
@@ -73,35 +73,35 @@ pub enum GiveUp {
     Job(RunFault),
 }
 
-impl From<RunFault> for GiveUp {
-    fn from(fault: RunFault) -> GiveUp {
-        GiveUp::Job(fault)
+impl From<RunFault> for CliError {
+    fn from(fault: RunFault) -> CliError {
+        CliError::Job(fault)
     }
 }
 
-impl GiveUp {
+impl CliError {
     /// Returns why the program stops where a job stops.
-    pub fn of(stop: Stop) -> GiveUp
+    pub fn of(stop: Stop) -> CliError
         ensures { result ≡ gave_up stop }
     {
         match stop {
-            Stop::Write => GiveUp::Job(RunFault::Write),
-            Stop::Memory => GiveUp::Job(RunFault::Memory),
+            Stop::Write => CliError::Job(RunFault::Write),
+            Stop::Memory => CliError::Job(RunFault::Memory),
         }
     }
 
     /// Returns why the program stops at a write that failed: for want of memory, or since the writer failed.
-    pub fn of_write(kind: ErrorKind) -> GiveUp {
+    pub fn of_write(kind: ErrorKind) -> CliError {
         match kind {
-            ErrorKind::OutOfMemory => GiveUp::Job(RunFault::Memory),
-            _ => GiveUp::Job(RunFault::Write),
+            ErrorKind::OutOfMemory => CliError::Job(RunFault::Memory),
+            _ => CliError::Job(RunFault::Write),
         }
     }
 }
 
 /// How the program ends.
 #[derive(Clone, Copy, Debug, PartialEq, Eq)]
-pub enum Ending {
+pub enum ExitReason {
     /// The job ended so.
     Ran(Outcome),
     /// With `--strict`: no task abended, and some line was not executed.
@@ -115,17 +115,17 @@ pub enum Ending {
     /// The options were refused, and standard error has why.
     Refused,
     /// The program stopped before its work was done.
-    GaveUp(GiveUp),
+    GaveUp(CliError),
 }
 
-impl Ending {
+impl ExitReason {
     /// Returns how a strict run ends.
-    pub fn of_strict(end: StrictOutcome) -> Ending
+    pub fn of_strict(end: StrictOutcome) -> ExitReason
         ensures { result ≡ strict_ending end.outcome end.all_served }
     {
         match end.outcome {
-            Outcome::Clean if !end.all_served => Ending::NotServed,
-            outcome => Ending::Ran(outcome),
+            Outcome::Clean if !end.all_served => ExitReason::NotServed,
+            outcome => ExitReason::Ran(outcome),
         }
     }
 
@@ -134,16 +134,16 @@ impl Ending {
         ensures { result ≡ status_of self }
     {
         match self {
-            Ending::Ran(Outcome::Clean) | Ending::Printed => 0,
-            Ending::Checked { differs } => differs as u8,
-            Ending::Judged(Finding::Accepted) => 0,
-            Ending::Judged(Finding::Refused) => 1,
-            Ending::Judged(Finding::Undecided(_)) => 2,
-            Ending::NotServed => 4,
-            Ending::Ran(Outcome::SomeAbend) => 8,
-            Ending::Ran(Outcome::ScriptFault) => 12,
-            Ending::GaveUp(GiveUp::Pipe) => 141,
-            Ending::Refused | Ending::GaveUp(_) => 16,
+            ExitReason::Ran(Outcome::Clean) | ExitReason::Printed => 0,
+            ExitReason::Checked { differs } => differs as u8,
+            ExitReason::Judged(Finding::Accepted) => 0,
+            ExitReason::Judged(Finding::Refused) => 1,
+            ExitReason::Judged(Finding::Undecided(_)) => 2,
+            ExitReason::NotServed => 4,
+            ExitReason::Ran(Outcome::SomeAbend) => 8,
+            ExitReason::Ran(Outcome::ScriptFault) => 12,
+            ExitReason::GaveUp(CliError::Pipe) => 141,
+            ExitReason::Refused | ExitReason::GaveUp(_) => 16,
         }
     }
 
@@ -153,17 +153,17 @@ impl Ending {
         ensures { option_map (λ text. text.now) result ≡ text_of self }
     {
         match self {
-            Ending::GaveUp(GiveUp::Script(Cause::Directory)) => Some(RunFault::Read.text()),
-            Ending::GaveUp(GiveUp::Script(_)) => Some("cannot open script"),
-            Ending::GaveUp(GiveUp::Output(_)) => Some("cannot read output"),
-            Ending::GaveUp(GiveUp::Job(fault)) => Some(fault.text()),
-            Ending::GaveUp(GiveUp::Pipe)
-            | Ending::Ran(_)
-            | Ending::NotServed
-            | Ending::Printed
-            | Ending::Checked { .. }
-            | Ending::Judged(_)
-            | Ending::Refused => None,
+            ExitReason::GaveUp(CliError::Script(Cause::Directory)) => Some(RunFault::Read.text()),
+            ExitReason::GaveUp(CliError::Script(_)) => Some("cannot open script"),
+            ExitReason::GaveUp(CliError::Output(_)) => Some("cannot read output"),
+            ExitReason::GaveUp(CliError::Job(fault)) => Some(fault.text()),
+            ExitReason::GaveUp(CliError::Pipe)
+            | ExitReason::Ran(_)
+            | ExitReason::NotServed
+            | ExitReason::Printed
+            | ExitReason::Checked { .. }
+            | ExitReason::Judged(_)
+            | ExitReason::Refused => None,
         }
     }
 }

@@ -1,6 +1,6 @@
 //! Options that have no meaning together.
 
-use crate::choices::Apart;
+use crate::options::Apart;
 use clap::ArgMatches;
 
 /// An option, and the options that have no meaning with it.

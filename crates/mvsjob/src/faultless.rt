@@ -7,11 +7,11 @@ ghost use Rattle.mvs_model.specs.Runs.{IsAnswered, IsPrinting, IsPrintingFront};
 ghost use Rattle.std.specs.Option.{option_map};
 ghost use Rattle.std.specs.Io.KnownBytes.{IsAtEnd, Keeps};
 ghost use Rattle.mvs_job.specs.Consuming.{WritesText};
-ghost use Rattle.mvsjob.specs.Faultless.{HasRead, StopsWithin, Writes, WritesPart, begun, coming, is_first_after, known_coming, limited, passed, rest_of, without_faults};
+ghost use Rattle.mvsjob.specs.FaultFilter.{HasRead, StopsWithin, Writes, WritesPart, begun, coming, is_first_after, known_coming, limited, passed, rest_of, without_faults};
 
 use crate::faulty::is_blank_or_comment;
 use job_script::{LineBuffer, read_line};
-use mvs_job::{Consumer, Printer, RunFault, Source, AddressHints, run_source};
+use mvs_job::{AddressHints, Consumer, Printer, RunFault, Source, run_source};
 use mvs_model::line::{Fault, Line};
 use mvs_model::numbers::MOST_SCRIPT_BYTES;
 use mvs_model::outcome::Outcome;
@@ -24,7 +24,7 @@ use std::io::{Read, Write};
 const ROOM: usize = 256;
 
 /// Who listens to how the lines come.
-pub trait Listens {
+pub trait LineObserver {
     /// A line is awaited, which has this number if it has no fault.
     fn on_prompt(&mut self, line_number: u32);
 
@@ -37,7 +37,7 @@ pub trait Listens {
 
 /// The line that comes.
 #[derive(Drop)]
-struct Lines {
+struct CurrentLine {
     line: LineBuffer,
     /// How many bytes of it, with its end, were passed on; None while it is read.
     given: Option<usize>,
@@ -51,22 +51,22 @@ struct Lines {
 
 // A reader of a script without the lines that have a fault. It reads no further than needed, and allocates no memory.
 #[derive(Drop)]
-struct Faultless<R, L> {
+struct FaultFilter<R, L> {
     inner: Watched<R>,
-    lines: Lines,
+    lines: CurrentLine,
     listener: L,
     /// How many bytes were read.
     count: usize,
 }
 
-impl Lines {
-    fn new() -> Lines
+impl CurrentLine {
+    fn new() -> CurrentLine
         ensures first { result.first ≡ true }
         ensures ended { result.ended ≡ false }
         ensures line { result.line ≡ [] }
         ensures given { result.given ≡ None }
     {
-        Lines {
+        CurrentLine {
             line: LineBuffer::new(),
             given: None,
             first: true,
@@ -84,7 +84,7 @@ impl Lines {
     }
 
     // Ends the line: it is passed on, or has a fault and is dropped.
-    fn end_line<L: Listens>(&mut self, listener: &mut L)
+    fn end_line<L: LineObserver>(&mut self, listener: &mut L)
         requires { self.old.given ≡ None }
         ensures passed { rest_of self.new.line self.new.given ≡ passed self.old.first self.old.line }
         ensures begun { begun self.new.line self.new.given ≡ [] }
@@ -105,7 +105,7 @@ impl Lines {
     }
 
     // Takes a byte.
-    fn take<L: Listens>(&mut self, byte: u8, listener: &mut L)
+    fn take<L: LineObserver>(&mut self, byte: u8, listener: &mut L)
         requires given { self.old.given ≡ None }
         requires ended { self.old.ended ≡ false }
         ensures ended { self.new.ended ≡ false }
@@ -121,7 +121,7 @@ impl Lines {
     }
 
     // Takes the end of the script.
-    fn end<L: Listens>(&mut self, listener: &mut L)
+    fn end<L: LineObserver>(&mut self, listener: &mut L)
         requires given { self.old.given ≡ None }
         requires ended { self.old.ended ≡ false }
         ensures ended { self.new.ended ≡ true }
@@ -136,7 +136,7 @@ impl Lines {
     }
 
     // Says that a line is awaited, where nothing of it was read.
-    fn announce<L: Listens>(&self, listener: &mut L) {
+    fn announce<L: LineObserver>(&self, listener: &mut L) {
         if self.line.bytes().is_empty() {
             listener.on_prompt(self.number);
         }
@@ -170,9 +170,9 @@ impl Lines {
     }
 }
 
-impl<R: Read, L: Listens> Faultless<R, L> {
+impl<R: Read, L: LineObserver> FaultFilter<R, L> {
     // Makes a reader before its first read.
-    fn new(inner: R, listener: L) -> Faultless<R, L>
+    fn new(inner: R, listener: L) -> FaultFilter<R, L>
         ensures coming { known_coming result.lines.first result.lines.ended result.lines.line
             result.lines.given (R.remaining result.inner.inner)
             ≡ option_map without_faults (R.remaining inner) }
@@ -180,9 +180,9 @@ impl<R: Read, L: Listens> Faultless<R, L> {
             result.lines.ended }
         ensures failed { (result.inner.failed || nat_lt most_script_bytes result.count) ≡ false }
     {
-        Faultless {
+        FaultFilter {
             inner: Watched::new(inner),
-            lines: Lines::new(),
+            lines: CurrentLine::new(),
             listener,
             count: 0,
         }
@@ -253,7 +253,7 @@ impl<R: Read, L: Listens> Faultless<R, L> {
     }
 }
 
-impl<R: Read, L: Listens> Source for Faultless<R, L> {
+impl<R: Read, L: LineObserver> Source for FaultFilter<R, L> {
     ghost left = { λ r. known_coming r.lines.first r.lines.ended r.lines.line r.lines.given (R.remaining r.inner.inner) };
 
     ghost failed = { λ r. r.inner.failed || nat_lt most_script_bytes r.count };
@@ -279,7 +279,7 @@ impl<R: Read, L: Listens> Source for Faultless<R, L> {
 
 /// How a job ended whose faulty lines are left out, and its reader.
 #[derive(Drop)]
-pub struct End<R> {
+pub struct FilterEnd<R> {
     pub ended: Result<Outcome, RunFault>,
     /// The number of the line after the last that was passed on.
     pub number: u32,
@@ -302,14 +302,14 @@ fn limited(is_long: bool, ended: Result<Outcome, RunFault>) -> Result<Outcome, R
 /// Runs the script of a reader without the lines that have a fault, each line as soon as it arrives, and gives each entry of the run
 /// to a consumer. A listener is called for the faulty lines. Skipped lines are not counted in the numbers of the others; but all
 /// lines together have at most 16,777,215 bytes.
-pub fn run_faultless_to<R: Read + Drop, L: Listens + Drop, W: Write, C: Consumer>(
+pub fn run_faultless_to<R: Read + Drop, L: LineObserver + Drop, W: Write, C: Consumer>(
     alloc: Global,
     reader: R,
     listener: L,
     writer: &mut Watched<W>,
     placement: Placement,
     consumer: &mut C,
-) -> End<R>
+) -> FilterEnd<R>
     requires writer { writer.old.failed ≡ false }
     requires new { (C.knows consumer.old).has consumer.old [] }
     // What is written is what the consumer writes for a trace of the script without its faulty lines.
@@ -330,10 +330,10 @@ pub fn run_faultless_to<R: Read + Drop, L: Listens + Drop, W: Write, C: Consumer
     ensures read { IsErrOf result.ended RunFault.Read → result.reader.failed ≡ true }
     ensures write { IsErrOf result.ended RunFault.Write → writer.new.failed ≡ true }
 {
-    let mut faultless = Faultless::new(reader, listener);
+    let mut faultless = FaultFilter::new(reader, listener);
     let hints = AddressHints::nothing(alloc);
     let ended = run_source(alloc, &mut faultless, writer, placement, hints, consumer);
-    End {
+    FilterEnd {
         ended: limited(faultless.is_long(), ended),
         number: faultless.lines.number,
         reader: faultless.inner,
@@ -342,13 +342,13 @@ pub fn run_faultless_to<R: Read + Drop, L: Listens + Drop, W: Write, C: Consumer
 }
 
 /// Runs the script of a reader without the lines that have a fault, and prints it, as `run_faultless_to` does.
-pub fn run_faultless<R: Read + Drop, L: Listens + Drop, W: Write>(
+pub fn run_faultless<R: Read + Drop, L: LineObserver + Drop, W: Write>(
     alloc: Global,
     reader: R,
     listener: L,
     writer: &mut Watched<W>,
     placement: Placement,
-) -> End<R>
+) -> FilterEnd<R>
     requires { writer.old.failed ≡ false }
     // What is written is the printing of a run of the script without its faulty lines.
     ensures ok { IfOk result.ended

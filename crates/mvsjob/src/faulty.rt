@@ -6,7 +6,7 @@ ghost use Rattle.mvs_model.specs.Lines.{lines_of};
 ghost use Rattle.mvs_model.specs.Numbers.{most_script_bytes};
 ghost use Rattle.mvs_model.specs.Reading.{LineOf, is_blank_or_comment};
 ghost use Rattle.mvs_model.specs.Runs.{IsRun};
-ghost use Rattle.mvsjob.specs.Faulty.{EndsAt, IsFirstFault, IsLineOf};
+ghost use Rattle.mvsjob.specs.FaultyLine.{EndsAt, IsFirstFault, IsLineOf};
 
 use job_script::read_line;
 use mvs_job::line_end;
@@ -17,20 +17,20 @@ use mvs_model::outcome::Outcome;
 /// A line with a fault, and its number. For a script without a statement the line is empty, and its number is the one after the
 /// last.
 #[derive(Clone, Copy)]
-pub struct Faulty<'a> {
+pub struct FaultyLine<'a> {
     pub number: u32,
     pub line: &'a [u8],
     pub fault: Fault,
 }
 
-impl Faulty<'_> {
+impl FaultyLine<'_> {
     /// Returns the fault of a script without a statement, if the line after the last has this number.
-    pub fn behind(number: u32) -> Faulty<'static>
+    pub fn after(number: u32) -> FaultyLine<'static>
         ensures number { result.number ≡ number }
         ensures line { result.line.now ≡ [] }
         ensures fault { result.fault ≡ Fault.OutOfPlace }
     {
-        Faulty {
+        FaultyLine {
             number,
             line: &[],
             fault: Fault::OutOfPlace,
@@ -62,7 +62,7 @@ fn number_after(number: u32, passed: usize) -> u32
 
 /// Returns the first line of a text with a fault. The first line of the text has this number, and `first` is true if no statement
 /// comes before it.
-pub fn first_faulty(text: &[u8], number: u32, first: bool) -> Faulty<'_>
+pub fn first_faulty(text: &[u8], number: u32, first: bool) -> FaultyLine<'_>
     ensures fault { number + length text.now + 1 < 2 ^ 32
         → IsFirstFault number first (lines_of text.now) result.number result.fault }
     ensures line { number + length text.now + 1 < 2 ^ 32
@@ -77,7 +77,7 @@ pub fn first_faulty(text: &[u8], number: u32, first: bool) -> Faulty<'_>
         let end = line_end(rest);
         let line = &rest[..end];
         if let Err(fault) = read_line(line, is_first, &mut read) {
-            return Faulty {
+            return FaultyLine {
                 number: number_after(number, passed),
                 line,
                 fault,
@@ -87,7 +87,7 @@ pub fn first_faulty(text: &[u8], number: u32, first: bool) -> Faulty<'_>
         passed += 1;
         at += end + 1;
     }
-    Faulty {
+    FaultyLine {
         number: number_after(number, passed),
         line: &[],
         fault: Fault::OutOfPlace,
@@ -95,7 +95,7 @@ pub fn first_faulty(text: &[u8], number: u32, first: bool) -> Faulty<'_>
 }
 
 /// The line whose fault ends the runs of a script that end with one.
-pub fn faulty_in(script: &[u8]) -> Faulty<'_>
+pub fn faulty_in(script: &[u8]) -> FaultyLine<'_>
     requires { length script.now ≤ most_script_bytes }
     // If a run of the script ends with a fault, that is its last event.
     ensures ended { (events : List Event) → IsRun script.now events Outcome.ScriptFault

@@ -1,19 +1,19 @@
 //! The front of a script that can be passed on as text.
 
 ghost use Rattle.std.specs.Prelude.{◌≡◌, None, position};
-ghost use Rattle.mvsjob.specs.Served.{HasNoForeign, is_foreign};
+ghost use Rattle.mvsjob.specs.ModeResult.{HasNoForeign, is_foreign};
 
-use crate::faulty::Faulty;
+use crate::faulty::FaultyLine;
 use crate::recorder::{ended, ended_lines};
-use job_script::parted::parted;
 use job_script::read_line;
+use job_script::split_once::split_once;
 use mvs_model::line::{Fault, Line};
 
 /// A script up to the first line with a byte that no line may have, and that line, if there is one.
 #[derive(Clone, Copy)]
 pub struct Front<'a> {
     pub bytes: &'a [u8],
-    pub faulty: Option<Faulty<'a>>,
+    pub faulty: Option<FaultyLine<'a>>,
 }
 
 impl<'a> Front<'a> {
@@ -45,11 +45,11 @@ pub fn front_of(script: &[u8]) -> Front<'_>
     };
     let front = &script[..at.min(script.len())];
     let begin = ended(front);
-    let (line, _) = parted(&script[begin..], b'\n');
+    let (line, _) = split_once(&script[begin..], b'\n');
     let mut read = Line::Nothing;
     Front {
         bytes: &script[..begin],
-        faulty: Some(Faulty {
+        faulty: Some(FaultyLine {
             number: ended_lines(front).saturating_add(1),
             line,
             fault: read_line(line, false, &mut read)

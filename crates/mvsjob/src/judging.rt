@@ -1,11 +1,11 @@
 //! Judges the output of another program.
 
 ghost use Rattle.std.specs.Prelude.{◌≡◌, ◌∷◌, ◌++◌, ℕ, List, IfOk};
-ghost use Rattle.mvsjob.specs.Served.{Judges, word_of};
+ghost use Rattle.mvsjob.specs.ModeResult.{Judges, word_of};
 
 use crate::difference::write_difference;
-use crate::ending::{Ending, GiveUp};
-use crate::served::Served;
+use crate::ending::{CliError, ExitReason};
+use crate::served::ModeResult;
 use job_script::write_all;
 use judge::{Finding, Judgement, judge};
 use mvs_job::RunFault;
@@ -66,19 +66,19 @@ pub fn judge_output<'a, W: Write>(
     script: &'a [u8],
     output: &[u8],
     writer: &mut Watched<W>,
-) -> Result<Served<'a>, GiveUp>
+) -> Result<ModeResult<'a>, CliError>
     ensures { Judges (W.contents writer.old.inner) (W.contents writer.new.inner) script.now
         output.now result }
 {
     let judgement = match judge(alloc, script, output) {
         Ok(judgement) => judgement,
-        Err(fault) => return Err(GiveUp::Job(fault)),
+        Err(fault) => return Err(CliError::Job(fault)),
     };
     let Ok(report) = report_of(alloc, &judgement, output) else {
-        return Err(GiveUp::Job(RunFault::Memory));
+        return Err(CliError::Job(RunFault::Memory));
     };
     let Ok(()) = write_all(writer, &report) else {
-        return Err(GiveUp::Job(RunFault::Write));
+        return Err(CliError::Job(RunFault::Write));
     };
-    Ok(Served::of(Ending::Judged(judgement.finding)))
+    Ok(ModeResult::of(ExitReason::Judged(judgement.finding)))
 }

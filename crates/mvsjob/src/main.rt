@@ -6,9 +6,7 @@ ghost use Rattle.std.specs.Process.{exit_status};
 ghost use Rattle.mvsjob.specs.Endings.{status_of};
 
 mod answers;
-mod queries;
 mod assembled;
-mod choices;
 mod clues;
 mod coloured;
 mod command_line;
@@ -19,9 +17,11 @@ mod faultless;
 mod faulty;
 mod front;
 mod judging;
-mod recorder;
 mod opened;
+mod options;
 mod piped;
+mod queries;
+mod recorder;
 mod script;
 mod served;
 mod streamed;
@@ -33,14 +33,14 @@ use choices::{Apart, Mode, Settings};
 use coloured::{Coloured, is_coloured};
 use command_line::{names_files, settings};
 use diagnosis::{PlainName, diagnose};
-use ending::{Cause, Ending, GiveUp};
+use ending::{Cause, CliError, ExitReason};
 use event_json::EventLines;
-use faulty::Faulty;
+use faulty::FaultyLine;
 use kept::LineRecorder;
 use mvs_job::{Explained, RunFault};
 use mvs_model::outcome::Outcome;
 use mvs_model::watched::Watched;
-use opened::Opened;
+use opened::OpenReader;
 use piped::Piped;
 use script::{read_output, read_script};
 use served::serve_script;
@@ -53,7 +53,7 @@ use strict::Teller;
 use terminal::{is_at_terminal, run_at_terminal};
 
 // Reports a faulty line on standard error. A failure to do so changes nothing.
-pub(crate) fn tell(rt: &HostRuntime, name: &str, faulty: &Faulty<'_>) {
+pub(crate) fn report_fault(rt: &HostRuntime, name: &str, faulty: &FaultyLine<'_>) {
     let diagnosis = diagnose(rt.alloc(), faulty.line, faulty.fault);
     let name = PlainName(name);
     let _ = eprint!(rt; "{name}:{}:{diagnosis}", faulty.number);
@@ -66,7 +66,7 @@ pub(crate) type Output<'a> = Coloured<BufWriter<Piped<io::Printer<'a, HostRuntim
 fn standard_output<'a>(
     rt: &'a HostRuntime,
     settings: &Settings<'_>,
-) -> Result<Watched<Output<'a>>, GiveUp>
+) -> Result<Watched<Output<'a>>, CliError>
     ensures { IfOk result (λ writer. writer.failed ≡ false) }
 {
     match BufWriter::new(rt.alloc(), Piped::new(io::writer(rt))) {
@@ -74,21 +74,24 @@ fn standard_output<'a>(
             writer,
             settings.is_answers() && is_coloured(rt, settings.color),
         ))),
-        Err(_) => Err(GiveUp::Job(RunFault::Memory)),
+        Err(_) => Err(CliError::Job(RunFault::Memory)),
     }
 }
 
 // Flushes what a mode printed that ended so. A flush that fails is a write that failed, and one that failed since nobody reads
 // any more ends the program in silence.
-fn concluded(ended: Result<Ending, GiveUp>, writer: Watched<Output<'_>>) -> Result<Ending, GiveUp> {
+fn finish_output(
+    ended: Result<ExitReason, CliError>,
+    writer: Watched<Output<'_>>,
+) -> Result<ExitReason, CliError> {
     let mut writer = writer.into_inner();
     let flushed = writer.flush();
     match ended {
         Ok(ending) if flushed.is_ok() => Ok(ending),
-        Ok(_) | Err(GiveUp::Job(RunFault::Write)) if writer.get_ref().get_ref().is_closed() => {
-            Err(GiveUp::Pipe)
+        Ok(_) | Err(CliError::Job(RunFault::Write)) if writer.get_ref().get_ref().is_closed() => {
+            Err(CliError::Pipe)
         }
-        Ok(_) => Err(GiveUp::Job(RunFault::Write)),
+        Ok(_) => Err(CliError::Job(RunFault::Write)),
         Err(why) => Err(why),
     }
 }
@@ -99,34 +102,34 @@ pub(crate) fn passed_on(
     settings: &Settings<'_>,
     writer: &mut Watched<Output<'_>>,
     ended: Result<Outcome, RunFault>,
-    read_failure: GiveUp,
-    faulty: &Faulty<'_>,
-) -> Result<Ending, GiveUp> {
+    read_failure: CliError,
+    faulty: &FaultyLine<'_>,
+) -> Result<ExitReason, CliError> {
     match ended {
         Ok(Outcome::ScriptFault) => {
             if writer.flush().is_err() {
-                return Err(GiveUp::Job(RunFault::Write));
+                return Err(CliError::Job(RunFault::Write));
             }
-            tell(rt, settings.file, faulty);
-            Ok(Ending::Ran(Outcome::ScriptFault))
+            report_fault(rt, settings.file, faulty);
+            Ok(ExitReason::Ran(Outcome::ScriptFault))
         }
-        Ok(outcome) => Ok(Ending::Ran(outcome)),
+        Ok(outcome) => Ok(ExitReason::Ran(outcome)),
         Err(RunFault::Read) => Err(read_failure),
-        Err(fault) => Err(GiveUp::Job(fault)),
+        Err(fault) => Err(CliError::Job(fault)),
     }
 }
 
 // Runs the script that a reader has as it comes.
 fn run_lines<R: Read + Drop>(
     rt: &HostRuntime,
-    reader: Opened<R>,
+    reader: OpenReader<R>,
     settings: &Settings<'_>,
     writer: &mut Watched<Output<'_>>,
-) -> Result<Ending, GiveUp>
+) -> Result<ExitReason, CliError>
     requires { writer.old.failed ≡ false }
 {
     let Ok(kept) = LineRecorder::new(rt.alloc(), reader) else {
-        return Err(GiveUp::Job(RunFault::Memory));
+        return Err(CliError::Job(RunFault::Memory));
     };
     let (alloc, placement) = (rt.alloc(), settings.placement);
     let ran = if settings.json {
@@ -154,14 +157,14 @@ fn serve_reader<R: Read + Drop>(
     reader: R,
     settings: &Settings<'_>,
     writer: &mut Watched<Output<'_>>,
-) -> Result<Ending, GiveUp>
+) -> Result<ExitReason, CliError>
     requires { writer.old.failed ≡ false }
 {
     if settings.is_as_it_comes() && is_at_terminal(rt, settings) {
-        return run_at_terminal(rt, Opened::new(reader), settings, writer);
+        return run_at_terminal(rt, OpenReader::new(reader), settings, writer);
     }
     if settings.is_as_it_comes() && !settings.strict {
-        return run_lines(rt, Opened::new(reader), settings, writer);
+        return run_lines(rt, OpenReader::new(reader), settings, writer);
     }
     let script = read_script(rt.alloc(), reader)?;
     let output = judged(rt, settings)?;
@@ -169,21 +172,21 @@ fn serve_reader<R: Read + Drop>(
     let served = serve_script(rt.alloc(), settings, &script, &output, writer, &mut teller)?;
     if let Some(faulty) = &served.faulty {
         if writer.flush().is_err() {
-            return Err(GiveUp::Job(RunFault::Write));
+            return Err(CliError::Job(RunFault::Write));
         }
-        tell(rt, settings.file, faulty);
+        report_fault(rt, settings.file, faulty);
     }
     Ok(served.ending)
 }
 
 // Reads the output that is judged; there is none without `--judge`.
-fn judged(rt: &HostRuntime, settings: &Settings<'_>) -> Result<Vec<u8>, GiveUp> {
+fn judged(rt: &HostRuntime, settings: &Settings<'_>) -> Result<Vec<u8>, CliError> {
     if settings.mode != Mode::Judge {
         return Ok(Vec::new(rt.alloc()));
     }
     match File::open(rt, settings.judged) {
         Ok(output) => read_output(rt.alloc(), output),
-        Err(error) => Err(GiveUp::Output(Cause::from(error.kind()))),
+        Err(error) => Err(CliError::Output(Cause::from(error.kind()))),
     }
 }
 
@@ -192,7 +195,7 @@ fn serve(
     rt: &HostRuntime,
     settings: &Settings<'_>,
     writer: &mut Watched<Output<'_>>,
-) -> Result<Ending, GiveUp>
+) -> Result<ExitReason, CliError>
     requires { writer.old.failed ≡ false }
 {
     if settings.is_without_script() {
@@ -203,36 +206,40 @@ fn serve(
     }
     match File::open(rt, settings.file) {
         Ok(script) => serve_reader(rt, script, settings, writer),
-        Err(error) => Err(GiveUp::Script(Cause::from(error.kind()))),
+        Err(error) => Err(CliError::Script(Cause::from(error.kind()))),
     }
 }
 
 // Does what the settings ask for, and ends standard output.
-fn serve_and_flush(rt: &HostRuntime, settings: &Settings<'_>) -> Result<Ending, GiveUp> {
+fn serve_and_flush(rt: &HostRuntime, settings: &Settings<'_>) -> Result<ExitReason, CliError> {
     let mut writer = standard_output(rt, settings)?;
     let ended = serve(rt, settings, &mut writer);
-    concluded(ended, writer)
+    finish_output(ended, writer)
 }
 
 // Prints the message of `clap`, and that only one FILE is allowed if there are several.
-fn explain(rt: &HostRuntime, words: &[String], error: &clap::Error) -> Result<Ending, GiveUp> {
+fn explain(
+    rt: &HostRuntime,
+    words: &[String],
+    error: &clap::Error,
+) -> Result<ExitReason, CliError> {
     let kind = error.kind();
     if kind == clap::error::ErrorKind::OutOfMemory {
-        return Err(GiveUp::Job(RunFault::Memory));
+        return Err(CliError::Job(RunFault::Memory));
     }
     if kind == clap::error::ErrorKind::UnknownArgument && names_files(words) {
         let _ = eprintln!(rt; "mvsjob: expected one FILE, found several: run mvsjob once for each");
     }
     match error.print(rt) {
-        Ok(()) if error.use_stderr() => Ok(Ending::Refused),
-        Ok(()) => Ok(Ending::Printed),
-        Err(error) if error.kind() == ErrorKind::BrokenPipe => Err(GiveUp::Pipe),
-        Err(error) => Err(GiveUp::of_write(error.kind())),
+        Ok(()) if error.use_stderr() => Ok(ExitReason::Refused),
+        Ok(()) => Ok(ExitReason::Printed),
+        Err(error) if error.kind() == ErrorKind::BrokenPipe => Err(CliError::Pipe),
+        Err(error) => Err(CliError::of_write(error.kind())),
     }
 }
 
 // Returns the words of the command line, the program's name first. A word that is not UTF-8 names no file that can be opened.
-fn words(rt: &HostRuntime) -> Result<Vec<String>, GiveUp> {
+fn words(rt: &HostRuntime) -> Result<Vec<String>, CliError> {
     let mut words = Vec::new(rt.alloc());
     match env::args(rt) {
         Ok(args) => {
@@ -241,36 +248,38 @@ fn words(rt: &HostRuntime) -> Result<Vec<String>, GiveUp> {
             }
             Ok(words)
         }
-        Err(error) if error.kind() == ErrorKind::OutOfMemory => Err(GiveUp::Job(RunFault::Memory)),
-        Err(_) => Err(GiveUp::Script(Cause::Unnamed)),
+        Err(error) if error.kind() == ErrorKind::OutOfMemory => Err(CliError::Job(
+            RunFault::Memory,
+        )),
+        Err(_) => Err(CliError::Script(Cause::Unnamed)),
     }
 }
 
 // Says why the program stopped before its work was done, if it did. A failure to say so changes nothing.
-fn finish(rt: &HostRuntime, file: &str, judged: &str, ending: Ending) -> ExitCode
+fn finish(rt: &HostRuntime, file: &str, judged: &str, ending: ExitReason) -> ExitCode
     ensures { exit_status result ≡ status_of ending }
 {
     if let Some(text) = ending.text() {
         let _ = eprintln!(rt; "mvsjob: {text}");
     }
-    if let Ending::GaveUp(GiveUp::Script(cause)) = ending {
+    if let ExitReason::GaveUp(CliError::Script(cause)) = ending {
         let file = PlainName(if file == "-" { "standard input" } else { file });
         let _ = eprintln!(rt; "    {file}: {}", cause.text());
     }
-    if let Ending::GaveUp(GiveUp::Output(cause)) = ending {
+    if let ExitReason::GaveUp(CliError::Output(cause)) = ending {
         let _ = eprintln!(rt; "    {}: {}", PlainName(judged), cause.text());
     }
     ExitCode::from(ending.status())
 }
 
 // Returns how an option is written, which may be FILE.
-fn written<'a>(rt: &HostRuntime, option: &'a str) -> Result<String, GiveUp> {
+fn written<'a>(rt: &HostRuntime, option: &'a str) -> Result<String, CliError> {
     let dashes = if option == "FILE" { "" } else { "--" };
-    format!(in rt.alloc(); "{dashes}{option}").map_err(|_| GiveUp::Job(RunFault::Memory))
+    format!(in rt.alloc(); "{dashes}{option}").map_err(|_| CliError::Job(RunFault::Memory))
 }
 
 // Refuses options that have no meaning together, as `clap` refuses others. A failure to say so changes nothing.
-fn refuse(rt: &HostRuntime, apart: Apart) -> Result<Ending, GiveUp> {
+fn refuse(rt: &HostRuntime, apart: Apart) -> Result<ExitReason, CliError> {
     let _ = match apart {
         Apart::Excludes(one, other) => {
             let (one, other) = (written(rt, one)?, written(rt, other)?);
@@ -282,7 +291,7 @@ fn refuse(rt: &HostRuntime, apart: Apart) -> Result<Ending, GiveUp> {
         }
     };
     let _ = eprintln!(rt; "\nFor more information, try '--help'.");
-    Ok(Ending::Refused)
+    Ok(ExitReason::Refused)
 }
 
 // Does what the words ask for, and ends.
@@ -297,14 +306,14 @@ fn serve_words(rt: &HostRuntime, words: &[String]) -> ExitCode {
                 rt,
                 settings.file,
                 settings.judged,
-                ended.unwrap_or_else(|why| Ending::GaveUp(why)),
+                ended.unwrap_or_else(|why| ExitReason::GaveUp(why)),
             )
         }
         Err(error) => finish(
             rt,
             "-",
             "-",
-            explain(rt, words, &error).unwrap_or_else(|why| Ending::GaveUp(why)),
+            explain(rt, words, &error).unwrap_or_else(|why| ExitReason::GaveUp(why)),
         ),
     }
 }
@@ -313,6 +322,6 @@ fn serve_words(rt: &HostRuntime, words: &[String]) -> ExitCode {
 fn main(rt: HostRuntime) -> ExitCode {
     match words(&rt) {
         Ok(words) => serve_words(&rt, &words),
-        Err(why) => finish(&rt, "FILE", "-", Ending::GaveUp(why)),
+        Err(why) => finish(&rt, "FILE", "-", ExitReason::GaveUp(why)),
     }
 }

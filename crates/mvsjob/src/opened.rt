@@ -2,36 +2,36 @@
 
 ghost use Rattle.std.specs.Prelude.{◌≡◌};
 
-use crate::ending::GiveUp;
+use crate::ending::CliError;
 use crate::script::read_fault;
 use mvs_job::RunFault;
 use std::io::{self, Read};
 
 /// A reader, and why the program stops if a read of it fails.
 #[derive(Drop)]
-pub struct Opened<R> {
+pub struct OpenReader<R> {
     inner: R,
-    failure: GiveUp,
+    failure: CliError,
 }
 
-impl<R> Opened<R> {
+impl<R> OpenReader<R> {
     /// Makes a reader before its first failure.
-    pub fn new(inner: R) -> Opened<R>
+    pub fn new(inner: R) -> OpenReader<R>
         ensures { result.inner ≡ inner }
     {
-        Opened {
+        OpenReader {
             inner,
-            failure: GiveUp::Job(RunFault::Read),
+            failure: CliError::Job(RunFault::Read),
         }
     }
 
     /// Returns why the program stops if a read failed.
-    pub fn failure(&self) -> GiveUp {
+    pub fn failure(&self) -> CliError {
         self.failure
     }
 }
 
-impl<R: Read> Read for Opened<R> {
+impl<R: Read> Read for OpenReader<R> {
     ghost remaining = { λ o. R.remaining o.inner };
 
     fn read(&mut self, buf: &mut [u8]) -> io::Result<usize> {

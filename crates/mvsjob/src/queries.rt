@@ -7,8 +7,8 @@ ghost use Rattle.mvs_model.specs.Lines.{lines_of};
 ghost use Rattle.mvsjob.specs.Queries.{with_queries, question, questions, questions_after};
 
 use crate::faulty::is_blank_or_comment;
-use job_script::parted::parted;
-use job_script::text::Text;
+use job_script::split_once::split_once;
+use job_script::text::LineText;
 use job_script::{read_line, write_all};
 use mvs_model::line::{Line, Statement, Written};
 use mvs_model::name::Name;
@@ -19,11 +19,11 @@ use std::io::Write;
 fn write_question<W: Write>(writer: &mut Watched<W>, task: &Name, name: &Name) -> Result<(), Failed>
     ensures { Prints W.contents writer.old writer.new result (question task.now name.now) }
 {
-    let mut text = Text::new();
+    let mut text = LineText::new();
     text.push_name(task);
-    text.push_all(b" WHERE ");
+    text.push_str(b" WHERE ");
     text.push_name(name);
-    text.push_all(b"\n");
+    text.push_str(b"\n");
     write_all(writer, text.as_slice())
 }
 
@@ -87,7 +87,7 @@ pub fn write_with_queries<W: Write>(writer: &mut Watched<W>, script: &[u8]) -> R
     let mut is_first = true;
     let mut rest = script;
     'lines: while !rest.is_empty() {
-        let (line, more) = parted(rest, b'\n');
+        let (line, more) = split_once(rest, b'\n');
         write_all(writer, line)?;
         write_all(writer, b"\n")?;
         let Ok(()) = read_line(line, is_first, &mut read) else {

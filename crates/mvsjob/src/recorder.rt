@@ -2,9 +2,9 @@
 
 ghost use Rattle.std.specs.Prelude.{◌≡◌, ◌≤◌, IfOk, length};
 
-use crate::faulty::{Faulty, first_faulty};
-use job_script::parted::parted;
+use crate::faulty::{FaultyLine, first_faulty};
 use job_script::read_line;
+use job_script::split_once::split_once;
 use mvs_model::line::Line;
 use std::alloc::{AllocError, Global};
 use std::io::{self, Read};
@@ -15,7 +15,7 @@ const ROOM: usize = 66_048;
 /// What was read since the beginning of the line in which the latest read began. The lines before had no fault, since a job reads
 /// nothing after one.
 #[derive(Drop)]
-struct Lines {
+struct RecordedLines {
     /// On the heap, and never more than the room that was taken when the reader was made.
     bytes: Vec<u8>,
     /// The number of the first line that is kept.
@@ -28,7 +28,7 @@ struct Lines {
 #[derive(Drop)]
 pub struct LineRecorder<R> {
     inner: R,
-    lines: Lines,
+    lines: RecordedLines,
 }
 
 /// Returns whether no line of a text is a statement.
@@ -36,7 +36,7 @@ pub fn is_silent(text: &[u8]) -> bool {
     let mut read = Line::Nothing;
     let mut rest = text;
     'lines: loop {
-        let (line, more) = parted(rest, b'\n');
+        let (line, more) = split_once(rest, b'\n');
         let said = read_line(line, true, &mut read);
         if said.is_err() || !matches!(read, Line::Nothing) {
             return false;
@@ -78,9 +78,9 @@ pub fn ended(text: &[u8]) -> usize
     0
 }
 
-impl Lines {
-    fn new(alloc: Global) -> Result<Lines, AllocError> {
-        Ok(Lines {
+impl RecordedLines {
+    fn new(alloc: Global) -> Result<RecordedLines, AllocError> {
+        Ok(RecordedLines {
             bytes: Vec::with_capacity(alloc, ROOM)?,
             number: 1,
             first: true,
@@ -108,7 +108,7 @@ impl Lines {
         let _ = self.bytes.extend_from_slice(&told[..count]);
     }
 
-    fn faulty(&self) -> Faulty<'_> {
+    fn faulty(&self) -> FaultyLine<'_> {
         first_faulty(&self.bytes, self.number, self.first)
     }
 }
@@ -119,13 +119,13 @@ impl<R: Drop> LineRecorder<R> {
         ensures { IfOk result (λ kept. kept.inner ≡ inner) }
     {
         Ok(LineRecorder {
-            lines: Lines::new(alloc)?,
+            lines: RecordedLines::new(alloc)?,
             inner,
         })
     }
 
     /// The line whose fault has ended a job.
-    pub fn faulty(&self) -> Faulty<'_> {
+    pub fn faulty(&self) -> FaultyLine<'_> {
         self.lines.faulty()
     }
 

@@ -4,7 +4,7 @@ ghost use Rattle.std.specs.Prelude.{◌≡◌, ◌≤◌, IfOk, IfSome, length, 
 ghost use Rattle.mvs_job.specs.Exchanging.{IsRest};
 ghost use Rattle.mvs_model.specs.Numbers.{most_script_bytes};
 
-use crate::ending::{Cause, GiveUp};
+use crate::ending::{Cause, CliError};
 use mvs_job::RunFault;
 use mvs_model::numbers::MOST_SCRIPT_BYTES;
 use std::alloc::Global;
@@ -14,16 +14,16 @@ use std::io::{self, ErrorKind, Read};
 const MOST_OUTPUT_BYTES: usize = 268_435_455;
 
 /// Returns why the program stops at a read that failed.
-pub fn read_fault(error: &io::Error) -> GiveUp {
+pub fn read_fault(error: &io::Error) -> CliError {
     match error.kind() {
-        ErrorKind::OutOfMemory => GiveUp::Job(RunFault::Memory),
-        ErrorKind::IsADirectory => GiveUp::Script(Cause::Directory),
-        _ => GiveUp::Job(RunFault::Read),
+        ErrorKind::OutOfMemory => CliError::Job(RunFault::Memory),
+        ErrorKind::IsADirectory => CliError::Script(Cause::Directory),
+        _ => CliError::Job(RunFault::Read),
     }
 }
 
 // Reads the bytes that a reader has, up to a number.
-fn bytes_of<R: Read + Drop>(alloc: Global, reader: R, most: u64) -> Result<Vec<u8>, GiveUp>
+fn bytes_of<R: Read + Drop>(alloc: Global, reader: R, most: u64) -> Result<Vec<u8>, CliError>
     ensures { IfOk result (λ bytes. IfSome (R.remaining reader) (λ xs. bytes.items ≡ take most xs)) }
 {
     let mut bytes = Vec::new(alloc);
@@ -34,25 +34,25 @@ fn bytes_of<R: Read + Drop>(alloc: Global, reader: R, most: u64) -> Result<Vec<u
 }
 
 /// Reads a script: all bytes that a reader has. Fails if these are more than 16,777,215.
-pub fn read_script<R: Read + Drop>(alloc: Global, reader: R) -> Result<Vec<u8>, GiveUp>
+pub fn read_script<R: Read + Drop>(alloc: Global, reader: R) -> Result<Vec<u8>, CliError>
     ensures whole { IfOk result (λ script. IsRest (R.remaining reader) script.items) }
     ensures most { IfOk result (λ script. length script.items ≤ most_script_bytes) }
 {
     let script = bytes_of(alloc, reader, MOST_SCRIPT_BYTES as u64 + 1)?;
     if script.len() > MOST_SCRIPT_BYTES {
-        return Err(GiveUp::Job(RunFault::ReadTooLong));
+        return Err(CliError::Job(RunFault::ReadTooLong));
     }
     Ok(script)
 }
 
 /// Reads an output that is judged: all bytes that a reader has. Fails if these are more than 268,435,455.
-pub fn read_output<R: Read + Drop>(alloc: Global, reader: R) -> Result<Vec<u8>, GiveUp>
+pub fn read_output<R: Read + Drop>(alloc: Global, reader: R) -> Result<Vec<u8>, CliError>
     ensures { IfOk result (λ output. IsRest (R.remaining reader) output.items) }
 {
     match bytes_of(alloc, reader, MOST_OUTPUT_BYTES as u64 + 1) {
-        Ok(output) if output.len() > MOST_OUTPUT_BYTES => Err(GiveUp::Output(Cause::TooLong)),
+        Ok(output) if output.len() > MOST_OUTPUT_BYTES => Err(CliError::Output(Cause::TooLong)),
         Ok(output) => Ok(output),
-        Err(GiveUp::Script(cause)) => Err(GiveUp::Output(cause)),
+        Err(CliError::Script(cause)) => Err(CliError::Output(cause)),
         Err(why) => Err(why),
     }
 }

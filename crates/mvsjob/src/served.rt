@@ -4,22 +4,24 @@ ghost use Rattle.std.specs.Prelude.{◌≡◌, ◌≤◌, ◌⊎◌, [], ℕ, Co
 ghost use Rattle.event_json.specs.Lines.{event_lines};
 ghost use Rattle.mvs_model.specs.Numbers.{most_script_bytes};
 ghost use Rattle.mvs_job.specs.Explained.{explained};
-ghost use Rattle.mvsjob.specs.declared.choices.Recipe.{Recipe};
+ghost use Rattle.mvsjob.specs.declared.options.Recipe.{Recipe};
 ghost use Rattle.mvsjob.specs.Checking.{Checks};
 ghost use Rattle.mvsjob.specs.Endings.{strict_ending};
-ghost use Rattle.mvsjob.specs.Served.{Asks, Blanks, ConsumesStrictly, EndsAtFault, HasNoForeign, IsFaultOf, IsPrinted, Judges, Pages, RunsStrictly, WritesAbout, WritesText};
+ghost use Rattle.mvsjob.specs.ModeResult.{Asks, Blanks, ConsumesStrictly, EndsAtFault, HasNoForeign, IsFaultOf, IsPrinted, Judges, Pages, RunsStrictly, WritesAbout, WritesText};
 ghost use Rattle.reference.specs.Texts.{IsRule, names, rule_name};
 
 use crate::answers::{check_answers, write_blanks, write_questions};
 use crate::assembled::write_assembled;
-use crate::choices::{Mode, Recipe, Settings};
-use crate::ending::{Ending, GiveUp};
-use crate::faulty::{Faulty, faulty_in};
+use crate::ending::{CliError, ExitReason};
+use crate::faulty::{FaultyLine, faulty_in};
 use crate::judging::judge_output;
+use crate::options::{Mode, Recipe, Settings};
 use crate::through::Through;
 use event_json::EventLines;
 use job_script::write_all;
-use mvs_job::{Consumer, Explained, SkipObserver, RunFault, StrictOutcome, run_observed, run_strictly};
+use mvs_job::{
+    Consumer, Explained, RunFault, SkipObserver, StrictOutcome, run_observed, run_strictly,
+};
 use mvs_model::outcome::Outcome;
 use mvs_model::want::Placement;
 use mvs_model::watched::Watched;
@@ -31,47 +33,47 @@ use std::io::Write;
 
 /// What a mode did with a script: how the program ends, and the line to report, if one has a fault.
 #[derive(Drop)]
-pub struct Served<'a> {
-    pub ending: Ending,
-    pub faulty: Option<Faulty<'a>>,
+pub struct ModeResult<'a> {
+    pub ending: ExitReason,
+    pub faulty: Option<FaultyLine<'a>>,
 }
 
-impl<'a> Served<'a> {
+impl<'a> ModeResult<'a> {
     /// Returns what a mode did that has no line to report.
-    pub fn of(ending: Ending) -> Served<'a>
+    pub fn of(ending: ExitReason) -> ModeResult<'a>
         ensures ending { result.ending ≡ ending }
         ensures faulty { result.faulty ≡ None }
     {
-        Served {
+        ModeResult {
             ending,
             faulty: None,
         }
     }
 
     /// Returns what a mode did that a fault ended.
-    pub fn of_fault(faulty: Faulty<'a>) -> Served<'a>
-        ensures ending { result.ending ≡ Ending.Ran Outcome.ScriptFault }
+    pub fn of_fault(faulty: FaultyLine<'a>) -> ModeResult<'a>
+        ensures ending { result.ending ≡ ExitReason.Ran Outcome.ScriptFault }
         ensures faulty { result.faulty ≡ Some faulty.entry }
     {
-        Served {
-            ending: Ending::Ran(Outcome::ScriptFault),
+        ModeResult {
+            ending: ExitReason::Ran(Outcome::ScriptFault),
             faulty: Some(faulty),
         }
     }
 
     /// Returns what a mode did that wrote the front of a script up to a line, if that one has a fault.
-    pub fn of_front(faulty: Option<Faulty<'a>>) -> Served<'a>
+    pub fn of_front(faulty: Option<FaultyLine<'a>>) -> ModeResult<'a>
         ensures { faulty.entry ≡ None → IsPrinted result }
     {
         match faulty {
-            Some(faulty) => Served::of_fault(faulty),
-            None => Served::of(Ending::Printed),
+            Some(faulty) => ModeResult::of_fault(faulty),
+            None => ModeResult::of(ExitReason::Printed),
         }
     }
 }
 
 /// Returns the line whose fault ended a run of a script, if one did.
-pub fn fault_of(script: &[u8], outcome: Outcome) -> Option<Faulty<'_>>
+pub fn fault_of(script: &[u8], outcome: Outcome) -> Option<FaultyLine<'_>>
     requires { length script.now ≤ most_script_bytes }
     ensures { IsFaultOf script.now outcome result }
 {
@@ -87,28 +89,28 @@ fn page<'a, W: Write>(
     script: &'a [u8],
     writer: &mut Watched<W>,
     placement: Placement,
-) -> Result<Served<'a>, GiveUp>
+) -> Result<ModeResult<'a>, CliError>
     requires { length script.now ≤ most_script_bytes }
     ensures { Pages (W.contents writer.old.inner) (W.contents writer.new.inner) FRAME.now
         script.now result }
 {
     match write_page(alloc, FRAME.as_bytes(), script, writer, placement) {
-        Ok(outcome) => Ok(Served {
-            ending: Ending::Ran(outcome),
+        Ok(outcome) => Ok(ModeResult {
+            ending: ExitReason::Ran(outcome),
             faulty: fault_of(script, outcome),
         }),
-        Err(stop) => Err(GiveUp::of(stop)),
+        Err(stop) => Err(CliError::of(stop)),
     }
 }
 
 // Returns what a run did whose lines were observed.
-fn of_strict(script: &[u8], end: StrictOutcome) -> Served<'_>
+fn of_strict(script: &[u8], end: StrictOutcome) -> ModeResult<'_>
     requires { length script.now ≤ most_script_bytes }
     ensures ending { result.ending ≡ strict_ending end.outcome end.all_served }
     ensures faulty { IsFaultOf script.now end.outcome result.faulty }
 {
-    Served {
-        ending: Ending::of_strict(end),
+    ModeResult {
+        ending: ExitReason::of_strict(end),
         faulty: fault_of(script, end.outcome),
     }
 }
@@ -120,14 +122,14 @@ fn run_strict<'a, W: Write, H: SkipObserver>(
     writer: &mut Watched<W>,
     placement: Placement,
     hearer: &mut H,
-) -> Result<Served<'a>, GiveUp>
+) -> Result<ModeResult<'a>, CliError>
     requires { length script.now ≤ most_script_bytes }
     ensures { RunsStrictly (W.contents writer.old.inner) (W.contents writer.new.inner)
         (H.heard hearer.old) (H.heard hearer.new) script.now result }
 {
     match run_strictly(alloc, script, writer, placement, hearer) {
         Ok(end) => Ok(of_strict(script, end)),
-        Err(stop) => Err(GiveUp::of(stop)),
+        Err(stop) => Err(CliError::of(stop)),
     }
 }
 
@@ -139,7 +141,7 @@ fn consume_strict<'a, W: Write, C: Consumer, H: SkipObserver>(
     placement: Placement,
     consumer: &mut C,
     hearer: &mut H,
-) -> Result<Served<'a>, GiveUp>
+) -> Result<ModeResult<'a>, CliError>
     requires script { length script.now ≤ most_script_bytes }
     requires new { (C.knows consumer.old).has consumer.old [] }
     ensures { ConsumesStrictly C.piece (W.contents writer.old.inner) (W.contents writer.new.inner)
@@ -147,7 +149,7 @@ fn consume_strict<'a, W: Write, C: Consumer, H: SkipObserver>(
 {
     match run_observed(alloc, script, writer, placement, consumer, hearer) {
         Ok(end) => Ok(of_strict(script, end)),
-        Err(stop) => Err(GiveUp::of(stop)),
+        Err(stop) => Err(CliError::of(stop)),
     }
 }
 
@@ -156,7 +158,7 @@ fn write_random<W: Write>(
     alloc: Global,
     writer: &mut Watched<W>,
     recipe: Recipe,
-) -> Result<Served<'static>, GiveUp>
+) -> Result<ModeResult<'static>, CliError>
     ensures { IfOk result IsPrinted }
 {
     let mut writer = Through::new(writer);
@@ -166,9 +168,9 @@ fn write_random<W: Write>(
         profile,
     } = recipe;
     match write_script(alloc, &mut writer, seed, lines, profile) {
-        Ok(()) => Ok(Served::of(Ending::Printed)),
-        Err(RandomFault::Memory) => Err(GiveUp::Job(RunFault::Memory)),
-        Err(RandomFault::Write) => Err(GiveUp::Job(RunFault::Write)),
+        Ok(()) => Ok(ModeResult::of(ExitReason::Printed)),
+        Err(RandomFault::Memory) => Err(CliError::Job(RunFault::Memory)),
+        Err(RandomFault::Write) => Err(CliError::Job(RunFault::Write)),
     }
 }
 
@@ -176,16 +178,16 @@ fn write_random<W: Write>(
 fn write_text<W: Write>(
     writer: &mut Watched<W>,
     text: Option<&'static str>,
-) -> Result<Served<'static>, GiveUp>
+) -> Result<ModeResult<'static>, CliError>
     ensures { IfSome text.entry (λ t. WritesText (W.contents writer.old.inner)
         (W.contents writer.new.inner) t.now result) }
 {
     match text {
         Some(text) => match write_all(writer, text.as_bytes()) {
-            Ok(()) => Ok(Served::of(Ending::Printed)),
-            Err(_) => Err(GiveUp::Job(RunFault::Write)),
+            Ok(()) => Ok(ModeResult::of(ExitReason::Printed)),
+            Err(_) => Err(CliError::Job(RunFault::Write)),
         },
-        None => Ok(Served::of(Ending::Printed)),
+        None => Ok(ModeResult::of(ExitReason::Printed)),
     }
 }
 
@@ -196,7 +198,7 @@ fn run<'a, W: Write, H: SkipObserver>(
     script: &'a [u8],
     writer: &mut Watched<W>,
     hearer: &mut H,
-) -> Result<Served<'a>, GiveUp>
+) -> Result<ModeResult<'a>, CliError>
     requires { length script.now ≤ most_script_bytes }
     ensures json { IsTrue settings.now.json
         → ConsumesStrictly event_lines (W.contents writer.old.inner) (W.contents writer.new.inner)
@@ -235,7 +237,7 @@ pub fn serve_script<'a, W: Write, H: SkipObserver>(
     output: &[u8],
     writer: &mut Watched<W>,
     hearer: &mut H,
-) -> Result<Served<'a>, GiveUp>
+) -> Result<ModeResult<'a>, CliError>
     requires { length script.now ≤ most_script_bytes }
     ensures page { settings.now.mode ≡ Mode.Run → settings.now.json ≡ false
         → IsTrue settings.now.page

@@ -7,10 +7,10 @@ ghost use Rattle.mvs_model.specs.Numbers.{most_script_bytes};
 ghost use Rattle.mvs_model.specs.Runs.{IsAnswered, IsPrinting, IsPrintingFront};
 ghost use Rattle.mvs_job.specs.Consuming.{WritesText};
 ghost use Rattle.mvs_job.specs.Streams.{StopsText};
-ghost use Rattle.mvsjob.specs.Faultless.{Writes, WritesPart};
+ghost use Rattle.mvsjob.specs.FaultFilter.{Writes, WritesPart};
 
 use crate::recorder::LineRecorder;
-use mvs_job::{Consumer, RunFault, AddressHints, run_job, run_source};
+use mvs_job::{AddressHints, Consumer, RunFault, run_job, run_source};
 use mvs_model::outcome::Outcome;
 use mvs_model::want::Placement;
 use mvs_model::watched::Watched;
@@ -62,7 +62,13 @@ pub fn run_streamed<R: Read + Drop, W: Write>(
     ensures write { IsErrOf result.ended RunFault.Write → writer.new.failed ≡ true }
 {
     let mut reader = Watched::new(reader);
-    let ended = run_job(alloc, &mut reader, writer, placement, AddressHints::nothing(alloc));
+    let ended = run_job(
+        alloc,
+        &mut reader,
+        writer,
+        placement,
+        AddressHints::nothing(alloc),
+    );
     Streamed { ended, reader }
 }
 

@@ -2,10 +2,10 @@
 
 ghost use Rattle.std.specs.Prelude.{None};
 
-use crate::clues::{Needed, Makers, unset};
-use diagnosis::{Clue, NotServed, PlainName};
+use crate::clues::{Makers, Needed, unset};
+use diagnosis::{NotServed, PlainName, Suggestion};
 use job_script::read_line;
-use mvs_job::{SkipObserver, Job, SkipReason, Walk};
+use mvs_job::{Job, SkipObserver, SkipReason, Walk};
 use mvs_model::line::Line;
 
 /// Reports lines of a script on standard error that were not executed.
@@ -36,10 +36,10 @@ impl<'a> Teller<'a> {
     }
 
     // Returns what may help a line.
-    fn clue(&self, job: &Job, line_number: u32, lacked: Needed) -> Clue {
+    fn clue(&self, job: &Job, line_number: u32, lacked: Needed) -> Suggestion {
         match &self.makers {
             Some(makers) => makers.clue(self.rt.alloc(), job, line_number, lacked),
-            None => Clue::Nothing,
+            None => Suggestion::Nothing,
         }
     }
 

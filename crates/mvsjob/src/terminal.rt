@@ -2,13 +2,13 @@
 
 ghost use Rattle.std.specs.Prelude.{◌≡◌, [], false};
 
-use crate::choices::Settings;
-use crate::ending::{Ending, GiveUp};
-use crate::faultless::{End, Listens, run_faultless, run_faultless_to};
-use crate::faulty::Faulty;
-use crate::opened::Opened;
+use crate::ending::{CliError, ExitReason};
+use crate::faultless::{FilterEnd, LineObserver, run_faultless, run_faultless_to};
+use crate::faulty::FaultyLine;
+use crate::opened::OpenReader;
+use crate::options::Settings;
 use crate::strict::Teller;
-use crate::{Output, passed_on, tell};
+use crate::{Output, passed_on, report_fault};
 use event_json::EventLines;
 use mvs_job::{Consumer, Explained, Printer, RunFault, Strict, StrictOutcome};
 use mvs_model::line::Fault;
@@ -28,7 +28,7 @@ impl<'a> Prompter<'a> {
     }
 }
 
-impl Listens for Prompter<'_> {
+impl LineObserver for Prompter<'_> {
     // A failure to ask changes nothing.
     fn on_prompt(&mut self, line_number: u32) {
         let rt = self.rt;
@@ -36,12 +36,12 @@ impl Listens for Prompter<'_> {
     }
 
     fn on_fault(&mut self, line_number: u32, line: &[u8], fault: Fault) {
-        let faulty = Faulty {
+        let faulty = FaultyLine {
             number: line_number,
             line,
             fault,
         };
-        tell(self.rt, self.name, &faulty);
+        report_fault(self.rt, self.name, &faulty);
     }
 
     // Leaves the line of the prompt.
@@ -63,10 +63,10 @@ pub fn is_at_terminal(rt: &HostRuntime, settings: &Settings<'_>) -> bool {
 /// Runs the lines that a reader has as they come, but for those that have a fault.
 pub fn run_at_terminal<R: Read + Drop>(
     rt: &HostRuntime,
-    reader: Opened<R>,
+    reader: OpenReader<R>,
     settings: &Settings<'_>,
     writer: &mut Watched<Output<'_>>,
-) -> Result<Ending, GiveUp>
+) -> Result<ExitReason, CliError>
     requires { writer.old.failed ≡ false }
 {
     let alloc = rt.alloc();
@@ -89,11 +89,11 @@ pub fn run_at_terminal<R: Read + Drop>(
 // executed; without a script there are no hints.
 fn run_typed<R: Read + Drop, C: Consumer>(
     rt: &HostRuntime,
-    reader: Opened<R>,
+    reader: OpenReader<R>,
     settings: &Settings<'_>,
     writer: &mut Watched<Output<'_>>,
     consumer: &mut C,
-) -> Result<Ending, GiveUp>
+) -> Result<ExitReason, CliError>
     requires writer { writer.old.failed ≡ false }
     requires new { (C.knows consumer.old).has consumer.old [] }
 {
@@ -115,17 +115,17 @@ fn end_typed<R: Read + Drop>(
     rt: &HostRuntime,
     settings: &Settings<'_>,
     writer: &mut Watched<Output<'_>>,
-    end: End<Opened<R>>,
+    end: FilterEnd<OpenReader<R>>,
     all_served: bool,
-) -> Result<Ending, GiveUp> {
+) -> Result<ExitReason, CliError> {
     if matches!(end.ended, Err(RunFault::Read | RunFault::ReadTooLong)) {
         // So that the message does not follow the prompt.
         let _ = eprintln!(rt);
     }
     let failure = end.reader.into_inner().failure();
-    let faulty = Faulty::behind(end.number);
+    let faulty = FaultyLine::after(end.number);
     match passed_on(rt, settings, writer, end.ended, failure, &faulty)? {
-        Ending::Ran(outcome) => Ok(Ending::of_strict(StrictOutcome {
+        ExitReason::Ran(outcome) => Ok(ExitReason::of_strict(StrictOutcome {
             outcome,
             all_served,
         })),

@@ -44,7 +44,7 @@ use Rattle.mvs_laws.proofs.Kept.{enters_tasks}
 use Rattle.mvs_model.proofs.Orders.{same_name_is, same_name_self}
 use Rattle.mvs_model.proofs.Tests.{by_test, true_false}
 use Rattle.request_forms.specs.Facts.{listed}
-use Rattle.request_forms.specs.SubpoolLabels.{label_meant}
+use Rattle.request_forms.specs.SubpoolLabels.{resolved_owner}
 use Rattle.page.specs.declared.change.Change.{Change}
 use Rattle.page.specs.declared.change.Change.TheVariants as change
 use Rattle.page.specs.Changes.{answer_changes, area_change, area_changes, free_changes}
@@ -114,7 +114,7 @@ module _ (old new : JobValue) (t : Name) (said : Answer) (p : Picture) (shows : 
   module _ (active : is_active old.state.owners t ≡ true) (before : IsKept old.state) (behind : IsKept new.state) where
     -- the label of the subpool that a task means by a number
     pub label_told : (number s : ℕ) → new.state.owners.tasks ≡ old.state.owners.tasks → is_invalid number ≡ false → entry new.state.owners (keeper old.state.owners t number) number ≡ Some s
-        → (l : Label) × (label_meant new.state.owners t number ≡ Some (l.number, l.owner)) × Means new.state.owners l s
+        → (l : Label) × (resolved_owner new.state.owners t number ≡ Some (l.number, l.owner)) × Means new.state.owners l s
     label_told number s tasks valid is =
         let l = meant new.state.owners t number s behind.well.owners.owned behind.numbered (ap (λ m. contains_key m t) tasks ∙ active) (not-false (is_subpool_number number) valid) ((λ i. entry new.state.owners (keeper_same old.state.owners new.state.owners t number tasks i) number) ∙ is) in
         (record { number = l.0.0; owner = l.0.1 }, l.1, l.2)
@@ -218,7 +218,7 @@ module _ (old new : JobValue) (t : Name) (said : Answer) (p : Picture) (shows : 
 
       emptied : is_invalid number ≡ false → (o : Option ℕ) → subpool_meant old.state.owners t number ≡ o → m.reply ≡ Rc0 → EmptiesEntry old.state o new.state → Shown all said
       emptied valid None none is h =
-          let label : label_meant new.state.owners t number ≡ None = ap (λ st. label_meant st.owners t number) h ∙ ap (λ v. cond (is_subpool_number number && is_active old.state.owners t) (label_of old.state.owners v) None) none ∙ either_none (is_subpool_number number && is_active old.state.owners t) (label_of old.state.owners None) refl in
+          let label : resolved_owner new.state.owners t number ≡ None = ap (λ st. resolved_owner st.owners t number) h ∙ ap (λ v. cond (is_subpool_number number && is_active old.state.owners t) (label_of old.state.owners v) None) none ∙ either_none (is_subpool_number number && is_active old.state.owners t) (label_of old.state.owners None) refl in
           done_shown all all_asked m Rc0 [] is (ap (λ v. listed (option_map (λ l. change.Empty l.0 l.1) v)) label) (same_shown old new p h (names_same all all_asked m (ap places_in is)) shows)
       emptied valid (Some s) some is h =
           let l = label_told number s (ap (λ o. o.tasks) h.owners) valid (ap (λ o. entry o (keeper old.state.owners t number) number) h.owners ∙ some) in

@@ -18,7 +18,7 @@ use Rattle.mvs_model.specs.Want.{WantValue}
 use Rattle.mvs_laws.proofs.Kept.{enters_tasks}
 use Rattle.mvs_model.proofs.Orders.{name_cmp_total, same_name_self}
 use Rattle.request_forms.specs.Facts.{listed}
-use Rattle.request_forms.specs.SubpoolLabels.{label_meant}
+use Rattle.request_forms.specs.SubpoolLabels.{resolved_owner}
 use Rattle.page.specs.declared.change.Change.TheVariants as change
 use Rattle.page.specs.Changes.{area_change, area_changes}
 use Rattle.page.specs.Picture.{Both, IsDrawn, IsMark, Label, Means, Picture, ShowsBy, changed, replayed_all, with_area, with_name}
@@ -72,9 +72,9 @@ set_first : (area : Name) (areas : List Name) (p : PlaceValue) (ps : List PlaceV
 set_first area areas p ps names e = set_else areas ps (insert names area p) area e ∙ set_here names area p
 
 -- the change of an area
-pub area_told : (new : JobValue) (t area : Name) (number : ℕ) (l : Label) (p : PlaceValue) → label_meant new.state.owners t number ≡ Some (l.number, l.owner) → get new.names area ≡ Some p → area_change new t number area ≡ Some (change.Take p l.number l.owner area)
+pub area_told : (new : JobValue) (t area : Name) (number : ℕ) (l : Label) (p : PlaceValue) → resolved_owner new.state.owners t number ≡ Some (l.number, l.owner) → get new.names area ≡ Some p → area_change new t number area ≡ Some (change.Take p l.number l.owner area)
 area_told new t area number l p label place =
-    ap (option_and_then (λ p. option_map (λ l. change.Take p l.0 l.1 area) (label_meant new.state.owners t number))) place
+    ap (option_and_then (λ p. option_map (λ l. change.Take p l.0 l.1 area) (resolved_owner new.state.owners t number))) place
     ∙ ap (option_map (λ l. change.Take p l.0 l.1 area)) label
 
 -- no grant behind one makes a subpool
@@ -86,7 +86,7 @@ owners_same t number s (want ∷ wants) (p ∷ ps) mid new is h =
     let same : h.0.owners ≡ mid.owners = enters_had mid.owners t number h.1.subpool h.0.owners s is h.1.owners in
     owners_same t number s wants ps h.0 new (ap (λ o. entry o t number) same ∙ is) h.2 ∙ same
 
-module _ (new : JobValue) (t u : Name) (number s : ℕ) (l : Label) (k : Numbered new.state.owners) (m : Means new.state.owners l s) (here : entry new.state.owners t number ≡ Some s) (told : label_meant new.state.owners u number ≡ Some (l.number, l.owner)) where
+module _ (new : JobValue) (t u : Name) (number s : ℕ) (l : Label) (k : Numbered new.state.owners) (m : Means new.state.owners l s) (here : entry new.state.owners t number ≡ Some s) (told : resolved_owner new.state.owners u number ≡ Some (l.number, l.owner)) where
   pub areas_shown : (wants : List WantValue) (ps : List PlaceValue) (areas : List Name) (old : JobValue) (p : Picture) → ListGrant old.state t number wants ps new.state → length areas ≡ length ps → is_twice same_name areas ≡ false
       → new.names ≡ all_set old.names areas ps → ShowsBy (Means old.state.owners) p old → ShowsBy (Means new.state.owners) (replayed_all p (area_changes new u number areas)) new
   areas_shown [] [] [] old p h size once names shows = same_shown old new p h names shows

@@ -15,7 +15,7 @@ use Rattle.mvs_model.proofs.Keepers.{number_low}
 use Rattle.mvs_model.proofs.Orders.{same_name_is, same_name_self}
 use Rattle.mvs_model.proofs.SeenReports.{first_only}
 use Rattle.mvs_model.proofs.Tests.{false_true, none_some, same_self}
-use Rattle.request_forms.specs.SubpoolLabels.{label_had, label_meant}
+use Rattle.request_forms.specs.SubpoolLabels.{entry_owner, resolved_owner}
 use Rattle.page.specs.Picture.{Label, Means}
 use Rattle.page.proofs.Numbered.{Numbered}
 
@@ -52,13 +52,13 @@ module _ (o : Owners) where
 
   -- what an active task means by a number
   pub meant : (t : Name) (number s : ℕ) → Owned o → Numbered o → is_active o t ≡ true → is_subpool_number number ≡ true → subpool_meant o t number ≡ Some s
-      → (l : ℕ × Name) × (label_meant o t number ≡ Some l) × Means o (record { number = l.0; owner = l.1 }) s
+      → (l : ℕ × Name) × (resolved_owner o t number ≡ Some l) × Means o (record { number = l.0; owner = l.1 }) s
   meant t number s own k active valid is =
       let l = labelled_entry (keeper o t number) number s own k is in
       (l.0, (λ i. cond (valid i && active i) (label_of o (is i)) None) ∙ l.1, l.2)
 
   -- what an active task has under one
-  pub had : (t : Name) (number : ℕ) (v : Option (ℕ × Name)) → is_active o t ≡ true → label_of o (entry o t number) ≡ v → label_had o t number ≡ v
+  pub had : (t : Name) (number : ℕ) (v : Option (ℕ × Name)) → is_active o t ≡ true → label_of o (entry o t number) ≡ v → entry_owner o t number ≡ v
   had t number v active is = ap (λ b. cond b (label_of o (entry o t number)) None) active ∙ is
 
 -- whose subpool is meant tell the tasks alone

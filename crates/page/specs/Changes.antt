@@ -22,7 +22,7 @@ use Rattle.mvs_model.specs.Pools.{Pool}
 use Rattle.mvs_model.specs.Reports.{each_below}
 use Rattle.mvs_model.specs.Resolving.{resolved}
 use Rattle.request_forms.specs.Facts.{listed}
-use Rattle.request_forms.specs.SubpoolLabels.{label_had, label_meant}
+use Rattle.request_forms.specs.SubpoolLabels.{entry_owner, resolved_owner}
 use Rattle.page.specs.declared.change.Change.{Change}
 use Rattle.page.specs.declared.change.Change.TheVariants as change
 
@@ -30,7 +30,7 @@ use Rattle.page.specs.declared.change.Change.TheVariants as change
 
 -- an area that was obtained from the subpool that the task means by the number
 abbrev pub area_change : JobValue → Name → ℕ → Name → Option Change
-area_change new t number area = option_and_then (λ p. option_map (λ l. change.Take p l.0 l.1 area) (label_meant new.state.owners t number)) (get new.names area)
+area_change new t number area = option_and_then (λ p. option_map (λ l. change.Take p l.0 l.1 area) (resolved_owner new.state.owners t number)) (get new.names area)
 
 -- the areas of a list
 abbrev pub area_changes : JobValue → Name → ℕ → List Name → List Change
@@ -44,11 +44,11 @@ free_changes (p ∷ ps) = change.Free p ∷ free_changes ps
 
 -- the subpool of the number of the task, all of which was released
 abbrev pub empty_change : JobValue → Name → ℕ → Option Change
-empty_change new t number = option_map (λ l. change.Empty l.0 l.1) (label_meant new.state.owners t number)
+empty_change new t number = option_map (λ l. change.Empty l.0 l.1) (resolved_owner new.state.owners t number)
 
 -- a pool that was built in that subpool
 abbrev pub pool_change : JobValue → Name → ℕ → Name → ℕ → Option Change
-pool_change new t number pool size = option_map (λ l. change.Pool pool l.0 l.1 size) (label_meant new.state.owners t number)
+pool_change new t number pool size = option_map (λ l. change.Pool pool l.0 l.1 size) (resolved_owner new.state.owners t number)
 
 -- the last part of a pool
 abbrev pub last_part : Name → Pool → Option Change
@@ -65,7 +65,7 @@ cell_change new pool cell = option_map (λ p. change.Cell pool p cell) (get new.
 -- what a subtask has under a number: it owns what its mother gave, and shares the rest
 abbrev pub held_change : JobValue → Name → Name → ℕ → Option Change
 held_change new mother name n =
-    option_map (λ l. if same_name l.1 name then change.Given name l.0 mother else change.Shared name n l.0 l.1) (label_had new.state.owners name n)
+    option_map (λ l. if same_name l.1 name then change.Given name l.0 mother else change.Shared name n l.0 l.1) (entry_owner new.state.owners name n)
 
 -- what a request did that names places
 abbrev pub request_changes : Option Request → List Change

@@ -4,7 +4,7 @@ ghost use Rattle.std.specs.Prelude.{◌≡◌, ◌≤◌, ◌+◌, ◌++◌, OnO
 ghost use Rattle.mvs_model.specs.Name.{trimmed};
 ghost use Rattle.page.specs.Lines.{change_line, change_lines, change_text, has_text, place_text, residence_text, subpool_text_of};
 
-use job_script::text::Text;
+use job_script::text::LineText;
 use mvs_model::name::Name;
 use mvs_model::place::{Addr, Place};
 use mvs_model::subpool::SubNo;
@@ -117,30 +117,30 @@ pub enum Change {
 }
 
 // Appends the residence of a task.
-fn push_residence(text: &mut Text, residence: Residence)
+fn push_residence(text: &mut LineText, residence: Residence)
     requires { length text.old ≤ 140 }
     ensures text { text.new ≡ text.old ++ residence_text residence }
     ensures len { length text.new ≤ length text.old + 10 }
 {
     match residence {
-        Residence::Below => text.push_all(b" RES BELOW"),
-        Residence::Above => text.push_all(b" RES ABOVE"),
+        Residence::Below => text.push_str(b" RES BELOW"),
+        Residence::Above => text.push_str(b" RES ABOVE"),
     }
 }
 
 // Appends an address and a length.
-fn push_place(text: &mut Text, place: Place)
+fn push_place(text: &mut LineText, place: Place)
     requires { length text.old ≤ 120 }
     ensures text { text.new ≡ text.old ++ place_text place }
     ensures len { length text.new ≤ length text.old + 17 }
 {
     text.push_word(place.addr().get());
-    text.push_all(b" ");
+    text.push_str(b" ");
     text.push_word(place.len());
 }
 
 // Appends the number of a subpool.
-fn push_number(text: &mut Text, number: SubNo)
+fn push_number(text: &mut LineText, number: SubNo)
     requires { length text.old ≤ 140 }
     ensures text { text.new ≡ text.old ++ decimal number }
     ensures len { length text.new ≤ length text.old + 10 }
@@ -149,66 +149,66 @@ fn push_number(text: &mut Text, number: SubNo)
 }
 
 // Appends a subpool.
-fn push_subpool(text: &mut Text, number: SubNo, owner: &Name)
+fn push_subpool(text: &mut LineText, number: SubNo, owner: &Name)
     requires { length text.old ≤ 120 }
     ensures text { text.new ≡ text.old ++ subpool_text_of number owner.now }
     ensures len { length text.new ≤ length text.old + 19 }
 {
     push_number(text, number);
-    text.push_all(b" ");
+    text.push_str(b" ");
     text.push_name(owner);
 }
 
 // Appends that a task has something with a number.
-fn push_has(text: &mut Text, task: &Name, number: SubNo)
+fn push_has(text: &mut LineText, task: &Name, number: SubNo)
     requires { length text.old ≤ 2 }
     ensures text { text.new ≡ text.old ++ has_text task.now number }
     ensures len { length text.new ≤ length text.old + 23 }
 {
-    text.push_all(b"HAS ");
+    text.push_str(b"HAS ");
     text.push_name(task);
-    text.push_all(b" ");
+    text.push_str(b" ");
     push_number(text, number);
 }
 
 // Appends a word and a name.
-fn push_of(text: &mut Text, word: &[u8], name: &Name)
+fn push_of(text: &mut LineText, word: &[u8], name: &Name)
     requires old { length text.old ≤ 100 }
     requires word { length word.now ≤ 20 }
     ensures text { text.new ≡ text.old ++ (word.now ++ trimmed name.now) }
     ensures len { length text.new ≤ length text.old + (length word.now + 8) }
 {
-    text.push_all(word);
+    text.push_str(word);
     text.push_name(name);
 }
 
 // Appends a word and a place.
-fn push_at(text: &mut Text, word: &[u8], place: Place)
+fn push_at(text: &mut LineText, word: &[u8], place: Place)
     requires old { length text.old ≤ 100 }
     requires word { length word.now ≤ 20 }
     ensures text { text.new ≡ text.old ++ (word.now ++ place_text place) }
     ensures len { length text.new ≤ length text.old + (length word.now + 17) }
 {
-    text.push_all(word);
+    text.push_str(word);
     push_place(text, place);
 }
 
 // Appends the beginning of a step.
-fn push_step(text: &mut Text, below: u32, above: u32, fill: u8)
+fn push_step(text: &mut LineText, below: u32, above: u32, fill: u8)
     requires { length text.old ≤ 2 }
     ensures text { text.new ≡ text.old ++ change_text (Change.Step below above fill) }
     ensures len { length text.new ≤ length text.old + 100 }
 {
-    text.push_all(b"STEP BELOW ");
+    text.push_str(b"STEP BELOW ");
     text.push_decimal(below);
-    text.push_all(b" ABOVE ");
+    text.push_str(b" ABOVE ");
     text.push_decimal(above);
-    text.push_all(b" FILL ");
+    text.push_str(b" FILL ");
     text.push_byte(fill);
 }
 
 // Appends a change of tasks.
-fn push_task(text: &mut Text, name: &Name, mother: &Name, residence: Residence)
+fn push_task(text: &mut LineText, name: &Name, mother: &Name, residence: Residence)
     requires { length text.old ≤ 2 }
     ensures text { text.new
         ≡ text.old ++ change_text (Change.Task name.now mother.now residence) }
@@ -220,46 +220,46 @@ fn push_task(text: &mut Text, name: &Name, mother: &Name, residence: Residence)
 }
 
 // Appends a granted area.
-fn push_take(text: &mut Text, place: Place, number: SubNo, owner: &Name, name: &Name)
+fn push_take(text: &mut LineText, place: Place, number: SubNo, owner: &Name, name: &Name)
     requires { length text.old ≤ 2 }
     ensures text { text.new
         ≡ text.old ++ change_text (Change.Take place number owner.now name.now) }
     ensures len { length text.new ≤ length text.old + 100 }
 {
     push_at(text, b"TAKE ", place);
-    text.push_all(b" ");
+    text.push_str(b" ");
     push_subpool(text, number, owner);
     push_of(text, b" ", name);
 }
 
 // Appends a new cell pool.
-fn push_pool(text: &mut Text, name: &Name, number: SubNo, owner: &Name, size: u32)
+fn push_pool(text: &mut LineText, name: &Name, number: SubNo, owner: &Name, size: u32)
     requires { length text.old ≤ 2 }
     ensures text { text.new
         ≡ text.old ++ change_text (Change.Pool name.now number owner.now size) }
     ensures len { length text.new ≤ length text.old + 100 }
 {
     push_of(text, b"POOL ", name);
-    text.push_all(b" ");
+    text.push_str(b" ");
     push_subpool(text, number, owner);
-    text.push_all(b" ");
+    text.push_str(b" ");
     text.push_decimal(size);
 }
 
 // Appends a part of a cell pool.
-fn push_part(text: &mut Text, pool: &Name, place: Place, cells: u32)
+fn push_part(text: &mut LineText, pool: &Name, place: Place, cells: u32)
     requires { length text.old ≤ 2 }
     ensures text { text.new ≡ text.old ++ change_text (Change.Part pool.now place cells) }
     ensures len { length text.new ≤ length text.old + 100 }
 {
     push_of(text, b"PART ", pool);
     push_at(text, b" ", place);
-    text.push_all(b" ");
+    text.push_str(b" ");
     text.push_decimal(cells);
 }
 
 // Appends an allocated cell.
-fn push_cell(text: &mut Text, pool: &Name, place: Place, name: &Name)
+fn push_cell(text: &mut LineText, pool: &Name, place: Place, name: &Name)
     requires { length text.old ≤ 2 }
     ensures text { text.new ≡ text.old ++ change_text (Change.Cell pool.now place name.now) }
     ensures len { length text.new ≤ length text.old + 100 }
@@ -270,7 +270,7 @@ fn push_cell(text: &mut Text, pool: &Name, place: Place, name: &Name)
 }
 
 // Appends a change.
-fn push_change(text: &mut Text, change: &Change)
+fn push_change(text: &mut LineText, change: &Change)
     requires { length text.old ≤ 2 }
     ensures text { text.new ≡ text.old ++ change_text change.now }
     ensures len { length text.new ≤ length text.old + 100 }
@@ -279,7 +279,7 @@ fn push_change(text: &mut Text, change: &Change)
         Change::Step { below, above, fill } => push_step(text, *below, *above, *fill),
         Change::First { name, residence } => {
             push_of(text, b"TASK ", name);
-            text.push_all(b" MOTHER -");
+            text.push_str(b" MOTHER -");
             push_residence(text, *residence);
         }
         Change::Task {
@@ -302,7 +302,7 @@ fn push_change(text: &mut Text, change: &Change)
             owner,
         } => {
             push_has(text, task, *held);
-            text.push_all(b" SHARED ");
+            text.push_str(b" SHARED ");
             push_subpool(text, *number, owner);
         }
         Change::Take {
@@ -313,7 +313,7 @@ fn push_change(text: &mut Text, change: &Change)
         } => push_take(text, *place, *number, owner, name),
         Change::Free { place } => push_at(text, b"FREE ", *place),
         Change::Empty { number, owner } => {
-            text.push_all(b"EMPTY ");
+            text.push_str(b"EMPTY ");
             push_subpool(text, *number, owner);
         }
         Change::Pool {
@@ -326,7 +326,7 @@ fn push_change(text: &mut Text, change: &Change)
         Change::Cell { pool, place, name } => push_cell(text, pool, *place, name),
         Change::Back { pool, cell } => {
             push_of(text, b"BACK ", pool);
-            text.push_all(b" ");
+            text.push_str(b" ");
             text.push_word(cell.get());
         }
         Change::Delete { pool } => push_of(text, b"DROP ", pool),
@@ -335,11 +335,11 @@ fn push_change(text: &mut Text, change: &Change)
         Change::Look { place } => push_at(text, b"LOOK ", *place),
         Change::Return { task } => {
             push_of(text, b"END ", task);
-            text.push_all(b" RETURN");
+            text.push_str(b" RETURN");
         }
         Change::Abend { task } => {
             push_of(text, b"END ", task);
-            text.push_all(b" ABEND");
+            text.push_str(b" ABEND");
         }
         Change::Fall { task, other } => {
             push_of(text, b"END ", task);
@@ -352,9 +352,9 @@ fn push_change(text: &mut Text, change: &Change)
 fn push_line(lines: &mut Vec<u8>, change: &Change) -> Result<(), AllocError>
     ensures { OnOk result (lines.new.items ≡ lines.old.items ++ change_line change.now) }
 {
-    let mut text = Text::new();
+    let mut text = LineText::new();
     push_change(&mut text, change);
-    text.push_all(b"\n");
+    text.push_str(b"\n");
     lines.extend_from_slice(text.as_slice())
 }
 

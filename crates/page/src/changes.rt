@@ -56,7 +56,7 @@ fn area_change(job: &Job, task: &Name, number: u8, area: &Name) -> Option<Change
     let Some(place) = job.place_of(area) else {
         return None;
     };
-    let Some((number, owner)) = job.step().machine().label_meant(task, number) else {
+    let Some((number, owner)) = job.step().machine().resolved_owner(task, number) else {
         return None;
     };
     Some(Change::Take {
@@ -114,7 +114,7 @@ fn push_falls(changes: &mut Changes, task: &Name, fallen: &[Name])
 fn empty_change(job: &Job, task: &Name, number: u8) -> Option<Change>
     ensures { result ≡ empty_change job.now task.now number }
 {
-    let Some((number, owner)) = job.step().machine().label_meant(task, number) else {
+    let Some((number, owner)) = job.step().machine().resolved_owner(task, number) else {
         return None;
     };
     Some(Change::Empty { number, owner })
@@ -124,7 +124,7 @@ fn empty_change(job: &Job, task: &Name, number: u8) -> Option<Change>
 fn pool_change(job: &Job, task: &Name, number: u8, pool: &Name, size: u32) -> Option<Change>
     ensures { result ≡ pool_change job.now task.now number pool.now size }
 {
-    let Some((number, owner)) = job.step().machine().label_meant(task, number) else {
+    let Some((number, owner)) = job.step().machine().resolved_owner(task, number) else {
         return None;
     };
     Some(Change::Pool {
@@ -174,7 +174,7 @@ fn is_same(one: &Name, other: &Name) -> bool
 fn held_change(job: &Job, mother: &Name, subtask: &Name, held: SubNo) -> Option<Change>
     ensures { result ≡ held_change job.now mother.now subtask.now held }
 {
-    let Some((number, owner)) = job.step().machine().label_had(subtask, held) else {
+    let Some((number, owner)) = job.step().machine().entry_owner(subtask, held) else {
         return None;
     };
     if is_same(&owner, subtask) {

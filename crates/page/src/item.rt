@@ -29,7 +29,7 @@ pub struct Numbered<'a> {
 
 /// What a line printed, and its explanation.
 #[derive(Drop)]
-pub struct Served {
+pub struct PrintedLine {
     pub told: LineEvent,
     pub printed: Vec<u8>,
     pub behind: Vec<u8>,
@@ -120,7 +120,7 @@ pub fn item_of(
     numbered: &Numbered<'_>,
     read: &Line,
     walk: &Walk,
-    served: &Served,
+    served: &PrintedLine,
     request: &mut Request,
 ) -> Result<Vec<u8>, AllocError>
     requires full_answer { IsAvailable walk.now served.now.told }

@@ -4,7 +4,7 @@ ghost use Rattle.std.specs.Prelude.{◌≡◌, ◌≤◌, ◌+◌, ◌++◌, OnO
 ghost use Rattle.job_script.specs.Writing.{Prints};
 ghost use Rattle.page.specs.Markup.{article_tag, escaped, escaped_byte, head_of, most_of_line, note_of, note_tag, reply_of, shown_line, tail_of, words_of};
 
-use job_script::text::Text;
+use job_script::text::LineText;
 use job_script::write_all;
 use mvs_job::line_end;
 use mvs_model::watched::{Failed, Watched};
@@ -47,7 +47,7 @@ fn push_escaped(item: &mut Vec<u8>, text: &[u8]) -> Result<(), AllocError>
 fn push_number(item: &mut Vec<u8>, number: u32) -> Result<(), AllocError>
     ensures { OnOk result (item.new.items ≡ item.old.items ++ escaped (decimal number)) }
 {
-    let mut text = Text::new();
+    let mut text = LineText::new();
     text.push_decimal(number);
     push_escaped(item, text.as_slice())
 }
@@ -152,7 +152,7 @@ fn print_escaped<W: Write>(writer: &mut Watched<W>, text: &[u8]) -> Result<(), F
 fn print_number<W: Write>(writer: &mut Watched<W>, number: u32) -> Result<(), Failed>
     ensures { Prints W.contents writer.old writer.new result (escaped (decimal number)) }
 {
-    let mut text = Text::new();
+    let mut text = LineText::new();
     text.push_decimal(number);
     print_escaped(writer, text.as_slice())
 }

@@ -12,7 +12,7 @@ ghost use Rattle.page.specs.Markup.{closing_of};
 ghost use Rattle.page.specs.Pages.{IsReadAs, WritesItem, WritesPage, WritesShown};
 ghost use Rattle.page.specs.Items.{continues};
 
-use crate::item::{Numbered, Served, item_of};
+use crate::item::{Numbered, PrintedLine, item_of};
 use crate::markup::{print_note, push_reply};
 use job_script::{read_line, write_all};
 use mvs_job::{Explainer, LineEvent, Stop, Walk, line_end, print_closing};
@@ -26,7 +26,7 @@ use std::io::Write;
 
 // Room for what is looked at at a line, which is long.
 #[derive(Drop)]
-struct Maker {
+struct PageMaker {
     explainer: Explainer,
     read: Line,
     request: Request,
@@ -74,11 +74,11 @@ fn continues(told: &LineEvent) -> bool
     }
 }
 
-impl Maker {
-    fn new(alloc: Global) -> Maker
+impl PageMaker {
+    fn new(alloc: Global) -> PageMaker
         ensures { result.explainer ≡ no_lines }
     {
-        Maker {
+        PageMaker {
             explainer: Explainer::new(alloc),
             read: Line::Nothing,
             request: Request::Return,
@@ -86,7 +86,12 @@ impl Maker {
     }
 
     // Executes a line. Memory can be exhausted there, or by what it prints.
-    fn serve(&mut self, alloc: Global, walk: &mut Walk, line: &[u8]) -> Result<Served, AllocError>
+    fn serve(
+        &mut self,
+        alloc: Global,
+        walk: &mut Walk,
+        line: &[u8],
+    ) -> Result<PrintedLine, AllocError>
         requires { walk.old.number + 1 < 2 ^ 32 }
         ensures told { IfOk result (λ served. ServesAs walk.old line.now served.told walk.new) }
         ensures printed { IfOk result
@@ -105,7 +110,7 @@ impl Maker {
         let mut printed = Watched::new(Vec::new(alloc));
         let mut behind = Watched::new(Vec::new(alloc));
         match self.explainer.serve(walk, line, &mut printed, &mut behind) {
-            Ok(told) => Ok(Served {
+            Ok(told) => Ok(PrintedLine {
                 told,
                 printed: written(printed),
                 behind: written(behind),
@@ -243,7 +248,7 @@ pub fn write_page<W: Write>(
         Err(_) => return Err(Stop::Write),
     }
     let mut walk = Walk::new(alloc, placement);
-    let mut maker = Maker::new(alloc);
+    let mut maker = PageMaker::new(alloc);
     let mut at = 0;
     'lines: while at < script.len() {
         let rest = &script[at..];

@@ -1,20 +1,20 @@
 //! Obtains and releases of one area, in all forms.
 
 use crate::dice::Dice;
-use crate::known::{AREAS, Area, Known, Task};
+use crate::known::{AREAS, KnownArea, KnownStep, Task};
 use crate::operands::{
     length, number, write_address, write_boundaries, write_location, write_number,
     write_page_or_doubleword,
 };
-use crate::requests::Change;
+use crate::requests::ExpectedChange;
 use std::alloc::AllocError;
 use std::fmt::Write;
 
 /// A form: the texts in front of the length, between it and the area, and at the end.
-type Form = (&'static str, &'static str, &'static str);
+type FormTexts = (&'static str, &'static str, &'static str);
 
 /// The forms of one length that obtain below: the conditional one twice, then the others.
-static FIXED: [Form; 4] = [
+static FIXED: [FormTexts; 4] = [
     ("GETMAIN EC,LV=", ",A=", ""),
     ("GETMAIN EC,LV=", ",A=", ""),
     ("GETMAIN R,LV=", ",A=", ""),
@@ -22,7 +22,7 @@ static FIXED: [Form; 4] = [
 ];
 
 /// Those of one length that take LOC, STARTBDY and CONTBDY: two conditional ones, then two others.
-static LOCATED: [Form; 4] = [
+static LOCATED: [FormTexts; 4] = [
     ("GETMAIN RC,LV=", ",A=", ""),
     ("STORAGE OBTAIN,LENGTH=", ",ADDR=", ",COND=YES"),
     ("GETMAIN RU,LV=", ",A=", ""),
@@ -30,7 +30,7 @@ static LOCATED: [Form; 4] = [
 ];
 
 /// Those of a variable length that obtain below, in the same order.
-static VARIABLE: [Form; 4] = [
+static VARIABLE: [FormTexts; 4] = [
     ("GETMAIN VC,LV=", ",A=", ""),
     ("GETMAIN VC,LV=", ",A=", ""),
     ("GETMAIN VU,LV=", ",A=", ""),
@@ -38,7 +38,7 @@ static VARIABLE: [Form; 4] = [
 ];
 
 /// Those of a variable length that take LOC, STARTBDY and CONTBDY, in the same order.
-static LOCATED_VARIABLE: [Form; 4] = [
+static LOCATED_VARIABLE: [FormTexts; 4] = [
     ("GETMAIN VRC,LV=", ",A=", ""),
     ("STORAGE OBTAIN,LENGTH=", ",ADDR=", ",COND=YES"),
     ("GETMAIN VRU,LV=", ",A=", ""),
@@ -46,7 +46,7 @@ static LOCATED_VARIABLE: [Form; 4] = [
 ];
 
 /// The forms that release a length at an address.
-static RELEASES: [Form; 12] = [
+static RELEASES: [FormTexts; 12] = [
     ("FREEMAIN R,LV=", ",A=", ""),
     ("FREEMAIN R,LV=", ",A=", ""),
     ("FREEMAIN R,LV=", ",A=", ""),
@@ -83,7 +83,7 @@ pub enum Manner {
 }
 
 // Returns a form for a task, mostly a conditional one for the job step task; and whether it takes LOC.
-fn form(dice: &mut Dice, task: Task, varies: bool) -> (Form, bool) {
+fn form(dice: &mut Dice, task: Task, varies: bool) -> (FormTexts, bool) {
     let chances = if task.0 == 0 { 6 } else { 2 };
     let half = if dice.is_one_of(chances) { 2 } else { 0 };
     let place = (half + dice.below(2)) as usize;
@@ -124,10 +124,10 @@ pub fn obtain_area(
     line: &mut String,
     dice: &mut Dice,
     manner: Manner,
-    area: Area,
-) -> Result<Change, AllocError> {
+    area: KnownArea,
+) -> Result<ExpectedChange, AllocError> {
     let place = dice.below(AREAS as u32) as usize;
-    let Area {
+    let KnownArea {
         task,
         number,
         len,
@@ -146,12 +146,12 @@ pub fn obtain_area(
     write_number(line, dice, number)?;
     write_place(line, dice, manner, is_located)?;
     line.push_str(tail)?;
-    Ok(Change::Grants(place, area))
+    Ok(ExpectedChange::Grants(place, area))
 }
 
 /// Returns an area that is to be obtained.
-pub fn new_area(dice: &mut Dice, task: Task) -> Area {
-    Area {
+pub fn new_area(dice: &mut Dice, task: Task) -> KnownArea {
+    KnownArea {
         task,
         number: number(dice),
         len: length(dice),
@@ -163,28 +163,28 @@ pub fn new_area(dice: &mut Dice, task: Task) -> Area {
 pub fn release_bytes(
     line: &mut String,
     dice: &mut Dice,
-    found: (usize, Area),
+    found: (usize, KnownArea),
     offset: u32,
     len: u32,
-) -> Result<Change, AllocError> {
-    let (place, Area { task, number, .. }) = found;
+) -> Result<ExpectedChange, AllocError> {
+    let (place, KnownArea { task, number, .. }) = found;
     let (head, middle, tail) = RELEASES[dice.below(12) as usize];
     write!(line, "{task} {head}{len}{middle}")?;
     write_address(line, dice, found, offset)?;
     write_number(line, dice, number)?;
     line.push_str(tail)?;
-    Ok(Change::Releases(place))
+    Ok(ExpectedChange::Releases(place))
 }
 
 /// Writes a release of an area, of a part of it, or of its name.
 pub fn release_area(
     line: &mut String,
     dice: &mut Dice,
-    found: (usize, Area),
-) -> Result<Change, AllocError> {
+    found: (usize, KnownArea),
+) -> Result<ExpectedChange, AllocError> {
     let (
         place,
-        Area {
+        KnownArea {
             task,
             number,
             len,
@@ -201,7 +201,7 @@ pub fn release_area(
     let form = if kind == 4 { "VC" } else { "VU" };
     write!(line, "{task} FREEMAIN {form},A=A{place}")?;
     write_number(line, dice, number)?;
-    Ok(Change::Releases(place))
+    Ok(ExpectedChange::Releases(place))
 }
 
 /// Writes a release of a whole subpool of a task.
@@ -210,21 +210,21 @@ pub fn release_whole(
     dice: &mut Dice,
     task: Task,
     number: u8,
-) -> Result<Change, AllocError> {
+) -> Result<ExpectedChange, AllocError> {
     let (head, tail) = WHOLE[dice.below(8) as usize];
     write!(line, "{task} {head}")?;
     write_number(line, dice, number)?;
     line.push_str(tail)?;
-    Ok(Change::Empties(task, number))
+    Ok(ExpectedChange::Empties(task, number))
 }
 
 /// Writes a release of the whole subpool of an area that is known, or of a number.
 pub fn release_some_subpool(
     line: &mut String,
     dice: &mut Dice,
-    known: &Known,
+    known: &KnownStep,
     task: Task,
-) -> Result<Change, AllocError> {
+) -> Result<ExpectedChange, AllocError> {
     match known.area(dice) {
         Some((_, area)) if area.number > 0 => release_whole(line, dice, area.task, area.number),
         Some(_) | None => {

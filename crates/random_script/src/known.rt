@@ -30,7 +30,7 @@ impl fmt::Display for Task {
 /// An area: the task that obtained it, the subpool number that it named, the bytes that it has or asked for, and its address, or
 /// 0 where that is not known.
 #[derive(Clone, Copy, Debug)]
-pub struct Area {
+pub struct KnownArea {
     pub task: Task,
     pub number: u8,
     pub len: u32,
@@ -46,21 +46,21 @@ pub struct Cell {
 
 /// What is known of a step: also a subpool number that a task shares, or 0, and how many tasks and pools of new names it has.
 #[derive(Drop)]
-pub struct Known {
+pub struct KnownStep {
     pub active: [bool; TASKS],
     pub shares: [u8; TASKS],
     pub more: u32,
-    pub areas: [Option<Area>; AREAS],
+    pub areas: [Option<KnownArea>; AREAS],
     pub cells: [Option<Cell>; CELLS],
     pub pools: [bool; POOLS],
 }
 
-impl Known {
+impl KnownStep {
     /// A step at its start.
-    pub fn new() -> Known {
+    pub fn new() -> KnownStep {
         let mut active = [false; TASKS];
         active[0] = true;
-        Known {
+        KnownStep {
             active,
             shares: [0; TASKS],
             more: 0,
@@ -93,13 +93,13 @@ impl Known {
     }
 
     /// An area that was obtained, if one comes up, and its place.
-    pub fn area(&self, dice: &mut Dice) -> Option<(usize, Area)> {
+    pub fn area(&self, dice: &mut Dice) -> Option<(usize, KnownArea)> {
         let place = dice.below(AREAS as u32) as usize;
         self.areas[place].map(|area| (place, area))
     }
 
     /// An area whose task is active, if there is one, and its place.
-    pub fn live_area(&self, dice: &mut Dice) -> Option<(usize, Area)> {
+    pub fn live_area(&self, dice: &mut Dice) -> Option<(usize, KnownArea)> {
         let first = dice.below(AREAS as u32) as usize;
         for offset in 0..AREAS {
             let place = (first + offset) % AREAS;

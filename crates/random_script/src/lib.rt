@@ -15,7 +15,7 @@ mod statements;
 mod subtasks;
 mod theme;
 
-use maker::Maker;
+use maker::ScriptMaker;
 use std::alloc::{AllocError, Global};
 use std::io::Write;
 use thiserror::Error;
@@ -67,7 +67,7 @@ pub fn write_script<W: Write>(
     lines: u32,
     profile: Profile,
 ) -> Result<(), RandomFault> {
-    let mut maker = Maker::new(alloc, seed, profile);
+    let mut maker = ScriptMaker::new(alloc, seed, profile);
     for number in 0..lines {
         let is_last = lines - number == 1;
         if !maker.makes_line(is_last)? {

@@ -3,20 +3,20 @@
 ghost use Rattle.std.specs.Prelude.{◌<◌};
 
 use crate::dice::Dice;
-use crate::known::{AREAS, Area, Known, Task};
+use crate::known::{AREAS, KnownArea, KnownStep, Task};
 use crate::operands::{
     invalid_number, length, number, write_address, write_number, write_page_or_doubleword,
 };
-use crate::requests::Change;
+use crate::requests::ExpectedChange;
 use std::alloc::AllocError;
 use std::fmt::Write;
 
 /// The areas of a list: the place of the first, how many there are in the places from there on, and what they have in common.
 #[derive(Clone, Copy, Debug)]
-pub struct Members {
+pub struct ListAreas {
     pub first: usize,
     pub count: usize,
-    pub area: Area,
+    pub area: KnownArea,
 }
 
 /// Returns the place of a member.
@@ -56,10 +56,14 @@ fn write_names(line: &mut String, first: usize, count: usize) -> Result<(), Allo
 }
 
 /// Writes an obtain of a list for a task.
-pub fn obtain_list(line: &mut String, dice: &mut Dice, task: Task) -> Result<Change, AllocError> {
+pub fn obtain_list(
+    line: &mut String,
+    dice: &mut Dice,
+    task: Task,
+) -> Result<ExpectedChange, AllocError> {
     let first = dice.below(AREAS as u32) as usize;
     let count = count(dice);
-    let area = Area {
+    let area = KnownArea {
         task,
         number: number(dice),
         len: 8,
@@ -75,11 +79,11 @@ pub fn obtain_list(line: &mut String, dice: &mut Dice, task: Task) -> Result<Cha
     if dice.is_one_of(5) {
         write_page_or_doubleword(line, dice)?;
     }
-    Ok(Change::GrantsAll(Members { first, count, area }))
+    Ok(ExpectedChange::GrantsAll(ListAreas { first, count, area }))
 }
 
 // Returns how many areas from a place on belong together, at most four.
-fn alike(known: &Known, first: usize, area: Area) -> u32 {
+fn alike(known: &KnownStep, first: usize, area: KnownArea) -> u32 {
     let mut count = 0u32;
     for member in 0..4u32 {
         let found = known.areas[place_of(first, member as usize)];
@@ -97,7 +101,7 @@ fn alike(known: &Known, first: usize, area: Area) -> u32 {
 // Writes the lengths of areas that are known.
 fn write_known_lengths(
     line: &mut String,
-    known: &Known,
+    known: &KnownStep,
     first: usize,
     count: usize,
 ) -> Result<(), AllocError> {
@@ -113,7 +117,7 @@ fn write_known_lengths(
 fn write_addresses(
     line: &mut String,
     dice: &mut Dice,
-    known: &Known,
+    known: &KnownStep,
     first: usize,
     count: usize,
 ) -> Result<(), AllocError> {
@@ -132,9 +136,9 @@ fn write_addresses(
 pub fn release_list(
     line: &mut String,
     dice: &mut Dice,
-    known: &Known,
-    found: (usize, Area),
-) -> Result<Change, AllocError> {
+    known: &KnownStep,
+    found: (usize, KnownArea),
+) -> Result<ExpectedChange, AllocError> {
     let (first, area) = found;
     let most = alike(known, first, area);
     let count = 1 + dice.below(most.max(1)) as usize;
@@ -144,16 +148,16 @@ pub fn release_list(
     line.push_str(",A=")?;
     write_addresses(line, dice, known, first, count)?;
     write_number(line, dice, area.number)?;
-    Ok(Change::ReleasesAll(Members { first, count, area }))
+    Ok(ExpectedChange::ReleasesAll(ListAreas { first, count, area }))
 }
 
 /// Writes a list that is refused: its subpool number is invalid, it is too long, or it names one area twice.
 pub fn refused_list(
     line: &mut String,
     dice: &mut Dice,
-    known: &Known,
+    known: &KnownStep,
     task: Task,
-) -> Result<Change, AllocError> {
+) -> Result<ExpectedChange, AllocError> {
     let form = if dice.is_one_of(2) { "LU" } else { "LC" };
     match dice.below(4) {
         0 => write!(
@@ -176,5 +180,5 @@ pub fn refused_list(
             None => write!(line, "{task} FREEMAIN {form},LA=(8,8),A=(X'6000',X'6004')")?,
         },
     }
-    Ok(Change::Nothing)
+    Ok(ExpectedChange::Nothing)
 }

@@ -2,9 +2,9 @@
 
 use crate::dice::Dice;
 use crate::faults::write_fault;
-use crate::known::{Area, Cell, Known};
-use crate::lists::{Members, place_of};
-use crate::requests::{Change, attach, obtain, obtain_some, pool, release, touch};
+use crate::known::{Cell, KnownArea, KnownStep};
+use crate::lists::{ListAreas, place_of};
+use crate::requests::{ExpectedChange, attach, obtain, obtain_some, pool, release, touch};
 use crate::statements::{statement, write_region};
 use crate::theme::Theme;
 use crate::{Profile, RandomFault};
@@ -18,12 +18,12 @@ use std::fmt::Write;
 
 /// A script that is being made: the job that answers it, what is known of the step and what it is about, and the last line.
 #[derive(Drop)]
-pub struct Maker {
+pub struct ScriptMaker {
     dice: Dice,
     profile: Profile,
     theme: Theme,
     session: Session,
-    known: Known,
+    known: KnownStep,
     begun: bool,
     line: String,
 }
@@ -46,15 +46,15 @@ fn name_of(letter: u8, place: usize) -> Option<Name> {
     }
 }
 
-impl Maker {
+impl ScriptMaker {
     /// A script without a line.
-    pub fn new(alloc: Global, seed: u64, profile: Profile) -> Maker {
-        Maker {
+    pub fn new(alloc: Global, seed: u64, profile: Profile) -> ScriptMaker {
+        ScriptMaker {
             dice: Dice::new(seed),
             profile,
             theme: Theme::Storage,
             session: Session::new(alloc, Placement::Low),
-            known: Known::new(),
+            known: KnownStep::new(),
             begun: false,
             line: String::new(alloc),
         }
@@ -66,7 +66,7 @@ impl Maker {
     }
 
     // Writes the next statement of one of the first five profiles, and answers what it changes where it is served.
-    fn choose_usual(&mut self) -> Result<Change, AllocError> {
+    fn choose_usual(&mut self) -> Result<ExpectedChange, AllocError> {
         let (line, dice, known) = (&mut self.line, &mut self.dice, &self.known);
         let task = known.task(dice);
         let kind = dice.below(10);
@@ -75,7 +75,7 @@ impl Maker {
                 Some(subtask) => attach(line, dice, task, subtask),
                 None if task.0 > 0 && dice.is_one_of(2) => {
                     write!(line, "{task} RETURN")?;
-                    Ok(Change::Nothing)
+                    Ok(ExpectedChange::Nothing)
                 }
                 None => obtain(line, dice, task),
             },
@@ -87,7 +87,7 @@ impl Maker {
             },
             (_, 5) => {
                 write!(line, "{task} REPORT SP")?;
-                Ok(Change::Nothing)
+                Ok(ExpectedChange::Nothing)
             }
             (_, 6) => obtain_some(line, dice, task),
             _ => obtain(line, dice, task),
@@ -95,7 +95,7 @@ impl Maker {
     }
 
     // Writes the next statement by the theme of the step, and returns what it changes where it is granted.
-    fn choose_of_theme(&mut self) -> Result<Change, AllocError> {
+    fn choose_of_theme(&mut self) -> Result<ExpectedChange, AllocError> {
         let (line, dice, known) = (&mut self.line, &mut self.dice, &self.known);
         let theme = if self.profile == Profile::All && dice.is_one_of(8) {
             Theme::any(dice)
@@ -111,7 +111,7 @@ impl Maker {
     }
 
     // Writes the next statement, and returns what it changes where it is granted.
-    fn choose(&mut self) -> Result<Change, AllocError> {
+    fn choose(&mut self) -> Result<ExpectedChange, AllocError> {
         match self.profile {
             Profile::Storage | Profile::Tasks | Profile::Pools | Profile::Tidy | Profile::Faults =>
                 { self.choose_usual() }
@@ -128,9 +128,9 @@ impl Maker {
     }
 
     // Records that an area was obtained, with the address and the length that it has.
-    fn grant(&mut self, place: usize, area: Area) {
+    fn grant(&mut self, place: usize, area: KnownArea) {
         let granted = match self.found(b'A', place) {
-            Some(found) => Area {
+            Some(found) => KnownArea {
                 addr: found.addr().get(),
                 len: found.len(),
                 ..area
@@ -141,14 +141,14 @@ impl Maker {
     }
 
     // Records that the areas of a list were obtained.
-    fn grant_all(&mut self, members: Members) {
+    fn grant_all(&mut self, members: ListAreas) {
         for member in 0..members.count {
             self.grant(place_of(members.first, member), members.area);
         }
     }
 
     // Records that the areas of a list were released.
-    fn release_all(&mut self, members: Members) {
+    fn release_all(&mut self, members: ListAreas) {
         for member in 0..members.count {
             set(&mut self.known.areas, place_of(members.first, member), None);
         }
@@ -164,25 +164,25 @@ impl Maker {
     }
 
     // What the answer to a statement of a task changes.
-    fn take(&mut self, change: Change) {
+    fn take(&mut self, change: ExpectedChange) {
         match change {
-            Change::Nothing => {}
-            Change::Obtains(place, area) => set(&mut self.known.areas, place, Some(area)),
-            Change::Releases(place) => set(&mut self.known.areas, place, None),
-            Change::Builds(pool) => set(&mut self.known.pools, pool, true),
-            Change::Deletes(pool) => set(&mut self.known.pools, pool, false),
-            Change::Takes(place, cell) => self.take_cell(place, cell),
-            Change::Gives(place) => set(&mut self.known.cells, place, None),
-            Change::Attaches(task) => set(&mut self.known.active, task.0, true),
-            Change::Grants(place, area) => self.grant(place, area),
-            Change::GrantsAll(members) => self.grant_all(members),
-            Change::ReleasesAll(members) => self.release_all(members),
-            Change::Empties(task, number) => self.known.forget(task, number),
-            Change::Shares(task, number) => {
+            ExpectedChange::Nothing => {}
+            ExpectedChange::Obtains(place, area) => set(&mut self.known.areas, place, Some(area)),
+            ExpectedChange::Releases(place) => set(&mut self.known.areas, place, None),
+            ExpectedChange::Builds(pool) => set(&mut self.known.pools, pool, true),
+            ExpectedChange::Deletes(pool) => set(&mut self.known.pools, pool, false),
+            ExpectedChange::Takes(place, cell) => self.take_cell(place, cell),
+            ExpectedChange::Gives(place) => set(&mut self.known.cells, place, None),
+            ExpectedChange::Attaches(task) => set(&mut self.known.active, task.0, true),
+            ExpectedChange::Grants(place, area) => self.grant(place, area),
+            ExpectedChange::GrantsAll(members) => self.grant_all(members),
+            ExpectedChange::ReleasesAll(members) => self.release_all(members),
+            ExpectedChange::Empties(task, number) => self.known.forget(task, number),
+            ExpectedChange::Shares(task, number) => {
                 set(&mut self.known.active, task.0, true);
                 set(&mut self.known.shares, task.0, number);
             }
-            Change::OneMore => self.known.more = self.known.more.saturating_add(1),
+            ExpectedChange::OneMore => self.known.more = self.known.more.saturating_add(1),
         }
     }
 
@@ -200,7 +200,7 @@ impl Maker {
     }
 
     // Records the changes of a line.
-    fn hear(&mut self, told: &LineEvent, change: Change) {
+    fn hear(&mut self, told: &LineEvent, change: ExpectedChange) {
         match told {
             LineEvent::Answered { task, answer } => match answer {
                 Answer::NotRun | Answer::NoName | Answer::Rc4 | Answer::NoCell => {}
@@ -222,7 +222,7 @@ impl Maker {
     // Writes the statement that begins a step, and chooses what the step is about.
     fn begin(&mut self) -> Result<(), AllocError> {
         self.begun = true;
-        self.known = Known::new();
+        self.known = KnownStep::new();
         let theme = match self.profile {
             Profile::Storage | Profile::Tasks | Profile::Pools | Profile::Tidy | Profile::Faults =>
                 {
@@ -251,17 +251,17 @@ impl Maker {
     }
 
     // Writes the next line, and answers what it changes where it is served.
-    fn write_line(&mut self, is_last: bool) -> Result<Change, AllocError> {
+    fn write_line(&mut self, is_last: bool) -> Result<ExpectedChange, AllocError> {
         self.line.clear();
         if self.is_to_be_faulty(is_last) {
             write_fault(&mut self.line, &mut self.dice)?;
-            return Ok(Change::Nothing);
+            return Ok(ExpectedChange::Nothing);
         }
         let change = if self.begun {
             self.choose()?
         } else {
             self.begin()?;
-            Change::Nothing
+            ExpectedChange::Nothing
         };
         if self.ends_with_comma(is_last) {
             self.line.push_str(",")?;

@@ -1,7 +1,7 @@
 //! Operands of the statements of a random script, as text.
 
 use crate::dice::Dice;
-use crate::known::Area;
+use crate::known::KnownArea;
 use std::alloc::AllocError;
 use std::fmt::Write;
 
@@ -84,7 +84,7 @@ pub fn write_boundaries(line: &mut String, dice: &mut Dice) -> Result<(), AllocE
 pub fn write_address(
     line: &mut String,
     dice: &mut Dice,
-    found: (usize, Area),
+    found: (usize, KnownArea),
     offset: u32,
 ) -> Result<(), AllocError> {
     let (place, area) = found;

@@ -1,9 +1,9 @@
 //! Statements of cell pools with all their operands.
 
 use crate::dice::Dice;
-use crate::known::{CELLS, Cell, Known, POOLS, Task};
+use crate::known::{CELLS, Cell, KnownStep, POOLS, Task};
 use crate::operands::{number, write_location, write_number};
-use crate::requests::Change;
+use crate::requests::ExpectedChange;
 use std::alloc::AllocError;
 use std::fmt::Write;
 
@@ -34,16 +34,20 @@ pub fn build(
     dice: &mut Dice,
     task: Task,
     pool: usize,
-) -> Result<Change, AllocError> {
+) -> Result<ExpectedChange, AllocError> {
     write!(line, "{task} CPOOL BUILD,CPID=P{pool}")?;
     write_pool(line, dice)?;
-    Ok(Change::Builds(pool))
+    Ok(ExpectedChange::Builds(pool))
 }
 
 /// Writes a BUILD of a pool of a new name, which is small.
-pub fn build_one_more(line: &mut String, task: Task, count: u32) -> Result<Change, AllocError> {
+pub fn build_one_more(
+    line: &mut String,
+    task: Task,
+    count: u32,
+) -> Result<ExpectedChange, AllocError> {
     write!(line, "{task} CPOOL BUILD,CPID=Q{count},CSIZE=4,PCELLCT=1")?;
-    Ok(Change::OneMore)
+    Ok(ExpectedChange::OneMore)
 }
 
 // Writes a FREE of a cell, by its name or by its address.
@@ -52,7 +56,7 @@ fn free(
     dice: &mut Dice,
     task: Task,
     found: (usize, Cell),
-) -> Result<Change, AllocError> {
+) -> Result<ExpectedChange, AllocError> {
     let (place, cell) = found;
     write!(line, "{task} CPOOL FREE,CPID=P{},CELL=", cell.pool)?;
     if cell.addr > 0 && dice.is_one_of(3) {
@@ -60,16 +64,16 @@ fn free(
     } else {
         write!(line, "C{place}")?;
     }
-    Ok(Change::Gives(place))
+    Ok(ExpectedChange::Gives(place))
 }
 
 /// Writes a statement of a cell pool: a BUILD where there is no pool of the name, and rarely where there is one.
 pub fn any_pool(
     line: &mut String,
     dice: &mut Dice,
-    known: &Known,
+    known: &KnownStep,
     task: Task,
-) -> Result<Change, AllocError> {
+) -> Result<ExpectedChange, AllocError> {
     let pool = dice.below(POOLS as u32) as usize;
     if !known.pools[pool] {
         return build(line, dice, task, pool);
@@ -79,13 +83,13 @@ pub fn any_pool(
         _ if task.0 > 0 && dice.is_one_of(8) => build(line, dice, task, pool),
         _ if dice.is_one_of(16) => {
             write!(line, "{task} CPOOL DELETE,CPID=P{pool}")?;
-            Ok(Change::Deletes(pool))
+            Ok(ExpectedChange::Deletes(pool))
         }
         _ => {
             let place = dice.below(CELLS as u32) as usize;
             let form = GETS[dice.below(6) as usize];
             write!(line, "{task} CPOOL GET,{form}CPID=P{pool},CELL=C{place}")?;
-            Ok(Change::Takes(place, Cell { pool, addr: 0 }))
+            Ok(ExpectedChange::Takes(place, Cell { pool, addr: 0 }))
         }
     }
 }
@@ -95,9 +99,9 @@ pub fn any_pool(
 pub fn refused_pool(
     line: &mut String,
     dice: &mut Dice,
-    known: &Known,
+    known: &KnownStep,
     task: Task,
-) -> Result<Change, AllocError> {
+) -> Result<ExpectedChange, AllocError> {
     let other = dice.below(POOLS as u32) as usize;
     let pool = if known.pools[0] { 0 } else { other };
     if !known.pools[pool] && dice.is_one_of(2) {
@@ -109,7 +113,7 @@ pub fn refused_pool(
             1 => write!(line, "{task} CPOOL FREE,CPID=P{pool},CELL=X'6000'")?,
             _ => write!(line, "{task} CPOOL DELETE,CPID=P{pool}")?,
         }
-        return Ok(Change::Nothing);
+        return Ok(ExpectedChange::Nothing);
     }
     match dice.below(6) {
         0..=2 => write!(line, "{task} CPOOL BUILD,CPID=P{pool},CSIZE=8,PCELLCT=1")?,
@@ -120,5 +124,5 @@ pub fn refused_pool(
         4 => write!(line, "{task} CPOOL BUILD,CPID=NEW,CSIZE=8,PCELLCT=1,SP=133")?,
         _ => write!(line, "{task} CPOOL FREE,CPID=P{pool},CELL=X'01000004'")?,
     }
-    Ok(Change::Nothing)
+    Ok(ExpectedChange::Nothing)
 }

@@ -1,16 +1,16 @@
 //! The statements of a random script, as lines.
 
 use crate::dice::Dice;
-use crate::known::{AREAS, Area, CELLS, Cell, Known, POOLS, Task};
-use crate::lists::Members;
+use crate::known::{AREAS, CELLS, Cell, KnownArea, KnownStep, POOLS, Task};
+use crate::lists::ListAreas;
 use std::alloc::AllocError;
 use std::fmt::Write;
 
 /// What a statement changes, where it is served.
 #[derive(Clone, Copy, Debug)]
-pub enum Change {
+pub enum ExpectedChange {
     Nothing,
-    Obtains(usize, Area),
+    Obtains(usize, KnownArea),
     Releases(usize),
     Builds(usize),
     Deletes(usize),
@@ -18,9 +18,9 @@ pub enum Change {
     Gives(usize),
     Attaches(Task),
     /// An area is obtained, whose address and length are looked up.
-    Grants(usize, Area),
-    GrantsAll(Members),
-    ReleasesAll(Members),
+    Grants(usize, KnownArea),
+    GrantsAll(ListAreas),
+    ReleasesAll(ListAreas),
     Empties(Task, u8),
     /// A task is attached that shares this number, or none if it is 0.
     Shares(Task, u8),
@@ -43,9 +43,13 @@ fn length(dice: &mut Dice) -> u32 {
 }
 
 /// An obtain of one length, in one of its forms.
-pub fn obtain(line: &mut String, dice: &mut Dice, task: Task) -> Result<Change, AllocError> {
+pub fn obtain(
+    line: &mut String,
+    dice: &mut Dice,
+    task: Task,
+) -> Result<ExpectedChange, AllocError> {
     let place = dice.below(AREAS as u32) as usize;
-    let area = Area {
+    let area = KnownArea {
         task,
         number: number(dice),
         len: length(dice),
@@ -65,13 +69,17 @@ pub fn obtain(line: &mut String, dice: &mut Dice, task: Task) -> Result<Change, 
         )?,
         _ => write!(line, "{task} GETMAIN RC,LV={len},A=A{place},SP={number}")?,
     }
-    Ok(Change::Obtains(place, area))
+    Ok(ExpectedChange::Obtains(place, area))
 }
 
 /// An obtain of a variable length.
-pub fn obtain_some(line: &mut String, dice: &mut Dice, task: Task) -> Result<Change, AllocError> {
+pub fn obtain_some(
+    line: &mut String,
+    dice: &mut Dice,
+    task: Task,
+) -> Result<ExpectedChange, AllocError> {
     let place = dice.below(AREAS as u32) as usize;
-    let area = Area {
+    let area = KnownArea {
         task,
         number: number(dice),
         len: length(dice),
@@ -82,19 +90,19 @@ pub fn obtain_some(line: &mut String, dice: &mut Dice, task: Task) -> Result<Cha
         line,
         "{task} GETMAIN VRC,LV=({len},1),A=A{place},SP={number}"
     )?;
-    Ok(Change::Obtains(place, area))
+    Ok(ExpectedChange::Obtains(place, area))
 }
 
 /// A release of an area, by a task that most likely means its subpool.
 pub fn release(
     line: &mut String,
     dice: &mut Dice,
-    known: &Known,
-    found: (usize, Area),
-) -> Result<Change, AllocError> {
+    known: &KnownStep,
+    found: (usize, KnownArea),
+) -> Result<ExpectedChange, AllocError> {
     let (
         place,
-        Area {
+        KnownArea {
             task,
             number,
             len,
@@ -115,7 +123,7 @@ pub fn release(
         )?,
         _ => write!(line, "{task} FREEMAIN VC,A=A{place},SP={number}")?,
     }
-    Ok(Change::Releases(place))
+    Ok(ExpectedChange::Releases(place))
 }
 
 /// A statement that touches the bytes of an area.
@@ -123,8 +131,8 @@ pub fn touch(
     line: &mut String,
     dice: &mut Dice,
     task: Task,
-    found: (usize, Area),
-) -> Result<Change, AllocError> {
+    found: (usize, KnownArea),
+) -> Result<ExpectedChange, AllocError> {
     let (place, area) = found;
     let len = if area.len > 64 { 64 } else { area.len };
     match dice.below(3) {
@@ -132,16 +140,16 @@ pub fn touch(
         1 => write!(line, "{task} PUT A{place},X'{:02X}'", dice.below(256))?,
         _ => write!(line, "{task} MOVE A{place},A{place},{len}")?,
     }
-    Ok(Change::Nothing)
+    Ok(ExpectedChange::Nothing)
 }
 
 /// A statement of a cell pool.
 pub fn pool(
     line: &mut String,
     dice: &mut Dice,
-    known: &Known,
+    known: &KnownStep,
     task: Task,
-) -> Result<Change, AllocError> {
+) -> Result<ExpectedChange, AllocError> {
     let pool = dice.below(POOLS as u32) as usize;
     if !known.pools[pool] {
         let size = 4 * (1 + dice.below(30));
@@ -150,22 +158,22 @@ pub fn pool(
             line,
             "{task} CPOOL BUILD,CPID=P{pool},CSIZE={size},PCELLCT={cells}"
         )?;
-        return Ok(Change::Builds(pool));
+        return Ok(ExpectedChange::Builds(pool));
     }
     match known.cell(dice) {
         Some((place, cell)) if dice.is_one_of(2) => {
             write!(line, "{task} CPOOL FREE,CPID=P{},CELL=C{place}", cell.pool)?;
-            Ok(Change::Gives(place))
+            Ok(ExpectedChange::Gives(place))
         }
         _ if dice.is_one_of(30) => {
             write!(line, "{task} CPOOL DELETE,CPID=P{pool}")?;
-            Ok(Change::Deletes(pool))
+            Ok(ExpectedChange::Deletes(pool))
         }
         _ => {
             let place = dice.below(CELLS as u32) as usize;
             let form = if dice.is_one_of(3) { "C," } else { "" };
             write!(line, "{task} CPOOL GET,{form}CPID=P{pool},CELL=C{place}")?;
-            Ok(Change::Takes(place, Cell { pool, addr: 0 }))
+            Ok(ExpectedChange::Takes(place, Cell { pool, addr: 0 }))
         }
     }
 }
@@ -176,7 +184,7 @@ pub fn attach(
     dice: &mut Dice,
     task: Task,
     subtask: Task,
-) -> Result<Change, AllocError> {
+) -> Result<ExpectedChange, AllocError> {
     write!(line, "{task} ATTACH TASK={subtask}")?;
     match dice.below(5) {
         0 => write!(line, ",GSPV=1")?,
@@ -185,5 +193,5 @@ pub fn attach(
         3 => write!(line, ",SZERO=NO,RES=ABOVE")?,
         _ => {}
     }
-    Ok(Change::Attaches(subtask))
+    Ok(ExpectedChange::Attaches(subtask))
 }

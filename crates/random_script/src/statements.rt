@@ -2,14 +2,14 @@
 
 use crate::dice::Dice;
 use crate::forms::{Manner, new_area, obtain_area, release_area, release_some_subpool};
-use crate::known::{Area, CELLS, Known, Task};
+use crate::known::{CELLS, KnownArea, KnownStep, Task};
 use crate::lists::{obtain_list, release_list};
 use crate::operands::write_address;
 use crate::pools::{any_pool, build_one_more};
 use crate::refusals::refused;
-use crate::requests::Change;
+use crate::requests::ExpectedChange;
 use crate::subtasks::{attach_any, attach_one_more, end};
-use crate::theme::Kind;
+use crate::theme::StatementKind;
 use std::alloc::AllocError;
 use std::fmt::Write;
 
@@ -32,7 +32,7 @@ fn touch_area(
     line: &mut String,
     dice: &mut Dice,
     task: Task,
-    found: (usize, Area),
+    found: (usize, KnownArea),
 ) -> Result<(), AllocError> {
     let (_, area) = found;
     let offset = if area.len > 64 { 8 * dice.below(4) } else { 0 };
@@ -72,7 +72,7 @@ fn touch_area(
 fn touch_some(
     line: &mut String,
     dice: &mut Dice,
-    known: &Known,
+    known: &KnownStep,
     task: Task,
 ) -> Result<(), AllocError> {
     match known.live_area(dice) {
@@ -85,7 +85,7 @@ fn touch_some(
 fn write_where(
     line: &mut String,
     dice: &mut Dice,
-    known: &Known,
+    known: &KnownStep,
     task: Task,
 ) -> Result<(), AllocError> {
     match known.area(dice) {
@@ -98,9 +98,9 @@ fn write_where(
 fn refused_some(
     line: &mut String,
     dice: &mut Dice,
-    known: &Known,
+    known: &KnownStep,
     task: Task,
-) -> Result<Change, AllocError> {
+) -> Result<ExpectedChange, AllocError> {
     if task.0 > 0 || dice.is_one_of(2) {
         return refused(line, dice, known, task);
     }
@@ -114,9 +114,9 @@ fn refused_some(
 fn attach_some(
     line: &mut String,
     dice: &mut Dice,
-    known: &Known,
+    known: &KnownStep,
     task: Task,
-) -> Result<Change, AllocError> {
+) -> Result<ExpectedChange, AllocError> {
     match known.new_task(dice) {
         Some(subtask) => attach_any(line, dice, task, subtask),
         None => end(line, dice, task),
@@ -124,7 +124,11 @@ fn attach_some(
 }
 
 // Writes a plain obtain.
-fn obtain_plain(line: &mut String, dice: &mut Dice, task: Task) -> Result<Change, AllocError> {
+fn obtain_plain(
+    line: &mut String,
+    dice: &mut Dice,
+    task: Task,
+) -> Result<ExpectedChange, AllocError> {
     let area = new_area(dice, task);
     obtain_area(line, dice, Manner::Plain, area)
 }
@@ -133,9 +137,9 @@ fn obtain_plain(line: &mut String, dice: &mut Dice, task: Task) -> Result<Change
 fn release_some(
     line: &mut String,
     dice: &mut Dice,
-    known: &Known,
+    known: &KnownStep,
     task: Task,
-) -> Result<Change, AllocError> {
+) -> Result<ExpectedChange, AllocError> {
     match known.live_area(dice) {
         Some(found) => release_area(line, dice, found),
         None => obtain_plain(line, dice, task),
@@ -146,9 +150,9 @@ fn release_some(
 fn release_several(
     line: &mut String,
     dice: &mut Dice,
-    known: &Known,
+    known: &KnownStep,
     task: Task,
-) -> Result<Change, AllocError> {
+) -> Result<ExpectedChange, AllocError> {
     match known.live_area(dice) {
         Some(found) => release_list(line, dice, known, found),
         None => obtain_list(line, dice, task),
@@ -159,48 +163,49 @@ fn release_several(
 fn read_only(
     line: &mut String,
     dice: &mut Dice,
-    known: &Known,
+    known: &KnownStep,
     task: Task,
-    kind: Kind,
-) -> Result<Change, AllocError> {
-    if kind == Kind::Touch {
+    kind: StatementKind,
+) -> Result<ExpectedChange, AllocError> {
+    if kind == StatementKind::Touch {
         touch_some(line, dice, known, task)?;
-    } else if kind == Kind::Where {
+    } else if kind == StatementKind::Where {
         write_where(line, dice, known, task)?;
-    } else if kind == Kind::Map {
+    } else if kind == StatementKind::Map {
         write!(line, "{task} REPORT MAP")?;
     } else {
         write!(line, "{task} REPORT SP")?;
     }
-    Ok(Change::Nothing)
+    Ok(ExpectedChange::Nothing)
 }
 
 /// Writes a statement of a kind, and returns what it changes where it is granted.
 pub fn statement(
     line: &mut String,
     dice: &mut Dice,
-    known: &Known,
-    kind: Kind,
-) -> Result<Change, AllocError> {
+    known: &KnownStep,
+    kind: StatementKind,
+) -> Result<ExpectedChange, AllocError> {
     let task = known.task(dice);
     match kind {
-        Kind::Obtain => obtain_plain(line, dice, task),
-        Kind::ObtainWithin => {
+        StatementKind::Obtain => obtain_plain(line, dice, task),
+        StatementKind::ObtainWithin => {
             let area = new_area(dice, task);
             obtain_area(line, dice, Manner::Bounded, area)
         }
-        Kind::ObtainList => obtain_list(line, dice, task),
-        Kind::Release => release_some(line, dice, known, task),
-        Kind::ReleaseList => release_several(line, dice, known, task),
-        Kind::ReleaseWhole => release_some_subpool(line, dice, known, task),
-        Kind::Pool => any_pool(line, dice, known, task),
-        Kind::Attach => attach_some(line, dice, known, task),
-        Kind::End => end(line, dice, task),
-        Kind::Touch | Kind::Where | Kind::Subpools | Kind::Map => {
-            read_only(line, dice, known, task, kind)
-        }
-        Kind::Refused => refused_some(line, dice, known, task),
-        Kind::OneMoreTask => attach_one_more(line, task, known.more),
-        Kind::OneMorePool => build_one_more(line, task, known.more),
+        StatementKind::ObtainList => obtain_list(line, dice, task),
+        StatementKind::Release => release_some(line, dice, known, task),
+        StatementKind::ReleaseList => release_several(line, dice, known, task),
+        StatementKind::ReleaseWhole => release_some_subpool(line, dice, known, task),
+        StatementKind::Pool => any_pool(line, dice, known, task),
+        StatementKind::Attach => attach_some(line, dice, known, task),
+        StatementKind::End => end(line, dice, task),
+        StatementKind::Touch
+        | StatementKind::Where
+        | StatementKind::Subpools
+        | StatementKind::Map => { read_only(line, dice, known, task, kind) }
+        StatementKind::Refused => refused_some(line, dice, known, task),
+        StatementKind::OneMoreTask => attach_one_more(line, task, known.more),
+        StatementKind::OneMorePool => build_one_more(line, task, known.more),
     }
 }

@@ -1,8 +1,8 @@
 //! Statements that attach tasks and end them.
 
 use crate::dice::Dice;
-use crate::known::{Known, Task};
-use crate::requests::Change;
+use crate::known::{KnownStep, Task};
+use crate::requests::ExpectedChange;
 use std::alloc::AllocError;
 use std::fmt::Write;
 
@@ -40,21 +40,25 @@ pub fn attach_any(
     dice: &mut Dice,
     task: Task,
     subtask: Task,
-) -> Result<Change, AllocError> {
+) -> Result<ExpectedChange, AllocError> {
     let (subpools, shared) = SUBPOOLS[dice.below(12) as usize];
     let others = OTHERS[dice.below(8) as usize];
     write!(line, "{task} ATTACH TASK={subtask}{subpools}{others}")?;
-    Ok(Change::Shares(subtask, shared))
+    Ok(ExpectedChange::Shares(subtask, shared))
 }
 
 /// Writes an ATTACH of a task of a new name.
-pub fn attach_one_more(line: &mut String, task: Task, count: u32) -> Result<Change, AllocError> {
+pub fn attach_one_more(
+    line: &mut String,
+    task: Task,
+    count: u32,
+) -> Result<ExpectedChange, AllocError> {
     write!(line, "{task} ATTACH TASK=U{count}")?;
-    Ok(Change::OneMore)
+    Ok(ExpectedChange::OneMore)
 }
 
 /// Writes a statement that ends a task; of the job step task mostly another one.
-pub fn end(line: &mut String, dice: &mut Dice, task: Task) -> Result<Change, AllocError> {
+pub fn end(line: &mut String, dice: &mut Dice, task: Task) -> Result<ExpectedChange, AllocError> {
     if task.0 == 0 && !dice.is_one_of(8) {
         write!(line, "{task} REPORT SP")?;
     } else if dice.is_one_of(3) {
@@ -62,16 +66,16 @@ pub fn end(line: &mut String, dice: &mut Dice, task: Task) -> Result<Change, All
     } else {
         write!(line, "{task} RETURN")?;
     }
-    Ok(Change::Nothing)
+    Ok(ExpectedChange::Nothing)
 }
 
 /// Writes a statement about a task that is refused: its name is in use, it has subtasks, or it gives what it shares.
 pub fn refused_task(
     line: &mut String,
     dice: &mut Dice,
-    known: &Known,
+    known: &KnownStep,
     task: Task,
-) -> Result<Change, AllocError> {
+) -> Result<ExpectedChange, AllocError> {
     match known.sharing(dice) {
         Some((sharer, number)) => {
             write!(line, "{sharer} ATTACH TASK=V,GSPV={number}")?;
@@ -79,5 +83,5 @@ pub fn refused_task(
         None if dice.is_one_of(2) => write!(line, "JOB RETURN")?,
         None => write!(line, "JOB ATTACH TASK={task}")?,
     }
-    Ok(Change::Nothing)
+    Ok(ExpectedChange::Nothing)
 }

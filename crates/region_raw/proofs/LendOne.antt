@@ -16,7 +16,7 @@ use types.Kit.{‵, raw, ◌⊛◌, ◌$◌, ◌∵◌, !, qed, by, move, use1, 
 use denote.Builtin.{u8}
 use denote.Memory.{mem, cell_at, part_of}
 use denote.RawPtr.{Ptr, block_ptr}
-use denote.Slice.{Room}
+use denote.Slice.{FreeSpace}
 use denote.FollowSlice.{Elements, lends_Elements}
 use Rattle.region_raw.specs.Rows.{overlaid, written}
 use Rattle.region_raw.specs.BorrowsRaw.{with_run}
@@ -59,7 +59,7 @@ module _ {M : Type 1} {𝓤 : Ura M} (𝓛 : Logic 𝓤) (κ : Lft) (q : Share) 
       rewrite ! 0 (λ (p : Ptr). ‵ (owned p (F w).bytes)) (sym e) refl $ move ! (1 ∷ 0 ∷ []) $ fjoin ! $ move ! (1 ∷ 0 ∷ []) $ fjoin ! $
       fpack ! (List Val) (λ us. fsep (cell_at full_share BytesRow.mir us rb ro) (BytesRow.own_val (F w) us)) vs $ done !
 
-  pub room_x : Room u8 (length xs)
+  pub room_x : FreeSpace u8 (length xs)
   room_x = (omega arith, omega arith)
 
   abbrev pub Lent : GName → SProp 𝓤

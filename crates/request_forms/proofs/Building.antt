@@ -59,16 +59,16 @@ module _ (roots fewer : FinMap name_cmp Root) (st new : Storage) (o : Owners) (t
 module _ (roots new_roots : FinMap name_cmp Root) (st new : Storage) (o after : Owners) (t name : Name) (number s : ℕ) (plan : Plan) (agree : Agree roots st) (sub : SubpoolOf o (keeper o t number) number s) where
   takes_pool : (a : ℕ) → PartFollowsHint st name (new_pool s plan) plan.primary a (pools_of new_roots new) → (later : State) → MachineBuilds (machine_state roots st o) (keeper o t number) name number plan later → first_cells (get later.pools name) ≡ a ∷ []
       → first_cells (get (machine_state new_roots new after).pools name) ≡ a ∷ []
-  takes_pool a told later b e =
+  takes_pool a hints later b e =
       let q = b.2.0 in
       let same : b.0 ≡ s = one_subpool o (keeper o t number) number b.0 s b.1 sub in
       let x : Extends (machine_state roots st o) name (new_pool s plan) plan.primary q b.2.1 later = subst (λ u. Extends (machine_state roots st o) name (new_pool u plan) plan.primary q b.2.1 later) same b.2.3 in
       let chosen : Chosen st.regions (held_by st) s (part_want plan.cell_size plan.primary plan.side) q = subst (λ h. Chosen st.regions h s (part_want plan.cell_size plan.primary plan.side) q) (same_holder st o (pools_of roots st) agree.parts.storage) x.chosen in
       let there : first_in (new_pool s plan) plan.primary q ∷ [] ≡ a ∷ [] = sym (ap first_cells (put_here (machine_state roots st o) later name _ x.pools)) ∙ e in
       let first : a ≡ first_in (new_pool s plan) plan.primary q = cc in
-      ap first_cells (told q chosen first) ∙ there
+      ap first_cells (hints q chosen first) ∙ there
 
-  pub pool_takes : (told : Option ℕ) (r : Result (Unit {0}) Refusal) → ((a : ℕ) → told ≡ Some a → OnOk r (PartFollowsHint st name (new_pool s plan) plan.primary a (pools_of new_roots new)))
-      → OnOk r (TakesPool (machine_state roots st o) t number name plan told (machine_state new_roots new after))
-  pool_takes told (Ok _) takes = λ a e. takes_pool a (takes a e)
-  pool_takes told (Err code) takes = tt
+  pub pool_takes : (hints : Option ℕ) (r : Result (Unit {0}) Refusal) → ((a : ℕ) → hints ≡ Some a → OnOk r (PartFollowsHint st name (new_pool s plan) plan.primary a (pools_of new_roots new)))
+      → OnOk r (TakesPool (machine_state roots st o) t number name plan hints (machine_state new_roots new after))
+  pool_takes hints (Ok _) takes = λ a e. takes_pool a (takes a e)
+  pool_takes hints (Err code) takes = tt

@@ -9,7 +9,7 @@ use Rattle.request_forms.specs.Lists.{first_of}
 use Rattle.request_forms.specs.Taking.{TakesCell, further_of}
 use Rattle.cell_pool.specs.Hints.{CellFollowsHint}
 
-pub cell_takes : (old : State) (name : Name) (told : List ℕ) (cell first : Option ℕ) (answer : Result PlaceValue Refusal) → cell ≡ first_of told → first ≡ further_of told
-    → ((a : ℕ) → cell ≡ Some a → IfOk answer (CellFollowsHint old name a first)) → IfOk answer (TakesCell old name told)
-cell_takes old name told cell first (Ok p) is further takes = λ a e. subst (λ f. CellFollowsHint old name a f p) further (takes a (is ∙ e))
-cell_takes old name told cell first (Err refusal) is further takes = tt
+pub cell_takes : (old : State) (name : Name) (hints : List ℕ) (cell first : Option ℕ) (answer : Result PlaceValue Refusal) → cell ≡ first_of hints → first ≡ further_of hints
+    → ((a : ℕ) → cell ≡ Some a → IfOk answer (CellFollowsHint old name a first)) → IfOk answer (TakesCell old name hints)
+cell_takes old name hints cell first (Ok p) is further takes = λ a e. subst (λ f. CellFollowsHint old name a f p) further (takes a (is ∙ e))
+cell_takes old name hints cell first (Err refusal) is further takes = tt

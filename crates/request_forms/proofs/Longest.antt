@@ -7,7 +7,7 @@ use Rattle.mvs_model.specs.Name.{name_cmp}
 use Rattle.mvs_model.specs.Place.{PlaceValue, place_at}
 use Rattle.mvs_model.specs.Want.{WantValue, IsWant}
 use Rattle.mvs_model.specs.declared.want.Side.{Side}
-use Rattle.mvs_model.specs.declared.reason.Room.{Room}
+use Rattle.mvs_model.specs.declared.reason.FreeSpace.{FreeSpace}
 use Rattle.mvs_model.specs.FreeRuns.{free_runs}
 use Rattle.mvs_model.specs.Pools.{part_want}
 use Rattle.mvs_model.specs.Finite.{count_below}
@@ -154,7 +154,7 @@ module _ (r : Regions) (bounded : IsBounded r) (held : ℕ → Option ℕ) (s : 
   }
 
 -- what is found for what stands for a part is found for the part
-pub part_stands : (st : State) → IsBounded st.regions → (s size cells : ℕ) (side : Side) (want : WantValue) → IsEquivalentWant (part_want size cells side) want → (v : Option Room)
+pub part_stands : (st : State) → IsBounded st.regions → (s size cells : ℕ) (side : Side) (want : WantValue) → IsEquivalentWant (part_want size cells side) want → (v : Option FreeSpace)
     → MatchOption v ((p : PlaceValue) × Chosen st.regions (state_holder st) s want p) (λ room. NoPlace st.regions (state_holder st) s want × IsRoom st s want room)
     → MatchOption v ((p : PlaceValue) × Chosen st.regions (state_holder st) s (part_want size cells side) p) (λ room. NoPlace st.regions (state_holder st) s (part_want size cells side) × IsRoom st s (part_want size cells side) room)
 part_stands st bounded s size cells side want stands None h = (h.0, stands_chosen st.regions bounded (state_holder st) s (part_want size cells side) want stands h.0 h.1)

@@ -18,7 +18,7 @@ use Rattle.cell_pool.proofs.Tallied.{splits_bytes}
 use Rattle.request_forms.specs.Facts.{bytes_of, has_subpool, owned_at, pages_in, pages_of}
 use Rattle.request_forms.specs.Machine.{machine_state}
 use Rattle.request_forms.specs.Reports.{page_holder}
-use Rattle.request_forms.specs.SubpoolLabels.{label_had, label_meant}
+use Rattle.request_forms.specs.SubpoolLabels.{entry_owner, resolved_owner}
 use Rattle.request_forms.specs.declared.facts.OwnedSubpool.{OwnedSubpool}
 use Rattle.request_forms.proofs.Reporting.{pages_seen}
 
@@ -39,17 +39,17 @@ label_told o s None kept h = sym (ap (λ v. option_and_then (λ t. option_map (�
 label_told o s (Some r) kept h = sym (label_is o s r.0 r.1 kept h.0 h.1)
 
 -- what an active task has under a number, and what it means by one
-pub had_told : (o : Owners) (t : Name) (n s : ℕ) (v : Option (ℕ × Name)) → true ≡ is_active o t → entry o t n ≡ Some s → v ≡ label_of o (Some s) → v ≡ label_had o t n
+pub had_told : (o : Owners) (t : Name) (n s : ℕ) (v : Option (ℕ × Name)) → true ≡ is_active o t → entry o t n ≡ Some s → v ≡ label_of o (Some s) → v ≡ entry_owner o t n
 had_told o t n s v active entered is = is ∙ ap (label_of o) (sym entered) ∙ ap (λ b. if b then label_of o (entry o t n) else None) active
 
-pub meant_told : (o : Owners) (t : Name) (n s : ℕ) (v : Option (ℕ × Name)) → true ≡ is_subpool_number n → true ≡ is_active o t → subpool_meant o t n ≡ Some s → v ≡ label_of o (Some s) → v ≡ label_meant o t n
+pub meant_told : (o : Owners) (t : Name) (n s : ℕ) (v : Option (ℕ × Name)) → true ≡ is_subpool_number n → true ≡ is_active o t → subpool_meant o t n ≡ Some s → v ≡ label_of o (Some s) → v ≡ resolved_owner o t n
 meant_told o t n s v valid active meant is =
     is ∙ ap (label_of o) (sym meant) ∙ ap (λ b. if true && b then label_of o (subpool_meant o t n) else None) active ∙ ap (λ b. if b && is_active o t then label_of o (subpool_meant o t n) else None) valid
 
 -- whether an active task has a subpool, by what stands under its numbers; and one that is not active
-pub has_told : (o : Owners) (t : Name) (s : ℕ) (told : Bool) (entries : List (Option ℕ)) → true ≡ is_active o t → length entries ≡ 133 → ((n : ℕ) → n < 133 → get_or entries n None ≡ entry o t n)
-    → told ≡ any_below (λ n. has (λ r. r == s) (get_or entries n None)) (length entries) → told ≡ has_subpool o t s
-has_told o t s told entries active size each is =
+pub has_told : (o : Owners) (t : Name) (s : ℕ) (hints : Bool) (entries : List (Option ℕ)) → true ≡ is_active o t → length entries ≡ 133 → ((n : ℕ) → n < 133 → get_or entries n None ≡ entry o t n)
+    → hints ≡ any_below (λ n. has (λ r. r == s) (get_or entries n None)) (length entries) → hints ≡ has_subpool o t s
+has_told o t s hints entries active size each is =
     is ∙ ap (any_below (λ n. has (λ r. r == s) (get_or entries n None))) size
     ∙ same_below 133 (λ n. has (λ r. r == s) (get_or entries n None)) (λ n. has (λ r. r == s) (entry o t n)) (λ n low. ap (has (λ r. r == s)) (each n low))
     ∙ ap (λ b. b && any_below (λ n. has (λ r. r == s) (entry o t n)) 133) active

@@ -49,11 +49,11 @@ granted roots st new o after t number s want p agree now sub enters g =
     (grant_seen st new o after (pools_of roots st) agree.parts.storage now (stands roots st o agree) s want p g t number sub enters)
 
 -- so do grants one after another
-pub grants_agree : (roots : FinMap name_cmp Root) (st new : Storage) (s : ℕ) (wants : List WantValue) (told : List ℕ) (ps : List PlaceValue) → Agree roots st → GrantsEach st s wants told ps new → Agree roots new
-grants_agree roots st new s [] told [] agree h = subst (Agree roots) (sym h) agree
-grants_agree roots st new s [] told (p ∷ ps) agree h = absurd h
-grants_agree roots st new s (want ∷ wants) told [] agree h = absurd h
-grants_agree roots st new s (want ∷ wants) told (p ∷ ps) agree h = grants_agree roots h.0 new s wants (later_of told) ps (grant_agrees roots st h.0 s want p agree h.1 h.2).0 h.4
+pub grants_agree : (roots : FinMap name_cmp Root) (st new : Storage) (s : ℕ) (wants : List WantValue) (hints : List ℕ) (ps : List PlaceValue) → Agree roots st → GrantsEach st s wants hints ps new → Agree roots new
+grants_agree roots st new s [] hints [] agree h = subst (Agree roots) (sym h) agree
+grants_agree roots st new s [] hints (p ∷ ps) agree h = absurd h
+grants_agree roots st new s (want ∷ wants) hints [] agree h = absurd h
+grants_agree roots st new s (want ∷ wants) hints (p ∷ ps) agree h = grants_agree roots h.0 new s wants (later_of hints) ps (grant_agrees roots st h.0 s want p agree h.1 h.2).0 h.4
 
 -- and releases of places that have nothing of a part
 pub releases_agree : (roots : FinMap name_cmp Root) (st new : Storage) (s : ℕ) (ps : List PlaceValue) → Agree roots st → AllByRecursion (IsClear (pools_of roots st)) ps → ReleasesEach st s ps new → Agree roots new × (pools_of roots new ≡ pools_of roots st)

@@ -28,15 +28,15 @@ later_of (a ∷ more) = more
 
 -- The place is the one at the hinted address, if a place there is chosen.
 abbrev pub TakesFirst : Storage → ℕ → WantValue → Option ℕ → PlaceValue → Type 0
-TakesFirst st s want told p = (q : PlaceValue) → told ≡ Some q.addr → Chosen st.regions (holder st) s want q → p ≡ q
+TakesFirst st s want hints p = (q : PlaceValue) → hints ≡ Some q.addr → Chosen st.regions (holder st) s want q → p ≡ q
 
 -- Grants to a subpool one after another, one place for each request, each of which uses its hint.
 abbrev pub GrantsEach : Storage → ℕ → List WantValue → List ℕ → List PlaceValue → Storage → Type 0
-GrantsEach old s [] told [] new = new ≡ old
-GrantsEach old s [] told (p ∷ ps) new = ⊥
-GrantsEach old s (want ∷ wants) told [] new = ⊥
-GrantsEach old s (want ∷ wants) told (p ∷ ps) new =
-    (mid : Storage) × IsStorage mid × Grant old s want p mid × TakesFirst old s want (first_of told) p × GrantsEach mid s wants (later_of told) ps new
+GrantsEach old s [] hints [] new = new ≡ old
+GrantsEach old s [] hints (p ∷ ps) new = ⊥
+GrantsEach old s (want ∷ wants) hints [] new = ⊥
+GrantsEach old s (want ∷ wants) hints (p ∷ ps) new =
+    (mid : Storage) × IsStorage mid × Grant old s want p mid × TakesFirst old s want (first_of hints) p × GrantsEach mid s wants (later_of hints) ps new
 
 -- There is no place for something that is wanted, and this is what it lacks.
 abbrev pub LacksIn : Storage → ℕ → WantValue → Shortfall → Type 0

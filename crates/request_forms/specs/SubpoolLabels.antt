@@ -17,9 +17,9 @@ abbrev pub free_above : State → ℕ
 free_above st = free_pages st first_page_above st.regions.above
 
 -- the number under which the owner has the subpool that a task has under a number, and the owner
-abbrev pub label_had : Owners → Name → ℕ → Option (ℕ × Name)
-label_had o t number = if is_active o t then label_of o (entry o t number) else None
+abbrev pub entry_owner : Owners → Name → ℕ → Option (ℕ × Name)
+entry_owner o t number = if is_active o t then label_of o (entry o t number) else None
 
 -- the subpool that a task uses for a valid number: its owner's number for it, and the owner
-abbrev pub label_meant : Owners → Name → ℕ → Option (ℕ × Name)
-label_meant o t number = if is_subpool_number number && is_active o t then label_of o (subpool_meant o t number) else None
+abbrev pub resolved_owner : Owners → Name → ℕ → Option (ℕ × Name)
+resolved_owner o t number = if is_subpool_number number && is_active o t then label_of o (subpool_meant o t number) else None

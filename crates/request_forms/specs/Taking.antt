@@ -17,11 +17,11 @@ use Rattle.request_forms.specs.Lists.{first_of, list_wants}
 
 -- A granted area uses the hinted address.
 abbrev pub TakesArea : State → Name → Form → ℕ → AskValue → Option ℕ → PlaceValue → Type 0
-TakesArea old t form number ask told p = (a : ℕ) → told ≡ Some a → FollowsHint old (keeper old.owners t number) number (want_of ask (side_for old t form ask.loc)) a p
+TakesArea old t form number ask hints p = (a : ℕ) → hints ≡ Some a → FollowsHint old (keeper old.owners t number) number (want_of ask (side_for old t form ask.loc)) a p
 
 -- Each area of a list uses its hint, if there is a hint for each.
 abbrev pub TakesAreas : State → Name → ℕ → List ℕ → ℕ → List ℕ → List PlaceValue → State → Type 0
-TakesAreas old t number lengths start told ps new = length told ≡ length lengths → ListFollowsHints old (keeper old.owners t number) number (list_wants lengths start) told ps new
+TakesAreas old t number lengths start hints ps new = length hints ≡ length lengths → ListFollowsHints old (keeper old.owners t number) number (list_wants lengths start) hints ps new
 
 -- the hint for the first cell of a further part: the one after that of the cell, or that of the cell
 abbrev pub further_of : List ℕ → Option ℕ
@@ -31,7 +31,7 @@ further_of (a ∷ first ∷ more) = Some first
 
 -- A taken cell is at the hinted address, if there can be one.
 abbrev pub TakesCell : State → Name → List ℕ → PlaceValue → Type 0
-TakesCell old name told p = (a : ℕ) → first_of told ≡ Some a → CellFollowsHint old name a (further_of told) p
+TakesCell old name hints p = (a : ℕ) → first_of hints ≡ Some a → CellFollowsHint old name a (further_of hints) p
 
 -- the addresses of the first cells of a pool's parts, where it is there
 abbrev pub first_cells : Option Pool → List ℕ
@@ -40,13 +40,13 @@ first_cells (Some pool) = map (first_cell pool.cell_size) pool.parts
 
 -- A new pool has its first cell at the hinted address, if that is possible.
 abbrev pub TakesPool : State → Name → ℕ → Name → Plan → Option ℕ → State → Type 0
-TakesPool old t number name plan told new =
-    (a : ℕ) → told ≡ Some a → (later : State) → Builds old (keeper old.owners t number) name number plan later → first_cells (get later.pools name) ≡ a ∷ [] → first_cells (get new.pools name) ≡ a ∷ []
+TakesPool old t number name plan hints new =
+    (a : ℕ) → hints ≡ Some a → (later : State) → Builds old (keeper old.owners t number) name number plan later → first_cells (get later.pools name) ≡ a ∷ [] → first_cells (get new.pools name) ≡ a ∷ []
 
 -- A step that grants these uses the hints.
 abbrev pub Takes : Entered
-Takes told old t (Obtain form number ask) (Obtained p) new = TakesArea old t form number ask (first_of told) p
-Takes told old t (ObtainList form number lengths start) (Listed ps) new = TakesAreas old t number lengths start told ps new
-Takes told old t (Build name number size primary secondary loc) Rc0 new = TakesPool old t number name (record { cell_size = size; primary = primary; secondary = secondary; side = side_of loc (residence_of old.owners t) }) (first_of told) new
-Takes told old t (Get name conditional) (Cell p) new = TakesCell old name told p
-Takes told old t r reply new = Unit {0}
+Takes hints old t (Obtain form number ask) (Obtained p) new = TakesArea old t form number ask (first_of hints) p
+Takes hints old t (ObtainList form number lengths start) (Listed ps) new = TakesAreas old t number lengths start hints ps new
+Takes hints old t (Build name number size primary secondary loc) Rc0 new = TakesPool old t number name (record { cell_size = size; primary = primary; secondary = secondary; side = side_of loc (residence_of old.owners t) }) (first_of hints) new
+Takes hints old t (Get name conditional) (Cell p) new = TakesCell old name hints p
+Takes hints old t r reply new = Unit {0}

@@ -125,7 +125,7 @@ fn write_where_granted(store: &mut Store, pools: &Pools, place: Place, bytes: &[
 }
 
 // Returns the address a number of bytes after another one.
-fn behind(addr: Addr, distance: u32) -> Addr
+fn at_distance(addr: Addr, distance: u32) -> Addr
     requires { addr + distance < 2 ^ 31 }
     ensures { result ≡ addr + distance }
 {
@@ -157,7 +157,7 @@ fn copy_down(store: &mut Store, to: Addr, from: Addr, len: u32)
     let mut done = 0;
     'pieces: while done < len {
         let piece = distance.min(len - done);
-        copy_apart(store, behind(to, done), behind(from, done), piece);
+        copy_apart(store, at_distance(to, done), at_distance(from, done), piece);
         done += piece;
     }
 }
@@ -175,7 +175,7 @@ fn copy_up(store: &mut Store, to: Addr, from: Addr, len: u32)
     'pieces: while left > 0 {
         let piece = distance.min(left);
         left -= piece;
-        copy_apart(store, behind(to, left), behind(from, left), piece);
+        copy_apart(store, at_distance(to, left), at_distance(from, left), piece);
     }
 }
 

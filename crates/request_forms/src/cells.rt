@@ -25,10 +25,10 @@ use mvs_model::want::Loc;
 use task_owner::TaskId;
 
 // Returns the hint for the first cell of a further part.
-fn further_hint(told: &[Addr]) -> Option<Addr>
-    ensures { result ≡ further_of told.now }
+fn further_hint(hints: &[Addr]) -> Option<Addr>
+    ensures { result ≡ further_of hints.now }
 {
-    match told {
+    match hints {
         [_, first, ..] => Some(*first),
         [cell] => Some(*cell),
         [] => None,
@@ -66,19 +66,23 @@ impl Machine {
         number: SubNo,
         pool: &Name,
         plan: &Plan,
-        told: Option<Addr>,
+        hints: Option<Addr>,
     ) -> Result<(), Refusal>
         requires active { IsTask self.old t }
         requires valid { IsSubpoolNumber number }
         ensures answer { TriesPlan self.old.state (task_name self.old t) pool.now number plan.now result self.new.state }
-        ensures told { OnOk result
-            (TakesPool self.old.state (task_name self.old t) number pool.now plan.now told self.new.state) }
+        ensures hints { OnOk result
+            (TakesPool self.old.state (task_name self.old t) number pool.now plan.now hints self.new.state) }
     {
         match self.tasks.subpool(t, number) {
-            Some(subpool) => self.pools.build(&mut self.store, pool, subpool, plan, told),
+            Some(subpool) => self
+                .pools
+                .build(&mut self.store, pool, subpool, plan, hints),
             None => {
                 let subpool = self.tasks.spare(t, number);
-                let built = self.pools.build(&mut self.store, pool, subpool, plan, told);
+                let built = self
+                    .pools
+                    .build(&mut self.store, pool, subpool, plan, hints);
                 if built.is_ok() {
                     self.tasks.bind(t, number, subpool);
                 }
@@ -94,29 +98,29 @@ impl Machine {
         number: u8,
         pool: &Name,
         plan: &Plan,
-        told: Option<Addr>,
+        hints: Option<Addr>,
     ) -> Result<(), Refusal>
         requires { IsTask self.old t }
         ensures answer { TriesPlan self.old.state (task_name self.old t) pool.now number plan.now result self.new.state }
-        ensures told { OnOk result
-            (TakesPool self.old.state (task_name self.old t) number pool.now plan.now told self.new.state) }
+        ensures hints { OnOk result
+            (TakesPool self.old.state (task_name self.old t) number pool.now plan.now hints self.new.state) }
     {
         let Some(number) = SubNo::new(number) else {
             return Err(Refusal::InvalidNumber);
         };
-        self.build_pool(t, number, pool, plan, told)
+        self.build_pool(t, number, pool, plan, hints)
     }
 
     /// CPOOL GET: allocates a free cell of the pool. If none is free, a conditional request is refused, and another one gets a cell
     /// of a further part. If the machine allows that, the cell is at the first hint, and the first cell of a further part at the
     /// second one or, if there is only one, at that.
-    pub fn get(&mut self, pool: &Name, conditional: bool, told: &[Addr]) -> Result<Place, Refusal>
+    pub fn get(&mut self, pool: &Name, conditional: bool, hints: &[Addr]) -> Result<Place, Refusal>
         ensures answer { (t : TheName)
             → Tries Cell self.old.state t (request.Get pool.now conditional) result self.new.state }
-        ensures told { IfOk result (TakesCell self.old.state pool.now told.now) }
+        ensures hints { IfOk result (TakesCell self.old.state pool.now hints.now) }
     {
-        let cell = first_hint(told);
-        let first = further_hint(told);
+        let cell = first_hint(hints);
+        let first = further_hint(hints);
         self.pools
             .get(&mut self.store, pool, conditional, cell, first)
     }

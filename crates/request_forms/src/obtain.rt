@@ -18,7 +18,7 @@ use mvs_model::codes::form_side;
 use mvs_model::place::{Addr, Place};
 use mvs_model::refusal::Refusal;
 use mvs_model::subpool::SubNo;
-use mvs_model::want::Ask;
+use mvs_model::want::AreaRequest;
 use task_owner::TaskId;
 
 impl Machine {
@@ -29,8 +29,8 @@ impl Machine {
         t: TaskId,
         form: Form,
         number: SubNo,
-        ask: &Ask,
-        told: Option<Addr>,
+        ask: &AreaRequest,
+        hints: Option<Addr>,
     ) -> Option<Place>
         requires { IsTask self.old t }
         ensures granted { let want = want_of ask.now (side_for self.old.state (task_name self.old t) form ask.now.loc) in
@@ -38,15 +38,15 @@ impl Machine {
             MatchOption result
             (ShortOf self.old.state k number want × (self.new.state ≡ self.old.state))
             (λ p. GrantTo self.old.state k number want p self.new.state) }
-        ensures told { IfSome result (TakesArea self.old.state (task_name self.old t) form number ask.now told) }
+        ensures hints { IfSome result (TakesArea self.old.state (task_name self.old t) form number ask.now hints) }
         ensures some { 1 ≤ ask.now.least }
     {
         let want = ask.want(form_side(form, side(ask.loc(), self.tasks.residence(t))));
         match self.tasks.subpool(t, number) {
-            Some(subpool) => self.store.obtain(subpool, &want, told),
+            Some(subpool) => self.store.obtain(subpool, &want, hints),
             None => {
                 let subpool = self.tasks.spare(t, number);
-                let Some(place) = self.store.obtain(subpool, &want, told) else {
+                let Some(place) = self.store.obtain(subpool, &want, hints) else {
                     return None;
                 };
                 self.tasks.bind(t, number, subpool);
@@ -62,18 +62,18 @@ impl Machine {
         t: TaskId,
         form: Form,
         number: u8,
-        ask: &Ask,
-        told: Option<Addr>,
+        ask: &AreaRequest,
+        hints: Option<Addr>,
     ) -> Result<Place, Refusal>
         requires { IsTask self.old t }
         ensures answer { Tries Obtained self.old.state (task_name self.old t) (request.Obtain form number ask.now) result
             self.new.state }
-        ensures told { IfOk result (TakesArea self.old.state (task_name self.old t) form number ask.now told) }
+        ensures hints { IfOk result (TakesArea self.old.state (task_name self.old t) form number ask.now hints) }
     {
         let Some(number) = SubNo::new(number) else {
             return Err(Refusal::InvalidNumber);
         };
-        match self.obtain_area(t, form, number, ask, told) {
+        match self.obtain_area(t, form, number, ask, hints) {
             Some(place) => Ok(place),
             None => Err(Refusal::Shortage),
         }

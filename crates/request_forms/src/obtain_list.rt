@@ -20,7 +20,7 @@ use crate::release::take_back;
 use crate::shortage::room_in;
 use mvs_model::bounded::{Exponent, Length};
 use mvs_model::place::{Addr, Place};
-use mvs_model::reason::{Room, Shortfall};
+use mvs_model::reason::{FreeSpace, Shortfall};
 use mvs_model::refusal::Refusal;
 use mvs_model::request::{Lengths, Places};
 use mvs_model::subpool::{SubNo, SubpoolId};
@@ -43,22 +43,22 @@ fn with_place(granted: Option<Places>, place: Place) -> Places
 }
 
 /// Returns the first hint, if there is one.
-pub fn first_hint(told: &[Addr]) -> Option<Addr>
-    ensures { result ≡ first_of told.now }
+pub fn first_hint(hints: &[Addr]) -> Option<Addr>
+    ensures { result ≡ first_of hints.now }
 {
-    match told {
+    match hints {
         [first, ..] => Some(*first),
         [] => None,
     }
 }
 
 // Returns the hints for the later members.
-fn later_hints(told: &[Addr]) -> &[Addr]
-    ensures { result.now ≡ later_of told.now }
+fn later_hints(hints: &[Addr]) -> &[Addr]
+    ensures { result.now ≡ later_of hints.now }
 {
-    match told {
+    match hints {
         [_, later @ ..] => later,
-        [] => told,
+        [] => hints,
     }
 }
 
@@ -73,7 +73,7 @@ pub(crate) struct Lack {
 pub fn no_shortfall() -> Shortfall {
     Shortfall {
         bytes: 0,
-        room: Room {
+        room: FreeSpace {
             longest: 0,
             runs: 0,
             below: 0,
@@ -101,7 +101,7 @@ fn grant_each(
     subpool: SubpoolId,
     lengths: &[Length],
     start: Exponent,
-    told: &[Addr],
+    hints: &[Addr],
     granted: Option<Places>,
 ) -> Result<Places, Lack>
     requires room { length (so_far granted) + length lengths.now ≤ 16 }
@@ -109,7 +109,7 @@ fn grant_each(
     requires storage { IsStorage store.old.storage }
     ensures places { MatchResult result
         (λ ps. (more : List PlaceValue) × (ps ≡ so_far granted ++ more)
-        × GrantsEach store.old.storage subpool (list_wants lengths.now start) told.now more
+        × GrantsEach store.old.storage subpool (list_wants lengths.now start) hints.now more
         store.new.storage)
         (λ lack. LacksAt store.old.storage subpool (list_wants lengths.now start) lack.member
         lack.short
@@ -125,7 +125,7 @@ fn grant_each(
         };
     };
     let want = Want::fixed(*length, start, Side::Below);
-    let Some(place) = store.obtain(subpool, &want, first_hint(told)) else {
+    let Some(place) = store.obtain(subpool, &want, first_hint(hints)) else {
         return Err(Lack {
             member: 1,
             short: shortfall(store, subpool, &want),
@@ -136,7 +136,7 @@ fn grant_each(
         subpool,
         rest,
         start,
-        later_hints(told),
+        later_hints(hints),
         Some(with_place(granted, place)),
     ) {
         Ok(places) => Ok(places),
@@ -159,7 +159,7 @@ impl Machine {
         number: SubNo,
         lengths: &Lengths,
         start: Exponent,
-        told: &[Addr],
+        hints: &[Addr],
     ) -> Result<Places, Lack>
         requires { IsTask self.old t }
         ensures granted { MatchResult result
@@ -168,8 +168,8 @@ impl Machine {
             (λ lack. IsMemberShort self.old.state (keeper self.old.state.owners (task_name self.old t) number) number
             (list_wants lengths.now start) lack.member lack.short
             × (self.new.state ≡ self.old.state)) }
-        ensures told { IfOk result
-            (λ ps. TakesAreas self.old.state (task_name self.old t) number lengths.now start told.now ps self.new.state) }
+        ensures hints { IfOk result
+            (λ ps. TakesAreas self.old.state (task_name self.old t) number lengths.now start hints.now ps self.new.state) }
     {
         match self.tasks.subpool(t, number) {
             Some(subpool) => grant_each(
@@ -177,7 +177,7 @@ impl Machine {
                 subpool,
                 lengths.as_slice(),
                 start,
-                told,
+                hints,
                 None,
             ),
             None => {
@@ -187,7 +187,7 @@ impl Machine {
                     subpool,
                     lengths.as_slice(),
                     start,
-                    told,
+                    hints,
                     None,
                 ) {
                     Ok(places) => places,
@@ -208,15 +208,15 @@ impl Machine {
         number: u8,
         lengths: &Lengths,
         start: Exponent,
-        told: &[Addr],
+        hints: &[Addr],
         left: &mut Shortfall,
     ) -> Result<Places, Refusal>
         requires { IsTask self.old t }
         ensures answer { (form : TheForm)
             → Tries Listed self.old.state (task_name self.old t) (request.ObtainList form number lengths.now start) result
             self.new.state }
-        ensures told { IfOk result
-            (λ ps. TakesAreas self.old.state (task_name self.old t) number lengths.now start told.now ps self.new.state) }
+        ensures hints { IfOk result
+            (λ ps. TakesAreas self.old.state (task_name self.old t) number lengths.now start hints.now ps self.new.state) }
         ensures left { (form : TheForm) (k : ℕ) → result ≡ Err (Member k)
             → MemberLacks self.old.state (task_name self.old t) (request.ObtainList form number lengths.now start) k
             left.new }
@@ -224,7 +224,7 @@ impl Machine {
         let Some(number) = SubNo::new(number) else {
             return Err(Refusal::InvalidNumber);
         };
-        match self.obtain_areas(t, number, lengths, start, told) {
+        match self.obtain_areas(t, number, lengths, start, hints) {
             Ok(places) => Ok(places),
             Err(lack) => {
                 *left = lack.short;

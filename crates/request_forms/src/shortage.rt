@@ -14,7 +14,7 @@ use crate::machine::Machine;
 use cell_pool::part_want;
 use mvs_model::bounded::{CellCount, CellSize};
 use mvs_model::name::Name;
-use mvs_model::reason::Room;
+use mvs_model::reason::FreeSpace;
 use mvs_model::subpool::{SubNo, SubpoolId};
 use mvs_model::want::{Side, Want};
 use subpool_store::Store;
@@ -32,14 +32,14 @@ fn longest(store: &Store, subpool: SubpoolId, want: &Want) -> u32
 }
 
 // Returns the storage that a subpool can obtain, if a request does not fit.
-pub(crate) fn room_in(store: &Store, subpool: SubpoolId, want: &Want) -> Option<Room>
+pub(crate) fn room_in(store: &Store, subpool: SubpoolId, want: &Want) -> Option<FreeSpace>
     ensures { MatchOption result
         ((p : PlaceValue)
         × Chosen store.now.storage.regions (holder store.now.storage) subpool want.now p)
         (LacksPlace store.now.storage subpool want.now) }
 {
     let runs = store.runs_without_place(subpool, want)?;
-    Some(Room {
+    Some(FreeSpace {
         longest: longest(store, subpool, want),
         runs,
         below: store.free_below(),
@@ -49,7 +49,7 @@ pub(crate) fn room_in(store: &Store, subpool: SubpoolId, want: &Want) -> Option<
 
 impl Machine {
     // Returns the storage that a subpool of the machine can obtain.
-    pub(crate) fn room(&self, subpool: SubpoolId, want: &Want) -> Option<Room>
+    pub(crate) fn room(&self, subpool: SubpoolId, want: &Want) -> Option<FreeSpace>
         ensures room { MatchOption result
             ((p : PlaceValue) × Chosen self.now.state.regions (state.holder self.now.state) subpool want.now p)
             (λ room. NoPlace self.now.state.regions (state.holder self.now.state) subpool want.now
@@ -66,7 +66,7 @@ impl Machine {
         size: CellSize,
         cells: CellCount,
         side: Side,
-    ) -> Option<Room>
+    ) -> Option<FreeSpace>
         ensures { MatchOption result
             ((p : PlaceValue)
             × Chosen self.now.state.regions (state.holder self.now.state) subpool (part_want size cells side) p)

@@ -2,13 +2,13 @@
 
 ghost use Rattle.std.specs.Prelude.{◌≡◌, None, Some, MatchOption};
 ghost use Rattle.std.specs.FinMap.{get};
-ghost use Rattle.mvs_model.specs.Newest.{IsNewest};
+ghost use Rattle.mvs_model.specs.LastPart.{IsNewest};
 ghost use Rattle.mvs_model.specs.Pools.{Pool};
-ghost use Rattle.request_forms.specs.SubpoolLabels.{free_above, free_below, label_had, label_meant};
+ghost use Rattle.request_forms.specs.SubpoolLabels.{free_above, free_below, entry_owner, resolved_owner};
 
 use crate::machine::Machine;
 use mvs_model::name::Name;
-use mvs_model::report::Newest;
+use mvs_model::report::LastPart;
 use mvs_model::subpool::SubNo;
 
 /// How many pages of each region hold nothing.
@@ -32,8 +32,8 @@ impl Machine {
 
     /// The subpool that an active task means by a number that a program may name: the number under which its owner has it, and
     /// the owner.
-    pub fn label_meant(&self, name: &Name, number: u8) -> Option<(SubNo, Name)>
-        ensures { result ≡ label_meant self.now.state.owners name.now number }
+    pub fn resolved_owner(&self, name: &Name, number: u8) -> Option<(SubNo, Name)>
+        ensures { result ≡ resolved_owner self.now.state.owners name.now number }
     {
         let Some(number) = SubNo::new(number) else {
             return None;
@@ -48,7 +48,7 @@ impl Machine {
     }
 
     /// How many parts the pool of this name has, and which was put to it last. None where no pool has the name.
-    pub fn newest(&self, pool: &Name) -> Option<Newest>
+    pub fn newest(&self, pool: &Name) -> Option<LastPart>
         ensures { MatchOption result (get self.now.state.pools pool.now ≡ None)
             (λ newest. (kept : Pool) × (get self.now.state.pools pool.now ≡ Some kept)
             × IsNewest kept newest) }
@@ -57,8 +57,8 @@ impl Machine {
     }
 
     /// Returns the subpool that an active task has for a number: its owner's number for it, and the owner.
-    pub fn label_had(&self, name: &Name, number: SubNo) -> Option<(SubNo, Name)>
-        ensures { result ≡ label_had self.now.state.owners name.now number }
+    pub fn entry_owner(&self, name: &Name, number: SubNo) -> Option<(SubNo, Name)>
+        ensures { result ≡ entry_owner self.now.state.owners name.now number }
     {
         let Some(t) = self.tasks.find(name) else {
             return None;

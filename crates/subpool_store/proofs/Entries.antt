@@ -4,8 +4,8 @@ use Rattle.std.proofs.lemmas.Bool.{cases_eq, cases_lt, eq-eqb, le-ltb, lt-ltb, n
 use Rattle.page_map.specs.Owners.{owner_of}
 use Rattle.subpool_store.specs.Bits.{digit}
 use Rattle.subpool_store.specs.Walk.{entry_by, entry_of}
-use Rattle.subpool_store.specs.declared.counted.Entry.{Entry}
-use Rattle.subpool_store.specs.declared.counted.Entry.TheVariants.{Free, Own, Other, End}
+use Rattle.subpool_store.specs.declared.counted.PageUse.{PageUse}
+use Rattle.subpool_store.specs.declared.counted.PageUse.TheVariants.{Free, Own, Other, End}
 
 -- whether there is an entry, counted
 pub one_there : (p n : ℕ) → p < n → digit (ltb p n) ≡ 1
@@ -24,7 +24,7 @@ module _ (pages : List (Option ℕ)) (s p : ℕ) where
   pub own_entry : p < length pages → owner_of pages p ≡ Some s → entry_of pages s p ≡ Own
   own_entry low own = entry_there low ∙ ap (entry_by s) own ∙ ap (λ b. cond b Own Other) (eq-eqb s s refl)
 
-  there : (e : Entry) → entry_of pages s p ≡ e → (e ≡ End → ⊥) → p < length pages
+  there : (e : PageUse) → entry_of pages s p ≡ e → (e ≡ End → ⊥) → p < length pages
   there e is some = elim (cases_lt p (length pages)) [ inl low ↦ low | inr past ↦ absurd (some (sym is ∙ entry_past past)) ]
 
   by_own : (o : Option ℕ) → entry_by s o ≡ Own → o ≡ Some s

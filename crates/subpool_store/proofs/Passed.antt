@@ -8,8 +8,8 @@ use Rattle.subpool_store.specs.Memory.{IsCursor, MemoryState}
 use Rattle.subpool_store.specs.Search.{IsExact, NoneFits, may_take}
 use Rattle.subpool_store.specs.Walk.{IsInside, IsWalk, entry_of, looked_at}
 use Rattle.subpool_store.specs.declared.counted.Counted.{Counted}
-use Rattle.subpool_store.specs.declared.counted.Entry.{Entry}
-use Rattle.subpool_store.specs.declared.counted.Entry.TheVariants.{Own}
+use Rattle.subpool_store.specs.declared.counted.PageUse.{PageUse}
+use Rattle.subpool_store.specs.declared.counted.PageUse.TheVariants.{Own}
 use Rattle.subpool_store.specs.declared.walk.Walk.{Walk}
 use Rattle.subpool_store.proofs.Begun.{counted_few, inside_counted}
 use Rattle.subpool_store.proofs.Entries.{entry_own}
@@ -23,7 +23,7 @@ held_fails m pages s i set = elim (cases_lt i (length m.held)) [
 ]
 
 -- a pass that has joined nothing
-abbrev pub walk_at : ℕ → Entry → ℕ → Counted → Walk
+abbrev pub walk_at : ℕ → PageUse → ℕ → Counted → Walk
 walk_at at entry queue counted = record { start = at; end = at; entry = entry; queue = queue; counted = counted }
 
 -- a pass has not counted much

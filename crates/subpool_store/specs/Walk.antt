@@ -7,26 +7,26 @@ use Rattle.subpool_store.specs.Bits.{digit}
 use Rattle.subpool_store.specs.Edits.{IsFreeRun}
 use Rattle.subpool_store.specs.Memory.{IsCursor, MemoryState}
 use Rattle.subpool_store.specs.Search.{may_take}
-use Rattle.subpool_store.specs.declared.counted.Entry.{Entry}
-use Rattle.subpool_store.specs.declared.counted.Entry.TheVariants.{Free, Own, Other, End}
-use Rattle.subpool_store.specs.declared.walk.Part.{Part}
+use Rattle.subpool_store.specs.declared.counted.PageUse.{PageUse}
+use Rattle.subpool_store.specs.declared.counted.PageUse.TheVariants.{Free, Own, Other, End}
+use Rattle.subpool_store.specs.declared.walk.ReadPart.{ReadPart}
 use Rattle.subpool_store.specs.declared.walk.Walk.{Walk}
 
 -- what the entry of a page of this owner is for s
-abbrev pub entry_by : ℕ → Option ℕ → Entry
+abbrev pub entry_by : ℕ → Option ℕ → PageUse
 entry_by s None = Free
 entry_by s (Some t) = if t == s then Own else Other
 
 -- the entry of a page for s, and the end after the last page
-abbrev pub entry_of : List (Option ℕ) → ℕ → ℕ → Entry
+abbrev pub entry_of : List (Option ℕ) → ℕ → ℕ → PageUse
 entry_of pages s p = if nat_lt p (length pages) then entry_by s (owner_of pages p) else End
 
 -- The entry is of a page of s.
-abbrev pub IsOwn : Entry → Type 0
+abbrev pub IsOwn : PageUse → Type 0
 IsOwn entry = entry ≡ Own
 
 -- A pass is before a page whose entry it has read, or inside such a page of s, before the free runs in its queue.
-pub record IsPassing (m : MemoryState) (pages : List (Option ℕ)) (s at : ℕ) (entry : Entry) (queue : ℕ) : Type 0 where
+pub record IsPassing (m : MemoryState) (pages : List (Option ℕ)) (s at : ℕ) (entry : PageUse) (queue : ℕ) : Type 0 where
   pub is : entry ≡ entry_of pages s (at / page_doublewords)
   pub page : IsOwn entry ⊎ (at % page_doublewords ≡ 0)
   pub cursor : IsOwn entry → IsCursor m (at / page_doublewords) at queue
@@ -50,7 +50,7 @@ abbrev pub looked_at : MemoryState → List (Option ℕ) → ℕ → ℕ → ℕ
 looked_at m pages s at = entries_to pages (at / page_doublewords) + count_below at (begins_run m.held pages s)
 
 -- The part is what comes next from an index on: first doublewords that s may not take, then some that s may take.
-pub record IsNextPart (m : MemoryState) (pages : List (Option ℕ)) (s from steps : ℕ) (part : Part) : Type 0 where
+pub record IsNextPart (m : MemoryState) (pages : List (Option ℕ)) (s from steps : ℕ) (part : ReadPart) : Type 0 where
   pub after : from ≤ part.start
   pub ordered : part.start ≤ part.end
   pub farther : from < part.end

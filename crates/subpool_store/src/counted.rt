@@ -18,7 +18,7 @@ use page_map::PageMap;
 
 /// What a page entry is for the subpool of a search.
 #[derive(Clone, Copy)]
-pub enum Entry {
+pub enum PageUse {
     /// Of a page that no subpool has.
     Free,
     /// Of a page of the subpool's own.
@@ -30,18 +30,18 @@ pub enum Entry {
 }
 
 // What the entry of a page of this owner is.
-fn entry_by(owner: Option<SubpoolId>, subpool: SubpoolId) -> Entry
+fn entry_by(owner: Option<SubpoolId>, subpool: SubpoolId) -> PageUse
     ensures { result ≡ entry_by subpool owner }
 {
     match owner {
-        None => Entry::Free,
-        Some(owner) if owner == subpool => Entry::Own,
-        Some(_) => Entry::Other,
+        None => PageUse::Free,
+        Some(owner) if owner == subpool => PageUse::Own,
+        Some(_) => PageUse::Other,
     }
 }
 
 // Whether the page of an entry is the subpool's own and nothing of it is free: its queue is empty.
-fn is_full(memory: &Memory, page: usize, entry: Entry) -> bool
+fn is_full(memory: &Memory, page: usize, entry: PageUse) -> bool
     requires { IsOwn entry → is_open memory.now.bytes page ≡ true }
     ensures full { result ≡ true
         → IsOwn entry
@@ -49,7 +49,7 @@ fn is_full(memory: &Memory, page: usize, entry: Entry) -> bool
         → slice_index_or memory.now.held i false ≡ true) }
 {
     match entry {
-        Entry::Own => memory.is_full(page),
+        PageUse::Own => memory.is_full(page),
         _ => false,
     }
 }
@@ -62,13 +62,13 @@ pub struct Counted {
 
 impl Counted {
     // Looks at the entry of a page, if there is such a page.
-    pub fn entry(&mut self, pages: &PageMap, subpool: SubpoolId, page: usize) -> Entry
+    pub fn entry(&mut self, pages: &PageMap, subpool: SubpoolId, page: usize) -> PageUse
         requires few { self.old.steps ≤ 8 * most_doublewords + most_pages_above }
         ensures entry { result ≡ entry_of pages.now subpool page }
         ensures counted { self.new.steps ≡ self.old.steps + digit (nat_lt page (length pages.now)) }
     {
         if pages.pages() <= page {
-            return Entry::End;
+            return PageUse::End;
         }
         self.steps += 1;
         entry_by(pages.owner(page), subpool)
@@ -81,21 +81,26 @@ impl Counted {
         subpool: SubpoolId,
         page: usize,
         owner: Option<SubpoolId>,
-    ) -> Entry
+    ) -> PageUse
         requires few { self.old.steps ≤ 8 * most_doublewords + most_pages_above }
         requires owner { owner ≡ owner_of pages.now page }
         ensures entry { result ≡ entry_of pages.now subpool page }
         ensures counted { self.new.steps ≡ self.old.steps + digit (nat_lt page (length pages.now)) }
     {
         if pages.pages() <= page {
-            return Entry::End;
+            return PageUse::End;
         }
         self.steps += 1;
         entry_by(owner, subpool)
     }
 
     // Looks at the entries from a page on, up to the first one that is not free.
-    pub fn pass_free(&mut self, pages: &PageMap, subpool: SubpoolId, from: usize) -> (usize, Entry)
+    pub fn pass_free(
+        &mut self,
+        pages: &PageMap,
+        subpool: SubpoolId,
+        from: usize,
+    ) -> (usize, PageUse)
         requires few { self.old.steps ≤ 8 * most_doublewords }
         requires most { length pages.now ≤ most_pages_above }
         requires from { from ≤ length pages.now }
@@ -116,7 +121,7 @@ impl Counted {
         pages: &PageMap,
         subpool: SubpoolId,
         from: usize,
-    ) -> (usize, Entry)
+    ) -> (usize, PageUse)
         requires few { self.old.steps ≤ 8 * most_doublewords }
         requires most { length pages.now ≤ most_pages_above }
         requires from { from ≤ length pages.now }
@@ -140,7 +145,7 @@ impl Counted {
         pages: &PageMap,
         subpool: SubpoolId,
         from: usize,
-    ) -> (usize, Entry)
+    ) -> (usize, PageUse)
         requires few { self.old.steps ≤ 8 * most_doublewords }
         requires opened { IsOpened pages.now memory.now.bytes }
         requires most { length pages.now ≤ most_pages_above }

@@ -4,13 +4,13 @@
 mod counted;
 mod dropping;
 mod free_runs;
+mod hinted;
 mod memory;
 mod region_store;
 mod run;
 mod search;
 mod store;
-mod told;
 mod walk;
 
-pub use search::Found;
+pub use search::SearchResult;
 pub use store::{NotHeld, Store};

@@ -30,10 +30,10 @@ ghost use Rattle.subpool_store.specs.Sizes.{most_doublewords};
 
 use crate::dropping::drop_pages;
 use crate::free_runs::{self, are_held, are_held_in};
+use crate::hinted::may_take_run;
 use crate::memory::Memory;
 use crate::run::Run;
-use crate::search::{Found, find};
-use crate::told::may_take_run;
+use crate::search::{SearchResult, find};
 use mvs_model::error::OutOfMemory;
 use mvs_model::numbers::{PAGE_BYTES, PAGE_DOUBLEWORDS};
 use mvs_model::place::{Addr, Place};
@@ -313,7 +313,7 @@ impl RegionStore {
     }
 
     // Returns a longest open place that meets the request, the one that the placement selects.
-    pub fn find(&self, placement: Placement, subpool: SubpoolId, want: &Want) -> Found
+    pub fn find(&self, placement: Placement, subpool: SubpoolId, want: &Want) -> SearchResult
         ensures best { BestIn self.now subpool want.now result.place }
         ensures counted { IsCounted (most_steps self.now subpool) result.place result.steps }
         ensures wanted { IsWant want.now }

@@ -29,17 +29,17 @@ use page_map::PageMap;
 
 /// What a search found, and how many page entries and free runs it looked at.
 #[derive(Clone, Copy)]
-pub struct Found {
+pub struct SearchResult {
     pub place: Option<Place>,
     pub steps: u32,
 }
 
-impl Found {
-    pub fn new(place: Option<Place>, steps: u32) -> Found
+impl SearchResult {
+    pub fn new(place: Option<Place>, steps: u32) -> SearchResult
         ensures place { result.place ≡ place }
         ensures steps { result.steps ≡ steps }
     {
-        Found { place, steps }
+        SearchResult { place, steps }
     }
 }
 
@@ -173,7 +173,7 @@ pub fn find(
     pages: &PageMap,
     subpool: SubpoolId,
     want: &Want,
-) -> Found
+) -> SearchResult
     requires exact { IsExact memory.now.held pages.now }
     requires opened { IsOpened pages.now memory.now.bytes }
     requires end { 8 * (first + length memory.now.held) ≤ 2 ^ 31 }
@@ -199,8 +199,8 @@ pub fn find(
             best_in(placement, run_place(first, run), want, only),
         );
         if is_final(placement, &best, want) {
-            return Found::new(best, walk.counted.steps);
+            return SearchResult::new(best, walk.counted.steps);
         }
     }
-    Found::new(best, walk.counted.steps)
+    SearchResult::new(best, walk.counted.steps)
 }

@@ -33,7 +33,7 @@ ghost use Rattle.subpool_store.specs.BorrowsBytes.{BorrowsBytes};
 ghost use Rattle.subpool_store.specs.Written.{Puts, written};
 
 use crate::region_store::RegionStore;
-use crate::search::{Found, is_longest, longer};
+use crate::search::{SearchResult, is_longest, longer};
 use boundary_loc::at_in;
 use mvs_model::error::OutOfMemory;
 use mvs_model::numbers::{ABOVE_BEGINS, FIRST_DOUBLEWORD_ABOVE, FIRST_DOUBLEWORD_BELOW};
@@ -108,13 +108,18 @@ fn whole_doublewords(place: Place) -> Place
 }
 
 // The best place in the region above, if a place may be there.
-fn find_above(placement: Placement, above: &RegionStore, subpool: SubpoolId, want: &Want) -> Found
+fn find_above(
+    placement: Placement,
+    above: &RegionStore,
+    subpool: SubpoolId,
+    want: &Want,
+) -> SearchResult
     ensures best { BestAbove above.now subpool want.now result.place }
     ensures counted { CountedAbove above.now subpool want.now result.place result.steps }
 {
     match want.side() {
         Side::Either => above.find(placement, subpool, want),
-        Side::Below => Found::new(None, 0),
+        Side::Below => SearchResult::new(None, 0),
     }
 }
 
@@ -151,7 +156,7 @@ impl Store {
     }
 
     // Returns the place to take for a request: the longest one, above if one of that length is above.
-    fn search(&self, subpool: SubpoolId, want: &Want) -> Found
+    fn search(&self, subpool: SubpoolId, want: &Want) -> SearchResult
         ensures chosen { MatchOption result.place
             (NoPlace self.now.storage.regions (holder self.now.storage) subpool want.now)
             (Chosen self.now.storage.regions (holder self.now.storage) subpool want.now) }
@@ -163,7 +168,7 @@ impl Store {
             return above;
         }
         let below = self.below.find(self.placement, subpool, want);
-        Found::new(longer(above.place, below.place), above.steps + below.steps)
+        SearchResult::new(longer(above.place, below.place), above.steps + below.steps)
     }
 
     /// The place that an `obtain` takes, which is not made.
@@ -232,18 +237,18 @@ impl Store {
     }
 
     // Returns the place at a hinted address if it is as good as the one that was found, which it then replaces.
-    fn at_hint(&self, subpool: SubpoolId, want: &Want, found: Place, told: Addr) -> Place
+    fn at_hint(&self, subpool: SubpoolId, want: &Want, found: Place, hint: Addr) -> Place
         requires { Chosen self.now.storage.regions (holder self.now.storage) subpool want.now found }
         ensures chosen { Chosen self.now.storage.regions (holder self.now.storage) subpool want.now
             result }
-        ensures told { (q : PlaceValue) → q.addr ≡ told
+        ensures hint { (q : PlaceValue) → q.addr ≡ hint
             → Chosen self.now.storage.regions (holder self.now.storage) subpool want.now q
             → result ≡ q }
         ensures wanted { IsWant want.now }
     {
         let _ = want.least();
-        let place = Place::new(told, found.len());
-        if ABOVE_BEGINS <= found.addr().get() && told.get() < ABOVE_BEGINS {
+        let place = Place::new(hint, found.len());
+        if ABOVE_BEGINS <= found.addr().get() && hint.get() < ABOVE_BEGINS {
             return found;
         }
         if self.serves(subpool, want, place) {
@@ -254,19 +259,19 @@ impl Store {
     }
 
     // Returns the place at the hinted address, if there is a hint.
-    fn told(&self, subpool: SubpoolId, want: &Want, found: Place, told: Option<Addr>) -> Place
+    fn hint(&self, subpool: SubpoolId, want: &Want, found: Place, hint: Option<Addr>) -> Place
         requires { Chosen self.now.storage.regions (holder self.now.storage) subpool want.now found }
         ensures chosen { Chosen self.now.storage.regions (holder self.now.storage) subpool want.now
             result }
-        ensures told { (q : PlaceValue) → told ≡ Some q.addr
+        ensures hint { (q : PlaceValue) → hint ≡ Some q.addr
             → Chosen self.now.storage.regions (holder self.now.storage) subpool want.now q
             → result ≡ q }
         ensures wanted { IsWant want.now }
     {
         let _ = want.least();
-        match told {
+        match hint {
             None => found,
-            Some(told) => self.at_hint(subpool, want, found, told),
+            Some(hint) => self.at_hint(subpool, want, found, hint),
         }
     }
 
@@ -291,12 +296,12 @@ impl Store {
     /// places it is the one at the hinted address, and without a hint, or if there is none at it, the lowest or the highest, by the
     /// placement. Returns None if it fits nowhere, and then the storage does not change (Assembler Services Reference, GETMAIN; the
     /// choice of the place is this project's).
-    pub fn obtain(&mut self, subpool: SubpoolId, want: &Want, told: Option<Addr>) -> Option<Place>
+    pub fn obtain(&mut self, subpool: SubpoolId, want: &Want, hint: Option<Addr>) -> Option<Place>
         ensures grant { MatchOption result
             (NoPlace self.old.storage.regions (holder self.old.storage) subpool want.now
             × (self.new.storage ≡ self.old.storage))
             (λ p. Grant self.old.storage subpool want.now p self.new.storage) }
-        ensures told { (q : PlaceValue) → told ≡ Some q.addr
+        ensures hint { (q : PlaceValue) → hint ≡ Some q.addr
             → Chosen self.old.storage.regions (holder self.old.storage) subpool want.now q
             → result ≡ Some q }
         ensures bound { IsBound self.old.storage subpool want.now.side result self.new.steps }
@@ -308,7 +313,7 @@ impl Store {
         match found.place {
             None => None,
             Some(found) => {
-                let taken = self.told(subpool, want, found, told);
+                let taken = self.hint(subpool, want, found, hint);
                 self.take(subpool, taken);
                 Some(taken)
             }

@@ -10,7 +10,7 @@ ghost use Rattle.subpool_store.specs.Search.{may_take, IsExact, IsNextRun, NoneF
 ghost use Rattle.subpool_store.specs.Sizes.{most_doublewords};
 ghost use Rattle.subpool_store.specs.Walk.{entry_of, IsInside, IsNextPart, IsWalk, IsPassing};
 
-use crate::counted::{Counted, Entry};
+use crate::counted::{Counted, PageUse};
 use crate::memory::Memory;
 use crate::run::Run;
 use free_queue::queue::Head;
@@ -21,10 +21,10 @@ use page_map::PageMap;
 /// The result of reading page entries or one free run: from the position of the pass to `start` the subpool may take no doubleword,
 /// and from there to `end` each of them. The pass is then at `end`.
 #[derive(Clone, Copy)]
-struct Part {
+struct ReadPart {
     start: usize,
     end: usize,
-    entry: Entry,
+    entry: PageUse,
     queue: Head,
     counted: Counted,
 }
@@ -35,13 +35,19 @@ struct Part {
 pub struct Walk {
     start: usize,
     end: usize,
-    entry: Entry,
+    entry: PageUse,
     queue: Head,
     pub counted: Counted,
 }
 
 // The queue of what is free in a page, where its entry is the subpool's own.
-fn queue_of(memory: &Memory, pages: &PageMap, subpool: SubpoolId, entry: Entry, page: usize) -> Head
+fn queue_of(
+    memory: &Memory,
+    pages: &PageMap,
+    subpool: SubpoolId,
+    entry: PageUse,
+    page: usize,
+) -> Head
     requires entry { entry ≡ entry_of pages.now subpool page }
     requires opened { IsOpened pages.now memory.now.bytes }
     ensures { IsPassing memory.now pages.now subpool (page_doublewords * page) entry result }
@@ -49,7 +55,7 @@ fn queue_of(memory: &Memory, pages: &PageMap, subpool: SubpoolId, entry: Entry, 
     let _ = pages;
     let _ = subpool;
     match entry {
-        Entry::Own => memory.first(page),
+        PageUse::Own => memory.first(page),
         _ => Head::none(),
     }
 }
@@ -61,7 +67,7 @@ fn join_pages(
     pages: &PageMap,
     subpool: SubpoolId,
     from: usize,
-) -> Part
+) -> ReadPart
     requires few { counted.steps ≤ 8 * most_doublewords }
     requires exact { IsExact memory.now.held pages.now }
     requires opened { IsOpened pages.now memory.now.bytes }
@@ -72,7 +78,7 @@ fn join_pages(
 {
     let mut counted = counted;
     let (page, entry) = counted.pass_free(pages, subpool, from / PAGE_DOUBLEWORDS + 1);
-    Part {
+    ReadPart {
         start: from,
         end: PAGE_DOUBLEWORDS * page,
         entry,
@@ -88,7 +94,7 @@ fn pass_pages(
     pages: &PageMap,
     subpool: SubpoolId,
     from: usize,
-) -> Part
+) -> ReadPart
     requires few { counted.steps ≤ 8 * most_doublewords }
     requires exact { IsExact memory.now.held pages.now }
     requires opened { IsOpened pages.now memory.now.bytes }
@@ -100,7 +106,7 @@ fn pass_pages(
     let mut counted = counted;
     let (page, entry) = counted.pass_others(pages, subpool, from / PAGE_DOUBLEWORDS + 1);
     let end = PAGE_DOUBLEWORDS * page;
-    Part {
+    ReadPart {
         start: end,
         end,
         entry,
@@ -116,7 +122,7 @@ fn leave_page(
     pages: &PageMap,
     subpool: SubpoolId,
     from: usize,
-) -> Part
+) -> ReadPart
     requires few { counted.steps ≤ 8 * most_doublewords }
     requires exact { IsExact memory.now.held pages.now }
     requires opened { IsOpened pages.now memory.now.bytes }
@@ -129,7 +135,7 @@ fn leave_page(
     let mut counted = counted;
     let (page, entry) = counted.pass_full(memory, pages, subpool, from / PAGE_DOUBLEWORDS + 1);
     let end = PAGE_DOUBLEWORDS * page;
-    Part {
+    ReadPart {
         start: end,
         end,
         entry,
@@ -146,7 +152,7 @@ fn take_run(
     subpool: SubpoolId,
     from: usize,
     found: (Run, Head),
-) -> Part
+) -> ReadPart
     requires some { 1 ≤ counted.steps }
     requires few { counted.steps ≤ 8 * most_doublewords }
     requires exact { IsExact memory.now.held pages.now }
@@ -165,16 +171,16 @@ fn take_run(
     let (run, behind) = found;
     let next = from / PAGE_DOUBLEWORDS + 1;
     if run.end < PAGE_DOUBLEWORDS * next {
-        return Part {
+        return ReadPart {
             start: run.start,
             end: run.end,
-            entry: Entry::Own,
+            entry: PageUse::Own,
             queue: behind,
             counted,
         };
     }
     let entry = counted.entry(pages, subpool, next);
-    Part {
+    ReadPart {
         start: run.start,
         end: run.end,
         entry,
@@ -204,7 +210,7 @@ fn examine_run(
     subpool: SubpoolId,
     from: usize,
     queue: Head,
-) -> Part
+) -> ReadPart
     requires few { counted.steps < 8 * most_doublewords }
     requires exact { IsExact memory.now.held pages.now }
     requires opened { IsOpened pages.now memory.now.bytes }
@@ -273,7 +279,7 @@ impl Walk {
         pages: &PageMap,
         subpool: SubpoolId,
         least: usize,
-    ) -> Part
+    ) -> ReadPart
         requires exact { IsExact memory.now.held pages.now }
         requires opened { IsOpened pages.now memory.now.bytes }
         requires walk { IsWalk memory.now pages.now subpool self.old }
@@ -330,7 +336,7 @@ impl Walk {
         pages: &PageMap,
         subpool: SubpoolId,
         least: usize,
-    ) -> Part
+    ) -> ReadPart
         requires exact { IsExact memory.now.held pages.now }
         requires opened { IsOpened pages.now memory.now.bytes }
         requires walk { IsWalk memory.now pages.now subpool self.old }
@@ -358,7 +364,7 @@ impl Walk {
         pages: &PageMap,
         subpool: SubpoolId,
         least: usize,
-    ) -> Part
+    ) -> ReadPart
         requires exact { IsExact memory.now.held pages.now }
         requires opened { IsOpened pages.now memory.now.bytes }
         requires walk { IsWalk memory.now pages.now subpool self.old }
@@ -373,8 +379,8 @@ impl Walk {
             result }
     {
         match self.entry {
-            Entry::Free => join_pages(self.counted, memory, pages, subpool, self.end),
-            Entry::Own => self.examine_own(memory, pages, subpool, least),
+            PageUse::Free => join_pages(self.counted, memory, pages, subpool, self.end),
+            PageUse::Own => self.examine_own(memory, pages, subpool, least),
             _ => pass_pages(self.counted, memory, pages, subpool, self.end),
         }
     }

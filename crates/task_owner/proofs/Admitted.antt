@@ -10,35 +10,35 @@ use Rattle.mvs_model.specs.Owners.{is_active, gives_shared}
 use Rattle.task_owner.specs.Tasks.{TasksValue, name_at, IsTask, name_of}
 use Rattle.task_owner.specs.Seats.{item_at, number_of, entry_of, owner_name, directory, IsSound}
 use Rattle.task_owner.specs.Handing.{Leaves, Admits, taken, passed_on}
-use Rattle.task_owner.specs.declared.seat.Seat.{Seat}
-use Rattle.task_owner.specs.declared.seat.Owned.{Owned}
+use Rattle.task_owner.specs.declared.task_slot.TaskSlot.{TaskSlot}
+use Rattle.task_owner.specs.declared.task_slot.Owned.{Owned}
 use Rattle.task_owner.proofs.Having.{gives_low}
 use Rattle.task_owner.proofs.Reading.{the_seat, name_is, a_task, found, view-entry, view-owner}
 use Rattle.task_owner.proofs.Entering.{owns_given}
 use Rattle.task_owner.proofs.Admitting.{admitted_sound, admits, named_here, nobody_before, others_named}
 
 -- what the callers are told, and that the fields are sound
-pub record AdmitsAt (d : TasksValue) (t name : Name) (gifts : GiftsValue) (residence : Residence) (key : ℕ) (next : List (Option Seat)) (left : List (Option Owned)) : Type 0 where
+pub record AdmitsAt (d : TasksValue) (t name : Name) (gifts : GiftsValue) (residence : Residence) (key : ℕ) (next : List (Option TaskSlot)) (left : List (Option Owned)) : Type 0 where
   pub sound : IsSound next left
   pub admits : Admits d.owners t name gifts residence (directory next left).owners
   pub named : name_at (directory next left) key ≡ Some name
   pub fresh : name_at d key ≡ None
   pub others : (k : ℕ) → k ≢ key → name_at (directory next left) k ≡ name_at d k
 
-module _ (old now next : Slab Seat) (owned left : List (Option Owned)) (d : TasksValue) (m id : ℕ) (e : directory old.slots owned ≡ d) (f : m ≡ id) (sound : IsSound old.slots owned) (active : IsTask d id)
+module _ (old now next : Slab TaskSlot) (owned left : List (Option Owned)) (d : TasksValue) (m id : ℕ) (e : directory old.slots owned ≡ d) (f : m ≡ id) (sound : IsSound old.slots owned) (active : IsTask d id)
     (name : Name) (gifts : GiftsValue) (residence : Residence) (numbers : List (Option ℕ)) (key : ℕ) (inactive : is_active d.owners name ≡ false) (owns : gives_shared d.owners (name_of d id) gifts ≡ false)
-    (takes : (x : Seat) → slot old m ≡ Some x → (n : ℕ) → n < 133 → item_at numbers n ≡ taken gifts x.numbers n)
-    (left_here : (x : Seat) → slot old m ≡ Some x → (y : Seat) × (slot now m ≡ Some y) × Leaves gifts x y)
+    (takes : (x : TaskSlot) → slot old m ≡ Some x → (n : ℕ) → n < 133 → item_at numbers n ≡ taken gifts x.numbers n)
+    (left_here : (x : TaskSlot) → slot old m ≡ Some x → (y : TaskSlot) × (slot now m ≡ Some y) × Leaves gifts x y)
     (others : (k : ℕ) → k ≢ m → slot now k ≡ slot old k) (vacant : slot now key ≡ None)
     (here : slot next key ≡ Some (record { name = name; mother = Some m; residence = residence; numbers = numbers })) (rest : (k : ℕ) → k ≢ key → slot next k ≡ slot now k)
     (passed : (s : ℕ) → item_at left s ≡ passed_on gifts m key (item_at owned s)) where
-  x : (x : Seat) × (item_at old.slots m ≡ Some x)
+  x : (x : TaskSlot) × (item_at old.slots m ≡ Some x)
   x = the_seat old.slots owned d m id e f active
 
   named : x.0.name ≡ name_of d id
   named = sym (name_is old.slots owned d m id e f sound x.0 x.1)
 
-  new : (k : ℕ) (y : Seat) → item_at old.slots k ≡ Some y → y.name ≢ name
+  new : (k : ℕ) (y : TaskSlot) → item_at old.slots k ≡ Some y → y.name ≢ name
   new k y h q = let g : true ≡ false = sym (ap is_some (a_task old.slots owned d k y e sound h)) ∙ ap (λ t. is_some (get d.owners.tasks t)) q ∙ inactive in cc
 
   given : gives_shared (directory old.slots owned).owners x.0.name gifts ≡ false
@@ -49,7 +49,7 @@ module _ (old now next : Slab Seat) (owned left : List (Option Owned)) (d : Task
       let z = sound.owners r o q in
       let there : get (directory old.slots owned).owners.owner r ≡ Some x.0.name =
       owns_given x.0.name gifts (directory old.slots owned).owners given n r (gives_low gifts n g) g (view-entry old.slots owned x.0.name n ∙ ap (λ v. entry_of v n) (found old.slots m x.0 sound.distinct x.1) ∙ h) in
-      let same : Some z.0.name ≡ Some x.0.name = sym (view-owner old.slots owned r ∙ ap (owner_name old.slots) q ∙ ap (option_map (λ (v : Seat). v.name)) z.1) ∙ there in
+      let same : Some z.0.name ≡ Some x.0.name = sym (view-owner old.slots owned r ∙ ap (owner_name old.slots) q ∙ ap (option_map (λ (v : TaskSlot). v.name)) z.1) ∙ there in
       let alike : z.0.name ≡ x.0.name = cc in
       sound.distinct o.owner m z.0 x.0 z.1 x.1 alike
 

@@ -8,29 +8,29 @@ use Rattle.mvs_model.specs.Owners.{Binds}
 use Rattle.mvs_model.proofs.Orders.{name_cmp_total, name_cmp-IsAntisymmetric}
 use Rattle.task_owner.specs.Tasks.{TasksValue, name_at, name_of}
 use Rattle.task_owner.specs.Seats.{item_at, name_of_seat, number_of, seat_named, mother_of, task_of, entry_of, owner_name, directory, MayHave, IsSound, Distinct}
-use Rattle.task_owner.specs.declared.seat.Seat.{Seat}
-use Rattle.task_owner.specs.declared.seat.Owned.{Owned}
+use Rattle.task_owner.specs.declared.task_slot.TaskSlot.{TaskSlot}
+use Rattle.task_owner.specs.declared.task_slot.Owned.{Owned}
 use Rattle.task_owner.proofs.Having.{same_place}
 use Rattle.task_owner.proofs.Places.{set_here, set_apart, same_or_not}
 use Rattle.task_owner.proofs.Reading.{found, found_at, not_found, name_cases, low_number, view-task, view-entry, view-owner, view-name, name_is, seat_there}
 use Rattle.std.proofs.lemmas.Bool.Decides.{eqb_tells}
 
 -- where the tasks of a name are the same, the same is found by it
-pub same_lookup : (seats next : List (Option Seat)) (t : Name) → Distinct seats → Distinct next
-    → ((k : ℕ) (x : Seat) → item_at seats k ≡ Some x → x.name ≡ t → item_at next k ≡ Some x)
-    → ((k : ℕ) (x : Seat) → item_at next k ≡ Some x → x.name ≡ t → item_at seats k ≡ Some x)
+pub same_lookup : (seats next : List (Option TaskSlot)) (t : Name) → Distinct seats → Distinct next
+    → ((k : ℕ) (x : TaskSlot) → item_at seats k ≡ Some x → x.name ≡ t → item_at next k ≡ Some x)
+    → ((k : ℕ) (x : TaskSlot) → item_at next k ≡ Some x → x.name ≡ t → item_at seats k ≡ Some x)
     → seat_named next t ≡ seat_named seats t
 same_lookup seats next t d e there back = by (seat_named seats t) refl where
-  by : (o : Option Seat) → seat_named seats t ≡ o → seat_named next t ≡ o
+  by : (o : Option TaskSlot) → seat_named seats t ≡ o → seat_named next t ≡ o
   by (Some x) h =
       let r = found_at seats t x h in
       ap (seat_named next) (sym r.2) ∙ found next r.0 x e (there r.0 x r.1 r.2)
   by None h = not_found next t (λ k x g n. let f : None ≡ Some x = sym h ∙ ap (seat_named seats) (sym n) ∙ found seats k x d (back k x g n) in absurd (cc))
 
-module _ (seats next : List (Option Seat)) (owned : List (Option Owned)) (key n s : ℕ) (x : Seat)
+module _ (seats next : List (Option TaskSlot)) (owned : List (Option Owned)) (key n s : ℕ) (x : TaskSlot)
     (sound : IsSound seats owned) (at : item_at seats key ≡ Some x) (low : n < 133) (place : MayHave x n) (fits : n < length x.numbers) (free : number_of x n ≡ None)
     (in_range : s < length owned) (spare : item_at owned s ≡ None) where
-  abbrev now : Seat
+  abbrev now : TaskSlot
   now = record x { numbers = slice_set x.numbers n (Some s) }
 
   abbrev by_key : Owned
@@ -47,16 +47,16 @@ module _ (seats next : List (Option Seat)) (owned : List (Option Owned)) (key n 
 
   module _ (entered : item_at next key ≡ Some now) (others : (k : ℕ) → k ≢ key → item_at next k ≡ item_at seats k) where
     -- a task after it is the task that got the subpool, or one as before
-    split : (k : ℕ) (y : Seat) → item_at next k ≡ Some y → ((k ≡ key) × (y ≡ now)) ⊎ ((k ≢ key) × (item_at seats k ≡ Some y))
+    split : (k : ℕ) (y : TaskSlot) → item_at next k ≡ Some y → ((k ≡ key) × (y ≡ now)) ⊎ ((k ≢ key) × (item_at seats k ≡ Some y))
     split k y h = by (same_or_not k key) where
       by : (k ≡ key) ⊎ (k ≢ key) → ((k ≡ key) × (y ≡ now)) ⊎ ((k ≢ key) × (item_at seats k ≡ Some y))
       by (inl e) = inl (e, (let f : Some y ≡ Some now = sym h ∙ ap (item_at next) e ∙ entered in cc))
       by (inr d) = inr (d, sym (others k d) ∙ h)
 
-    before : (k : ℕ) (y : Seat) → item_at next k ≡ Some y → (z : Seat) × (item_at seats k ≡ Some z) × (z.name ≡ y.name) × (z.mother ≡ y.mother)
+    before : (k : ℕ) (y : TaskSlot) → item_at next k ≡ Some y → (z : TaskSlot) × (item_at seats k ≡ Some z) × (z.name ≡ y.name) × (z.mother ≡ y.mother)
     before k y h = by (split k y h) where
-      by : ((k ≡ key) × (y ≡ now)) ⊎ ((k ≢ key) × (item_at seats k ≡ Some y)) → (z : Seat) × (item_at seats k ≡ Some z) × (z.name ≡ y.name) × (z.mother ≡ y.mother)
-      by (inl r) = (x, ap (item_at seats) r.0 ∙ at, ap (λ (z : Seat). z.name) (sym r.1), ap (λ (z : Seat). z.mother) (sym r.1))
+      by : ((k ≡ key) × (y ≡ now)) ⊎ ((k ≢ key) × (item_at seats k ≡ Some y)) → (z : TaskSlot) × (item_at seats k ≡ Some z) × (z.name ≡ y.name) × (z.mother ≡ y.mother)
+      by (inl r) = (x, ap (item_at seats) r.0 ∙ at, ap (λ (z : TaskSlot). z.name) (sym r.1), ap (λ (z : TaskSlot). z.mother) (sym r.1))
       by (inr r) = (y, r.1, refl, refl)
 
     names_kept : (m : ℕ) → name_of_seat next m ≡ name_of_seat seats m
@@ -65,7 +65,7 @@ module _ (seats next : List (Option Seat)) (owned : List (Option Owned)) (key n 
       by (inl e) = ap (name_of_seat next) e ∙ ap (option_map (λ z. z.name)) entered ∙ sym (ap (option_map (λ z. z.name)) at) ∙ ap (name_of_seat seats) (sym e)
       by (inr d) = ap (option_map (λ z. z.name)) (others m d)
 
-    is_some_name : (o : Option Seat) → IsSome o → IsSome (option_map (λ z. z.name) o)
+    is_some_name : (o : Option TaskSlot) → IsSome o → IsSome (option_map (λ z. z.name) o)
     is_some_name None h = h
     is_some_name (Some y) h = refl
 
@@ -88,16 +88,16 @@ module _ (seats next : List (Option Seat)) (owned : List (Option Owned)) (key n 
       places = λ k m r y h e. places k m r y e (split k y h) (same_or_not m n);
       owners = λ r o h. owners r o h (same_or_not r s);
     } where
-      places : (k m r : ℕ) (y : Seat) → number_of y m ≡ Some r → ((k ≡ key) × (y ≡ now)) ⊎ ((k ≢ key) × (item_at seats k ≡ Some y)) → (m ≡ n) ⊎ (m ≢ n) → MayHave y m
-      places k m r y e (inl q) (inl p) = subst (λ v. MayHave y v) (sym p) (same_place x y n (ap (λ (z : Seat). z.mother) (sym q.1)) place)
+      places : (k m r : ℕ) (y : TaskSlot) → number_of y m ≡ Some r → ((k ≡ key) × (y ≡ now)) ⊎ ((k ≢ key) × (item_at seats k ≡ Some y)) → (m ≡ n) ⊎ (m ≢ n) → MayHave y m
+      places k m r y e (inl q) (inl p) = subst (λ v. MayHave y v) (sym p) (same_place x y n (ap (λ (z : TaskSlot). z.mother) (sym q.1)) place)
       places k m r y e (inl q) (inr d) =
-          same_place x y m (ap (λ (z : Seat). z.mother) (sym q.1)) (sound.places key m r x at (sym (number_apart m d) ∙ ap (λ z. number_of z m) (sym q.1) ∙ e))
+          same_place x y m (ap (λ (z : TaskSlot). z.mother) (sym q.1)) (sound.places key m r x at (sym (number_apart m d) ∙ ap (λ z. number_of z m) (sym q.1) ∙ e))
       places k m r y e (inr q) p = sound.places k m r y q.1 e
 
-      old_entry : (k m r : ℕ) (y : Seat) → item_at seats k ≡ Some y → number_of y m ≡ Some r → (o : Owned) × (item_at owners_next r ≡ Some o) × (o.number ≡ m)
+      old_entry : (k m r : ℕ) (y : TaskSlot) → item_at seats k ≡ Some y → number_of y m ≡ Some r → (o : Owned) × (item_at owners_next r ≡ Some o) × (o.number ≡ m)
       old_entry k m r y h e = let o = sound.entries k m r y h e in (o.0, owned_kept r o.0 o.1, o.2)
 
-      entries : (k m r : ℕ) (y : Seat) → number_of y m ≡ Some r → ((k ≡ key) × (y ≡ now)) ⊎ ((k ≢ key) × (item_at seats k ≡ Some y)) → (m ≡ n) ⊎ (m ≢ n) → (o : Owned) × (item_at owners_next r ≡ Some o) × (o.number ≡ m)
+      entries : (k m r : ℕ) (y : TaskSlot) → number_of y m ≡ Some r → ((k ≡ key) × (y ≡ now)) ⊎ ((k ≢ key) × (item_at seats k ≡ Some y)) → (m ≡ n) ⊎ (m ≢ n) → (o : Owned) × (item_at owners_next r ≡ Some o) × (o.number ≡ m)
       entries k m r y e (inl q) (inl p) =
           let f : Some r ≡ Some s = sym e ∙ ap (λ z. number_of z m) q.1 ∙ ap (number_of now) p ∙ number_here in
           let g : r ≡ s = cc in
@@ -105,7 +105,7 @@ module _ (seats next : List (Option Seat)) (owned : List (Option Owned)) (key n 
       entries k m r y e (inl q) (inr d) = old_entry key m r x at (sym (number_apart m d) ∙ ap (λ z. number_of z m) (sym q.1) ∙ e)
       entries k m r y e (inr q) p = old_entry k m r y q.1 e
 
-      old_owner : (r : ℕ) (o : Owned) (z : Seat) → item_at seats o.owner ≡ Some z → number_of z o.number ≡ Some r → (o.owner ≡ key) ⊎ (o.owner ≢ key) → (y : Seat) × (item_at next o.owner ≡ Some y) × (number_of y o.number ≡ Some r)
+      old_owner : (r : ℕ) (o : Owned) (z : TaskSlot) → item_at seats o.owner ≡ Some z → number_of z o.number ≡ Some r → (o.owner ≡ key) ⊎ (o.owner ≢ key) → (y : TaskSlot) × (item_at next o.owner ≡ Some y) × (number_of y o.number ≡ Some r)
       old_owner r o z h e (inr d) = (z, others o.owner d ∙ h, e)
       old_owner r o z h e (inl p) =
           let f : Some z ≡ Some x = sym h ∙ ap (item_at seats) p ∙ at in
@@ -114,7 +114,7 @@ module _ (seats next : List (Option Seat)) (owned : List (Option Owned)) (key n 
           let apart : o.number ≢ n = λ q. (let g : None ≡ Some r = sym free ∙ ap (number_of x) (sym q) ∙ has in absurd (cc)) in
           (now, ap (item_at next) p ∙ entered, number_apart o.number apart ∙ has)
 
-      owners : (r : ℕ) (o : Owned) → item_at owners_next r ≡ Some o → (r ≡ s) ⊎ (r ≢ s) → (y : Seat) × (item_at next o.owner ≡ Some y) × (number_of y o.number ≡ Some r)
+      owners : (r : ℕ) (o : Owned) → item_at owners_next r ≡ Some o → (r ≡ s) ⊎ (r ≢ s) → (y : TaskSlot) × (item_at next o.owner ≡ Some y) × (number_of y o.number ≡ Some r)
       owners r o h (inl p) =
           let f : Some by_key ≡ Some o = sym owned_here ∙ ap (item_at owners_next) (sym p) ∙ h in
           let same : by_key ≡ o = cc in
@@ -126,10 +126,10 @@ module _ (seats next : List (Option Seat)) (owned : List (Option Owned)) (key n 
 
     same_named : (q : Name) → q ≢ x.name → seat_named next q ≡ seat_named seats q
     same_named q d = same_lookup seats next q sound.distinct bound_sound.distinct
-        (λ k y h e. others k (λ p. (let f : Some y ≡ Some x = sym h ∙ ap (item_at seats) p ∙ at in let same : y ≡ x = cc in d (sym e ∙ ap (λ (z : Seat). z.name) same))) ∙ h)
+        (λ k y h e. others k (λ p. (let f : Some y ≡ Some x = sym h ∙ ap (item_at seats) p ∙ at in let same : y ≡ x = cc in d (sym e ∙ ap (λ (z : TaskSlot). z.name) same))) ∙ h)
         (λ k y h e. by k y e (split k y h)) where
-          by : (k : ℕ) (y : Seat) → y.name ≡ q → ((k ≡ key) × (y ≡ now)) ⊎ ((k ≢ key) × (item_at seats k ≡ Some y)) → item_at seats k ≡ Some y
-          by k y e (inl r) = absurd (d (sym e ∙ ap (λ (z : Seat). z.name) r.1))
+          by : (k : ℕ) (y : TaskSlot) → y.name ≡ q → ((k ≡ key) × (y ≡ now)) ⊎ ((k ≢ key) × (item_at seats k ≡ Some y)) → item_at seats k ≡ Some y
+          by k y e (inl r) = absurd (d (sym e ∙ ap (λ (z : TaskSlot). z.name) r.1))
           by k y e (inr r) = r.1
 
     named_now : seat_named next x.name ≡ Some now
@@ -142,12 +142,12 @@ module _ (seats next : List (Option Seat)) (owned : List (Option Owned)) (key n 
     same_mother None = refl
     same_mother (Some m) = names_kept m
 
-    same_task : (y : Seat) → task_of next y ≡ task_of seats y
+    same_task : (y : TaskSlot) → task_of next y ≡ task_of seats y
     same_task y = ap (λ m. record { mother = m; residence = y.residence }) (same_mother y.mother)
 
     tasks_at : (q : Name) → get (directory next owners_next).owners.tasks q ≡ get (directory seats owned).owners.tasks q
     tasks_at q = view-task next owners_next q ∙ by (name_cases q x.name) ∙ sym (view-task seats owned q) where
-      mapped : (o : Option Seat) → option_map (task_of next) o ≡ option_map (task_of seats) o
+      mapped : (o : Option TaskSlot) → option_map (task_of next) o ≡ option_map (task_of seats) o
       mapped None = refl
       mapped (Some y) = ap Some (same_task y)
 

@@ -6,24 +6,24 @@ use Rattle.mvs_model.specs.declared.name.Name.{Name}
 use Rattle.mvs_model.specs.Owners.{entry, Binds}
 use Rattle.task_owner.specs.Tasks.{TasksValue, name_at, IsTask, name_of}
 use Rattle.task_owner.specs.Seats.{item_at, number_of, directory, MayHave, IsSound}
-use Rattle.task_owner.specs.declared.seat.Seat.{Seat}
-use Rattle.task_owner.specs.declared.seat.Owned.{Owned}
+use Rattle.task_owner.specs.declared.task_slot.TaskSlot.{TaskSlot}
+use Rattle.task_owner.specs.declared.task_slot.Owned.{Owned}
 use Rattle.task_owner.proofs.Reading.{the_seat, entry_is}
 use Rattle.task_owner.proofs.Labels.{unowned}
 use Rattle.task_owner.proofs.Binding.{bound_sound, binds_at, names_at}
 
 -- what the callers are told, and that the fields are sound
-pub record BindsAt (d : TasksValue) (t : Name) (number s : ℕ) (next : List (Option Seat)) (left : List (Option Owned)) : Type 0 where
+pub record BindsAt (d : TasksValue) (t : Name) (number s : ℕ) (next : List (Option TaskSlot)) (left : List (Option Owned)) : Type 0 where
   pub sound : IsSound next left
   pub binds : Binds d.owners t number s (directory next left).owners
   pub names : (k : ℕ) → name_at (directory next left) k ≡ name_at d k
 
-module _ (old now : Slab Seat) (owned : List (Option Owned)) (d : TasksValue) (key id : ℕ) (e : directory old.slots owned ≡ d) (f : key ≡ id) (sound : IsSound old.slots owned) (active : IsTask d id)
-    (n number i s : ℕ) (same : n ≡ number) (low : n < 133) (place : (x : Seat) → item_at old.slots key ≡ Some x → MayHave x n) (here : i ≡ s) (in_range : i < length owned)
+module _ (old now : Slab TaskSlot) (owned : List (Option Owned)) (d : TasksValue) (key id : ℕ) (e : directory old.slots owned ≡ d) (f : key ≡ id) (sound : IsSound old.slots owned) (active : IsTask d id)
+    (n number i s : ℕ) (same : n ≡ number) (low : n < 133) (place : (x : TaskSlot) → item_at old.slots key ≡ Some x → MayHave x n) (here : i ≡ s) (in_range : i < length owned)
     (none : entry d.owners (name_of d id) number ≡ None) (spare : get d.owners.owner s ≡ None)
-    (entered : (x : Seat) → slot old key ≡ Some x → slot now key ≡ Some (record x { numbers = slice_set x.numbers n (Some s) }))
-    (fits : (x : Seat) → slot old key ≡ Some x → n < length x.numbers) (others : (k : ℕ) → k ≢ key → slot now k ≡ slot old k) where
-  x : (x : Seat) × (item_at old.slots key ≡ Some x)
+    (entered : (x : TaskSlot) → slot old key ≡ Some x → slot now key ≡ Some (record x { numbers = slice_set x.numbers n (Some s) }))
+    (fits : (x : TaskSlot) → slot old key ≡ Some x → n < length x.numbers) (others : (k : ℕ) → k ≢ key → slot now k ≡ slot old k) where
+  x : (x : TaskSlot) × (item_at old.slots key ≡ Some x)
   x = the_seat old.slots owned d key id e f active
 
   free : number_of x.0 n ≡ None

@@ -8,12 +8,12 @@ use Rattle.std.proofs.lemmas.Bool.{not-true, or_cases, not-false, or_parts, or_r
 use Rattle.slab.specs.Slab.{Slab, get, slab_len, Updates}
 use Rattle.mvs_model.specs.declared.name.Name.{Name}
 use Rattle.mvs_model.specs.Name.{same_name}
-use Rattle.mvs_model.specs.Finite.{kept}
+use Rattle.mvs_model.specs.Finite.{filtered}
 use Rattle.mvs_model.specs.Owners.{is_among_ended}
 use Rattle.mvs_model.proofs.Orders.{same_name_is, same_name_self}
 use Rattle.task_owner.specs.Seats.{Distinct, MothersActive}
 use Rattle.task_owner.specs.Family.{Falls, Below, child, lower}
-use Rattle.task_owner.specs.declared.seat.Seat.{Seat}
+use Rattle.task_owner.specs.declared.task_slot.TaskSlot.{TaskSlot}
 use Rattle.task_owner.proofs.Places.{same_or_not, of_some}
 use Rattle.task_owner.proofs.Reading.{name_cases}
 use Rattle.task_owner.proofs.Bools.{or_false, dropped_fails, same_kept}
@@ -52,44 +52,44 @@ once_more q x names once absent = by (name_cases q x) where
       let sum : count_by (same_name q) (names ++ x ∷ []) ≡ count_by (same_name q) names + (0 + 0) = all ∙ (λ i. count_by (same_name q) names + (cond (r.0 i) 1 0 + 0)) in
       omega arith
 
-module _ (old : Slab Seat) (t : ℕ) (first : Seat) (distinct : Distinct old.slots) (at : get old t ≡ Some first) where
+module _ (old : Slab TaskSlot) (t : ℕ) (first : TaskSlot) (distinct : Distinct old.slots) (at : get old t ≡ Some first) where
   -- the first
-  pub falls_first : (now : Slab Seat) (names : List Name) → names ≡ [] → Updates old now t None → slab_len now + 1 ≡ slab_len old → now.capacity ≡ old.capacity → Falls old t first.name names now
+  pub falls_first : (now : Slab TaskSlot) (names : List Name) → names ≡ [] → Updates old now t None → slab_len now + 1 ≡ slab_len old → now.capacity ≡ old.capacity → Falls old t first.name names now
   falls_first now names empty u len capacity = subst (λ ns. Falls old t first.name ns now) (sym empty) (record {
-    kept = λ k. kept_at k (same_or_not k t);
+    filtered = λ k. kept_at k (same_or_not k t);
     below = λ q h. absurd (let e : false ≡ true = h in cc);
     once = λ q. omega arith;
     len = omega arith;
     capacity = capacity;
   }) where
-    kept_at : (k : ℕ) → (k ≡ t) ⊎ (k ≢ t) → get now k ≡ kept (λ y. not (is_among_ended first.name [] y.name)) (get old k)
+    kept_at : (k : ℕ) → (k ≡ t) ⊎ (k ≢ t) → get now k ≡ filtered (λ y. not (is_among_ended first.name [] y.name)) (get old k)
     kept_at k (inl e) =
         ap (get now) e ∙ u.changed ∙ ap (λ b. cond (not (b || false)) (Some first) None) (sym (same_name_self first.name))
-        ∙ ap (kept (λ (y : Seat). not (is_among_ended first.name [] y.name))) (sym (ap (get old) e ∙ at))
+        ∙ ap (filtered (λ (y : TaskSlot). not (is_among_ended first.name [] y.name))) (sym (ap (get old) e ∙ at))
     kept_at k (inr d) = u.others k d ∙ by (get old k) refl where
-      by : (o : Option Seat) → get old k ≡ o → o ≡ kept (λ y. not (is_among_ended first.name [] y.name)) o
+      by : (o : Option TaskSlot) → get old k ≡ o → o ≡ filtered (λ y. not (is_among_ended first.name [] y.name)) o
       by None h = refl
       by (Some y) h = two (name_cases y.name first.name) where
-        two : ((same_name y.name first.name ≡ true) × (y.name ≡ first.name)) ⊎ ((same_name y.name first.name ≡ false) × (y.name ≢ first.name)) → Some y ≡ kept (λ z. not (is_among_ended first.name [] z.name)) (Some y)
+        two : ((same_name y.name first.name ≡ true) × (y.name ≡ first.name)) ⊎ ((same_name y.name first.name ≡ false) × (y.name ≢ first.name)) → Some y ≡ filtered (λ z. not (is_among_ended first.name [] z.name)) (Some y)
         two (inl r) = absurd (d (distinct k t y first h at r.1))
         two (inr r) = ap (λ b. cond (not (b || false)) (Some y) None) (sym r.0)
 
   -- and then one whose mother has gone
-  module _ (mothers : MothersActive old.slots) (now next : Slab Seat) (names : List Name) (key m : ℕ) (x : Seat) (r : Falls old t first.name names now) (here : get now key ≡ Some x) (mother : x.mother ≡ Some m)
+  module _ (mothers : MothersActive old.slots) (now next : Slab TaskSlot) (names : List Name) (key m : ℕ) (x : TaskSlot) (r : Falls old t first.name names now) (here : get now key ≡ Some x) (mother : x.mother ≡ Some m)
       (gone : get now m ≡ None) (u : Updates now next key None) where
     was : (get old key ≡ Some x) × (not (is_among_ended first.name names x.name) ≡ true)
-    was = kept_is (λ (y : Seat). not (is_among_ended first.name names y.name)) (get old key) x (sym (r.kept key) ∙ here)
+    was = kept_is (λ (y : TaskSlot). not (is_among_ended first.name names y.name)) (get old key) x (sym (r.kept key) ∙ here)
 
     absent : list_any (same_name x.name) names ≡ false
     absent = (or_parts (same_name x.name first.name) (list_any (same_name x.name) names) (not-true (is_among_ended first.name names x.name) was.1)).1
 
-    kept_more : (k : ℕ) → (k ≡ key) ⊎ (k ≢ key) → get next k ≡ kept (λ y. not (is_among_ended first.name (names ++ x.name ∷ []) y.name)) (get old k)
+    kept_more : (k : ℕ) → (k ≡ key) ⊎ (k ≢ key) → get next k ≡ filtered (λ y. not (is_among_ended first.name (names ++ x.name ∷ []) y.name)) (get old k)
     kept_more k (inl e) =
         ap (get next) e ∙ u.changed
         ∙ ap (λ b. cond (not b) (Some x) None) (sym (goes_more first.name names x.name x.name ∙ ap (λ b. is_among_ended first.name names x.name || b) (same_name_self x.name) ∙ or_right (is_among_ended first.name names x.name) true refl))
-        ∙ ap (kept (λ (y : Seat). not (is_among_ended first.name (names ++ x.name ∷ []) y.name))) (sym (ap (get old) e ∙ was.0))
-    kept_more k (inr d) = u.others k d ∙ r.kept k ∙ same_kept (λ (y : Seat). not (is_among_ended first.name names y.name)) (λ (y : Seat). not (is_among_ended first.name (names ++ x.name ∷ []) y.name)) (get old k) agree where
-      agree : (y : Seat) → get old k ≡ Some y → not (is_among_ended first.name names y.name) ≡ not (is_among_ended first.name (names ++ x.name ∷ []) y.name)
+        ∙ ap (filtered (λ (y : TaskSlot). not (is_among_ended first.name (names ++ x.name ∷ []) y.name))) (sym (ap (get old) e ∙ was.0))
+    kept_more k (inr d) = u.others k d ∙ r.kept k ∙ same_kept (λ (y : TaskSlot). not (is_among_ended first.name names y.name)) (λ (y : TaskSlot). not (is_among_ended first.name (names ++ x.name ∷ []) y.name)) (get old k) agree where
+      agree : (y : TaskSlot) → get old k ≡ Some y → not (is_among_ended first.name names y.name) ≡ not (is_among_ended first.name (names ++ x.name ∷ []) y.name)
       agree y h = by (name_cases y.name x.name) where
         by : ((same_name y.name x.name ≡ true) × (y.name ≡ x.name)) ⊎ ((same_name y.name x.name ≡ false) × (y.name ≢ x.name)) → not (is_among_ended first.name names y.name) ≡ not (is_among_ended first.name (names ++ x.name ∷ []) y.name)
         by (inl p) = absurd (d (distinct k key y x h was.0 p.1))
@@ -97,11 +97,11 @@ module _ (old : Slab Seat) (t : ℕ) (first : Seat) (distinct : Distinct old.slo
 
     below_here : Below old.slots t key
     below_here = by (or_cases (same_name z.0.name first.name) (list_any (same_name z.0.name) names) fell) where
-      z : (z : Seat) × (get old m ≡ Some z)
+      z : (z : TaskSlot) × (get old m ≡ Some z)
       z = of_some (get old m) (mothers key m x was.0 mother)
 
       fell : is_among_ended first.name names z.0.name ≡ true
-      fell = not-false (is_among_ended first.name names z.0.name) (dropped_fails (λ (y : Seat). not (is_among_ended first.name names y.name)) z.0 (ap (kept (λ (y : Seat). not (is_among_ended first.name names y.name))) (sym z.1) ∙ sym (r.kept m) ∙ gone))
+      fell = not-false (is_among_ended first.name names z.0.name) (dropped_fails (λ (y : TaskSlot). not (is_among_ended first.name names y.name)) z.0 (ap (filtered (λ (y : TaskSlot). not (is_among_ended first.name names y.name))) (sym z.1) ∙ sym (r.kept m) ∙ gone))
 
       by : (same_name z.0.name first.name ≡ true) ⊎ (list_any (same_name z.0.name) names ≡ true) → Below old.slots t key
       by (inl p) =
@@ -114,18 +114,18 @@ module _ (old : Slab Seat) (t : ℕ) (first : Seat) (distinct : Distinct old.slo
 
     pub falls_more : (next_names : List Name) → next_names ≡ names ++ x.name ∷ [] → slab_len next + 1 ≡ slab_len now → next.capacity ≡ now.capacity → Falls old t first.name next_names next
     falls_more next_names e len capacity = subst (λ ns. Falls old t first.name ns next) (sym e) (record {
-      kept = λ k. kept_more k (same_or_not k key);
+      filtered = λ k. kept_more k (same_or_not k key);
       below = λ q h. below q (or_cases (list_any (same_name q) names) (same_name q x.name || false) (sym (list_any-append (same_name q) names (x.name ∷ [])) ∙ h));
       once = λ q. once_more q x.name names (r.once q) absent;
       len = (let long : length (names ++ x.name ∷ []) ≡ length names + 1 = length-append names (x.name ∷ []) in let before = r.len in omega arith);
       capacity = capacity ∙ r.capacity;
     }) where
-      below : (q : Name) → (list_any (same_name q) names ≡ true) ⊎ ((same_name q x.name || false) ≡ true) → (k : ℕ) × (y : Seat) × (get old k ≡ Some y) × (y.name ≡ q) × Below old.slots t k
+      below : (q : Name) → (list_any (same_name q) names ≡ true) ⊎ ((same_name q x.name || false) ≡ true) → (k : ℕ) × (y : TaskSlot) × (get old k ≡ Some y) × (y.name ≡ q) × Below old.slots t k
       below q (inl h) = r.below q h
       below q (inr h) = (key, x, was.0, sym (same_name_is q x.name (sym (or_false (same_name q x.name)) ∙ h)), below_here)
 
 -- a task that is not a mother goes alone
-pub closed_alone : (old now : Slab Seat) (t : ℕ) → MothersActive old.slots → ((k : ℕ) (x : Seat) → get old k ≡ Some x → x.mother ≢ Some t) → Updates old now t None → MothersActive now.slots
+pub closed_alone : (old now : Slab TaskSlot) (t : ℕ) → MothersActive old.slots → ((k : ℕ) (x : TaskSlot) → get old k ≡ Some x → x.mother ≢ Some t) → Updates old now t None → MothersActive now.slots
 closed_alone old now t mothers alone u k m x here mother = at (same_or_not k t) where
   at : (k ≡ t) ⊎ (k ≢ t) → IsSome (get now m)
   at (inl e) = absurd (let n : get now t ≡ None = u.changed in let f : None ≡ Some x = sym n ∙ ap (get now) (sym e) ∙ here in cc)

@@ -6,7 +6,7 @@ use Rattle.std.proofs.lemmas.Bool.Decides.{Decides-eqb}
 use Rattle.std.proofs.lemmas.Slice.Eq.{slice_eq-Decides}
 use Rattle.slab.specs.Slab.{Slab, get, entries}
 use Rattle.slab.proofs.SlabLemmas.{Contains-cons, Contains-cons_cases, Contains-entries}
-use Rattle.task_owner.specs.declared.seat.Seat.{Seat}
+use Rattle.task_owner.specs.declared.task_slot.TaskSlot.{TaskSlot}
 
 -- two names that are told to be one, and two that are not
 pub one_name : (a b : List ℕ) → pointwise nat_eq a b ≡ true → a ≡ b
@@ -16,11 +16,11 @@ pub two_names : (a b : List ℕ) → pointwise nat_eq a b ≡ false → a ≡ b 
 two_names a b e same = let f : false ≡ true = sym e ∙ (slice_eq-Decides Decides-eqb a b _ refl).1 same in cc
 
 -- The tasks that are left are tasks of the slab, and each one that is looked for is among them.
-pub record Unseen (active : Slab Seat) (Sought : Seat → Type 0) (left : List (ℕ × Seat)) : Type 0 where
-  pub there : (k : ℕ) (x : Seat) → Contains left (k, x) → get active k ≡ Some x
-  pub sought : (k : ℕ) (x : Seat) → get active k ≡ Some x → Sought x → Contains left (k, x)
+pub record Unseen (active : Slab TaskSlot) (Sought : TaskSlot → Type 0) (left : List (ℕ × TaskSlot)) : Type 0 where
+  pub there : (k : ℕ) (x : TaskSlot) → Contains left (k, x) → get active k ≡ Some x
+  pub sought : (k : ℕ) (x : TaskSlot) → get active k ≡ Some x → Sought x → Contains left (k, x)
 
-module _ (active : Slab Seat) (Sought : Seat → Type 0) (left : List (ℕ × Seat)) where
+module _ (active : Slab TaskSlot) (Sought : TaskSlot → Type 0) (left : List (ℕ × TaskSlot)) where
   -- at first all are left
   pub unseen_all : left ≡ entries active → Unseen active Sought left
   unseen_all all = record {
@@ -29,12 +29,12 @@ module _ (active : Slab Seat) (Sought : Seat → Type 0) (left : List (ℕ × Se
   }
 
   -- where none is left none is looked for
-  pub unseen_none : left ≡ [] → Unseen active Sought left → (k : ℕ) (x : Seat) → get active k ≡ Some x → Sought x → ⊥
+  pub unseen_none : left ≡ [] → Unseen active Sought left → (k : ℕ) (x : TaskSlot) → get active k ≡ Some x → Sought x → ⊥
   unseen_none empty u k x found passes =
       let listed = subst (λ l. Contains l (k, x)) empty (u.sought k x found passes) in
       let within : listed.0 < 0 = listed.1 in omega arith
 
-  module _ (key : ℕ) (seat : Seat) (rest : List (ℕ × Seat)) (step : left ≡ (key, seat) ∷ rest) (u : Unseen active Sought left) where
+  module _ (key : ℕ) (seat : TaskSlot) (rest : List (ℕ × TaskSlot)) (step : left ≡ (key, seat) ∷ rest) (u : Unseen active Sought left) where
     -- the first that is left is a task of the slab
     pub unseen_first : get active key ≡ Some seat
     unseen_first = u.there key seat (subst (λ l. Contains l (key, seat)) (sym step) (0, omega arith, refl))

@@ -5,7 +5,7 @@ use Rattle.std.proofs.lemmas.Bool.Decides.{nat_tests}
 use Rattle.mvs_model.specs.Gifts.{GiftsValue, gives}
 use Rattle.task_owner.specs.Seats.{item_at}
 use Rattle.task_owner.specs.Handing.{is_handed, owned_anew, passed_below}
-use Rattle.task_owner.specs.declared.seat.Owned.{Owned}
+use Rattle.task_owner.specs.declared.task_slot.Owned.{Owned}
 
 pub given_or_shared : (g s : Bool) (o : Option ℕ) → cond g o (cond s o None) ≡ cond (g || s) o None
 given_or_shared true s o = refl

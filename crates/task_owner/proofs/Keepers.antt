@@ -8,8 +8,8 @@ use Rattle.mvs_model.specs.Consistent.{IsFirst}
 use Rattle.mvs_model.proofs.Keepers.{first_of, first_some}
 use Rattle.task_owner.specs.Tasks.{TasksValue, name_at, IsTask, name_of}
 use Rattle.task_owner.specs.Seats.{item_at, number_of, mother_of, task_of, entry_of, directory, MayHave, IsSound}
-use Rattle.task_owner.specs.declared.seat.Seat.{Seat}
-use Rattle.task_owner.specs.declared.seat.Owned.{Owned}
+use Rattle.task_owner.specs.declared.task_slot.TaskSlot.{TaskSlot}
+use Rattle.task_owner.specs.declared.task_slot.Owned.{Owned}
 use Rattle.task_owner.proofs.Reading.{found, view-entry, name_at_is, the_seat, name_is}
 use Rattle.task_owner.proofs.Keeping.{at_name, key_of, no_mother, one_first, up}
 
@@ -28,12 +28,12 @@ lone_keeper o t n f = ap (λ first. cond (is_step_number n) (unwrap_or first t) 
   at true = refl
   at false = refl
 
-module _ (seats : List (Option Seat)) (owned : List (Option Owned)) (sound : IsSound seats owned) where
+module _ (seats : List (Option TaskSlot)) (owned : List (Option Owned)) (sound : IsSound seats owned) where
   abbrev D : Owners
   D = (directory seats owned).owners
 
   -- the task without a mother is the job step task
-  first_is : (k : ℕ) (x : Seat) → item_at seats k ≡ Some x → x.mother ≡ None → job_step_task D ≡ Some x.name
+  first_is : (k : ℕ) (x : TaskSlot) → item_at seats k ≡ Some x → x.mother ≡ None → job_step_task D ≡ Some x.name
   first_is k x h e = by (job_step_task D) refl (first_some D x.name first) where
     first : IsFirst D x.name
     first = (task_of seats x, at_name seats owned sound k x h, ap (mother_of seats) e)
@@ -43,21 +43,21 @@ module _ (seats : List (Option Seat)) (owned : List (Option Owned)) (sound : IsS
     by (Some q) f g = f ∙ ap Some (one_first seats owned sound q x.name (first_of D q f) first)
 
   -- the key of the job step task
-  first_key : (q : Name) → job_step_task D ≡ Some q → (k : ℕ) × (x : Seat) × (item_at seats k ≡ Some x) × (x.name ≡ q) × (x.mother ≡ None)
+  first_key : (q : Name) → job_step_task D ≡ Some q → (k : ℕ) × (x : TaskSlot) × (item_at seats k ≡ Some x) × (x.name ≡ q) × (x.mother ≡ None)
   first_key q f =
       let first = first_of D q f in
       let k = key_of seats owned sound q first.0 first.1 in
       (k.0, k.1, k.2, k.3, no_mother seats owned sound k.0 k.1 k.2 (ap (λ (task : Task). task.mother) k.4 ∙ first.2))
 
   -- where each task has a mother there is none
-  no_first : ((k : ℕ) (x : Seat) → item_at seats k ≡ Some x → x.mother ≢ None) → job_step_task D ≡ None
+  no_first : ((k : ℕ) (x : TaskSlot) → item_at seats k ≡ Some x → x.mother ≢ None) → job_step_task D ≡ None
   no_first h = by (job_step_task D) refl where
     by : (o : Option Name) → job_step_task D ≡ o → o ≡ None
     by None f = refl
     by (Some q) f = let k = first_key q f in absurd (h k.0 k.1 k.2 k.4)
 
   -- the keeper may have a subpool under the number
-  may_have_at : (k : ℕ) (y : Seat) (t : Name) (n : ℕ) → item_at seats k ≡ Some y → y.name ≡ keeper D t n → is_subpool_number n ≡ true → MayHave y n
+  may_have_at : (k : ℕ) (y : TaskSlot) (t : Name) (n : ℕ) → item_at seats k ≡ Some y → y.name ≡ keeper D t n → is_subpool_number n ≡ true → MayHave y n
   may_have_at k y t n h e valid = by (is_step_number n) refl where
     low : (n : ℕ) (b : Bool) → b ≡ false → (ltb n 128 || b) ≡ true → n < 128
     low n true f g = absurd (let i : true ≡ false = f in cc)
@@ -80,32 +80,32 @@ module _ (seats : List (Option Seat)) (owned : List (Option Owned)) (sound : IsS
           let at : z.0 ≡ k = sound.distinct z.0 k z.1 y z.2 h (z.3 ∙ sym same) in
           let i : Some z.1 ≡ Some y = sym z.2 ∙ ap (item_at seats) at ∙ h in
           let alike : z.1 ≡ y = cc in
-          ap (λ (v : Seat). v.mother) (sym alike) ∙ z.4
+          ap (λ (v : TaskSlot). v.mother) (sym alike) ∙ z.4
 
   -- the keeper for a task is active
-  keeper_seat : (k : ℕ) (x : Seat) (n : ℕ) → item_at seats k ≡ Some x → (j : ℕ) × (y : Seat) × (item_at seats j ≡ Some y) × (y.name ≡ keeper D x.name n)
+  keeper_seat : (k : ℕ) (x : TaskSlot) (n : ℕ) → item_at seats k ≡ Some x → (j : ℕ) × (y : TaskSlot) × (item_at seats j ≡ Some y) × (y.name ≡ keeper D x.name n)
   keeper_seat k x n h = by (is_step_number n) refl (job_step_task D) refl where
-    by : (b : Bool) → is_step_number n ≡ b → (o : Option Name) → job_step_task D ≡ o → (j : ℕ) × (y : Seat) × (item_at seats j ≡ Some y) × (y.name ≡ keeper D x.name n)
+    by : (b : Bool) → is_step_number n ≡ b → (o : Option Name) → job_step_task D ≡ o → (j : ℕ) × (y : TaskSlot) × (item_at seats j ≡ Some y) × (y.name ≡ keeper D x.name n)
     by false e o f = (k, x, h, sym (own_keeper D x.name n e))
     by true e None f = (k, x, h, sym (lone_keeper D x.name n f))
     by true e (Some q) f = let z = first_key q f in (z.0, z.1, z.2, z.3 ∙ sym (step_keeper D x.name q n e f))
 
 -- the same of the value of `Tasks`
-module _ (seats : List (Option Seat)) (owned : List (Option Owned)) (d : TasksValue) (e : directory seats owned ≡ d) (sound : IsSound seats owned) where
-  pub common_found : (n : ℕ) (k : ℕ) (x : Seat) → is_step_number n ≡ true → item_at seats k ≡ Some x → x.mother ≡ None → (t : Name) → name_at d k ≡ Some (keeper d.owners t n)
+module _ (seats : List (Option TaskSlot)) (owned : List (Option Owned)) (d : TasksValue) (e : directory seats owned ≡ d) (sound : IsSound seats owned) where
+  pub common_found : (n : ℕ) (k : ℕ) (x : TaskSlot) → is_step_number n ≡ true → item_at seats k ≡ Some x → x.mother ≡ None → (t : Name) → name_at d k ≡ Some (keeper d.owners t n)
   common_found n k x step h none t =
       name_at_is seats owned d k x e h
       ∙ ap Some (sym (subst (λ (v : TasksValue). keeper v.owners t n ≡ x.name) e (step_keeper (directory seats owned).owners t x.name n step (first_is seats owned sound k x h none))))
 
-  pub common_none : (n : ℕ) → ((k : ℕ) (x : Seat) → item_at seats k ≡ Some x → x.mother ≢ None) → (t : Name) → keeper d.owners t n ≡ t
+  pub common_none : (n : ℕ) → ((k : ℕ) (x : TaskSlot) → item_at seats k ≡ Some x → x.mother ≢ None) → (t : Name) → keeper d.owners t n ≡ t
   common_none n h t = subst (λ (v : TasksValue). keeper v.owners t n ≡ t) e (lone_keeper (directory seats owned).owners t n (no_first seats owned sound h))
 
-  pub may_have : (k : ℕ) (y : Seat) (t : Name) (n : ℕ) → item_at seats k ≡ Some y → y.name ≡ keeper d.owners t n → is_subpool_number n ≡ true → MayHave y n
+  pub may_have : (k : ℕ) (y : TaskSlot) (t : Name) (n : ℕ) → item_at seats k ≡ Some y → y.name ≡ keeper d.owners t n → is_subpool_number n ≡ true → MayHave y n
   may_have k y t n h same valid = may_have_at seats owned sound k y t n h (same ∙ ap (λ (v : TasksValue). keeper v.owners t n) (sym e)) valid
 
   -- a task means no subpool by a number: the number's keeper is active, and has none under it
   pub none_meant : (key id n : ℕ) → key ≡ id → IsTask d id → is_subpool_number n ≡ true → subpool_meant d.owners (name_of d id) n ≡ None
-      → (k : ℕ) × (y : Seat) × (item_at seats k ≡ Some y) × MayHave y n × (number_of y n ≡ None)
+      → (k : ℕ) × (y : TaskSlot) × (item_at seats k ≡ Some y) × MayHave y n × (number_of y n ≡ None)
   none_meant key id n f active valid none =
       let x = the_seat seats owned d key id e f active in
       let name = name_is seats owned d key id e f sound x.0 x.1 in
@@ -121,6 +121,6 @@ module _ (seats : List (Option Seat)) (owned : List (Option Owned)) (d : TasksVa
       )
 
   -- the task at the keeper's key may have a subpool under the number
-  pub keeper_place : (key id n number : ℕ) (t : Name) → key ≡ id → name_of d id ≡ keeper d.owners t number → n ≡ number → is_subpool_number n ≡ true → (x : Seat) → item_at seats key ≡ Some x → MayHave x n
+  pub keeper_place : (key id n number : ℕ) (t : Name) → key ≡ id → name_of d id ≡ keeper d.owners t number → n ≡ number → is_subpool_number n ≡ true → (x : TaskSlot) → item_at seats key ≡ Some x → MayHave x n
   keeper_place key id n number t f same is valid x h =
       may_have key x t n h (sym (name_is seats owned d key id e f sound x h) ∙ same ∙ ap (keeper d.owners t) (sym is)) valid

@@ -8,8 +8,8 @@ use Rattle.mvs_model.specs.Owners.{Task, is_active, entry, IsMother, Descends, s
 use Rattle.task_owner.specs.Tasks.{TasksValue}
 use Rattle.mvs_model.specs.Consistent.{IsFirst, OwnersConsistent}
 use Rattle.task_owner.specs.Seats.{item_at, number_of, seat_named, mother_of, task_of, entry_of, owner_name, directory, MayHave, IsSound}
-use Rattle.task_owner.specs.declared.seat.Seat.{Seat}
-use Rattle.task_owner.specs.declared.seat.Owned.{Owned}
+use Rattle.task_owner.specs.declared.task_slot.TaskSlot.{TaskSlot}
+use Rattle.task_owner.specs.declared.task_slot.Owned.{Owned}
 use Rattle.task_owner.proofs.Places.{of_some, of_mapped, past_end}
 use Rattle.task_owner.proofs.Reading.{found, found_at, view-task, view-entry, view-owner}
 use Rattle.mvs_model.proofs.Keepers.{not_of_step}
@@ -18,35 +18,35 @@ use Rattle.task_owner.proofs.Having.{is_number}
 use Rattle.task_owner.proofs.Count.{tasks_len}
 use Rattle.task_owner.proofs.Fallen.{is_mother, not_itself}
 
-module _ (seats : List (Option Seat)) (owned : List (Option Owned)) (sound : IsSound seats owned) where
-  pub at_name : (k : ℕ) (x : Seat) → item_at seats k ≡ Some x → get (directory seats owned).owners.tasks x.name ≡ Some (task_of seats x)
+module _ (seats : List (Option TaskSlot)) (owned : List (Option Owned)) (sound : IsSound seats owned) where
+  pub at_name : (k : ℕ) (x : TaskSlot) → item_at seats k ≡ Some x → get (directory seats owned).owners.tasks x.name ≡ Some (task_of seats x)
   at_name k x h = view-task seats owned x.name ∙ ap (option_map (task_of seats)) (found seats k x sound.distinct h)
 
   -- the task of a name, at its key
-  pub key_of : (q : Name) (task : Task) → get (directory seats owned).owners.tasks q ≡ Some task → (k : ℕ) × (x : Seat) × (item_at seats k ≡ Some x) × (x.name ≡ q) × (task_of seats x ≡ task)
+  pub key_of : (q : Name) (task : Task) → get (directory seats owned).owners.tasks q ≡ Some task → (k : ℕ) × (x : TaskSlot) × (item_at seats k ≡ Some x) × (x.name ≡ q) × (task_of seats x ≡ task)
   key_of q task h =
       let x = of_mapped (task_of seats) (seat_named seats q) task (sym (view-task seats owned q) ∙ h) in
       let r = found_at seats q x.0 x.1 in
       (r.0, x.0, r.1, r.2, x.2)
 
   -- a subpool that a task has, at its key
-  entry_key : (q : Name) (n s : ℕ) → entry (directory seats owned).owners q n ≡ Some s → (k : ℕ) × (x : Seat) × (item_at seats k ≡ Some x) × (x.name ≡ q) × (number_of x n ≡ Some s)
+  entry_key : (q : Name) (n s : ℕ) → entry (directory seats owned).owners q n ≡ Some s → (k : ℕ) × (x : TaskSlot) × (item_at seats k ≡ Some x) × (x.name ≡ q) × (number_of x n ≡ Some s)
   entry_key q n s h = by (seat_named seats q) refl (sym (view-entry seats owned q n) ∙ h) where
-    by : (o : Option Seat) → seat_named seats q ≡ o → entry_of (seat_named seats q) n ≡ Some s → (k : ℕ) × (x : Seat) × (item_at seats k ≡ Some x) × (x.name ≡ q) × (number_of x n ≡ Some s)
+    by : (o : Option TaskSlot) → seat_named seats q ≡ o → entry_of (seat_named seats q) n ≡ Some s → (k : ℕ) × (x : TaskSlot) × (item_at seats k ≡ Some x) × (x.name ≡ q) × (number_of x n ≡ Some s)
     by None e g = absurd (let f : None ≡ Some s = sym (ap (λ o. entry_of o n) e) ∙ g in cc)
     by (Some x) e g = let r = found_at seats q x e in (r.0, x, r.1, r.2, sym (ap (λ o. entry_of o n) e) ∙ g)
 
-  is_there : (k : ℕ) (x : Seat) (q : Name) → item_at seats k ≡ Some x → x.name ≡ q → is_active (directory seats owned).owners q ≡ true
+  is_there : (k : ℕ) (x : TaskSlot) (q : Name) → item_at seats k ≡ Some x → x.name ≡ q → is_active (directory seats owned).owners q ≡ true
   is_there k x q h e = ap (λ t. is_some (get (directory seats owned).owners.tasks t)) (sym e) ∙ ap is_some (at_name k x h)
 
   -- a task without a mother has none at her key
-  pub no_mother : (k : ℕ) (x : Seat) → item_at seats k ≡ Some x → mother_of seats x.mother ≡ None → x.mother ≡ None
+  pub no_mother : (k : ℕ) (x : TaskSlot) → item_at seats k ≡ Some x → mother_of seats x.mother ≡ None → x.mother ≡ None
   no_mother k x h e = by x.mother refl e where
     by : (o : Option ℕ) → x.mother ≡ o → mother_of seats o ≡ None → o ≡ None
     by None f g = refl
     by (Some m) f g =
         let z = of_some (item_at seats m) (sound.mothers k m x h f) in
-        absurd (let i : Some z.0.name ≡ None = sym (ap (option_map (λ (v : Seat). v.name)) z.1) ∙ g in cc)
+        absurd (let i : Some z.0.name ≡ None = sym (ap (option_map (λ (v : TaskSlot). v.name)) z.1) ∙ g in cc)
 
   pub one_first : (t q : Name) → IsFirst (directory seats owned).owners t → IsFirst (directory seats owned).owners q → t ≡ q
   one_first t q (a, ha, ea) (b, hb, eb) =
@@ -55,14 +55,14 @@ module _ (seats : List (Option Seat)) (owned : List (Option Owned)) (sound : IsS
       let same : j.0 ≡ k.0 = sound.first j.0 k.0 j.1 k.1 j.2 k.2 (no_mother j.0 j.1 j.2 (ap (λ (v : Task). v.mother) j.4 ∙ ea)) (no_mother k.0 k.1 k.2 (ap (λ (v : Task). v.mother) k.4 ∙ eb)) in
       let f : Some j.1 ≡ Some k.1 = sym j.2 ∙ ap (item_at seats) same ∙ k.2 in
       let alike : j.1 ≡ k.1 = cc in
-      sym j.3 ∙ ap (λ (v : Seat). v.name) alike ∙ k.3
+      sym j.3 ∙ ap (λ (v : TaskSlot). v.name) alike ∙ k.3
 
   -- up the mothers to the first, as the ranks fall
-  pub up : (bound k : ℕ) (x : Seat) → item_at seats k ≡ Some x → sound.ranked.0 k < bound
+  pub up : (bound k : ℕ) (x : TaskSlot) → item_at seats k ≡ Some x → sound.ranked.0 k < bound
       → (t : Name) × IsFirst (directory seats owned).owners t × ((x.name ≡ t) ⊎ Descends (directory seats owned).owners t x.name)
   up zero k x h l = absurd (omega arith)
   up (suc bound) k x h l = by x.mother refl (up bound) where
-    by : (o : Option ℕ) → x.mother ≡ o → ((j : ℕ) (z : Seat) → item_at seats j ≡ Some z → sound.ranked.0 j < bound → (t : Name) × IsFirst (directory seats owned).owners t × ((z.name ≡ t) ⊎ Descends (directory seats owned).owners t z.name))
+    by : (o : Option ℕ) → x.mother ≡ o → ((j : ℕ) (z : TaskSlot) → item_at seats j ≡ Some z → sound.ranked.0 j < bound → (t : Name) × IsFirst (directory seats owned).owners t × ((z.name ≡ t) ⊎ Descends (directory seats owned).owners t z.name))
         → (t : Name) × IsFirst (directory seats owned).owners t × ((x.name ≡ t) ⊎ Descends (directory seats owned).owners t x.name)
     by None e f = (x.name, (task_of seats x, at_name k x h, ap (mother_of seats) e), inl refl)
     by (Some m) e f =
@@ -93,7 +93,7 @@ module _ (seats : List (Option Seat)) (owned : List (Option Owned)) (sound : IsS
         let k = entry_key t n s h in
         let o = sound.entries k.0 n s k.1 k.2 k.4 in
         let z = sound.owners s o.0 o.1 in
-        ap is_some (view-owner seats owned s ∙ ap (owner_name seats) o.1 ∙ ap (option_map (λ (v : Seat). v.name)) z.1);
+        ap is_some (view-owner seats owned s ∙ ap (owner_name seats) o.1 ∙ ap (option_map (λ (v : TaskSlot). v.name)) z.1);
     one_number = λ t q m n s g h.
         let j = entry_key t m s g in
         let k = entry_key q n s h in
@@ -107,7 +107,7 @@ module _ (seats : List (Option Seat)) (owned : List (Option Owned)) (sound : IsS
     step_numbers = λ t n s h e. let k = entry_key t n s h in subst (IsFirst (directory seats owned).owners) k.3 (of_step k.0 k.1 n k.2 e (sound.places k.0 n s k.1 k.2 k.4));
     subpools = λ t s h. low t s (sym (view-owner seats owned s) ∙ h);
   } where
-    of_step : (k : ℕ) (x : Seat) (n : ℕ) → item_at seats k ≡ Some x → is_step_number n ≡ true → MayHave x n → IsFirst (directory seats owned).owners x.name
+    of_step : (k : ℕ) (x : TaskSlot) (n : ℕ) → item_at seats k ≡ Some x → is_step_number n ≡ true → MayHave x n → IsFirst (directory seats owned).owners x.name
     of_step k x n h e (inl low) = absurd (let f : false ≡ true = sym (not_of_step n low) ∙ e in cc)
     of_step k x n h e (inr r) = (task_of seats x, at_name k x h, ap (mother_of seats) r.1)
 
@@ -116,18 +116,18 @@ module _ (seats : List (Option Seat)) (owned : List (Option Owned)) (sound : IsS
         let k = key_of x task h in
         by k.0 k.1 k.2 k.1.mother refl (ap (λ (v : Task). v.mother) k.4 ∙ e)
       where
-        by : (k : ℕ) (y : Seat) → item_at seats k ≡ Some y → (o : Option ℕ) → y.mother ≡ o → mother_of seats o ≡ Some t → is_active (directory seats owned).owners t ≡ true
+        by : (k : ℕ) (y : TaskSlot) → item_at seats k ≡ Some y → (o : Option ℕ) → y.mother ≡ o → mother_of seats o ≡ Some t → is_active (directory seats owned).owners t ≡ true
         by k y a None f g = absurd (let i : ◌≡◌ {A = Option Name} None (Some t) = g in cc)
-        by k y a (Some m) f g = let z = of_mapped (λ (v : Seat). v.name) (item_at seats m) t g in is_there m z.0 t z.1 z.2
+        by k y a (Some m) f g = let z = of_mapped (λ (v : TaskSlot). v.name) (item_at seats m) t g in is_there m z.0 t z.1 z.2
 
-    reached : (x : Name) (k : ℕ) (y : Seat) → item_at seats k ≡ Some y → y.name ≡ x → (t : Name) × IsFirst (directory seats owned).owners t × ((x ≡ t) ⊎ Descends (directory seats owned).owners t x)
+    reached : (x : Name) (k : ℕ) (y : TaskSlot) → item_at seats k ≡ Some y → y.name ≡ x → (t : Name) × IsFirst (directory seats owned).owners t × ((x ≡ t) ⊎ Descends (directory seats owned).owners t x)
     reached x k y h e = subst (λ q. (t : Name) × IsFirst (directory seats owned).owners t × ((q ≡ t) ⊎ Descends (directory seats owned).owners t q)) e (up (suc (sound.ranked.0 k)) k y h (omega arith))
 
     its_number : (t : Name) (s : ℕ) (o : Option Owned) → item_at owned s ≡ o → owner_name seats (item_at owned s) ≡ Some t → (n : ℕ) × (entry (directory seats owned).owners t n ≡ Some s)
     its_number t s None e h = absurd (let f : None ≡ Some t = sym (ap (owner_name seats) e) ∙ h in cc)
     its_number t s (Some o) e h =
         let z = sound.owners s o e in
-        let f : Some z.0.name ≡ Some t = sym (ap (owner_name seats) e ∙ ap (option_map (λ (v : Seat). v.name)) z.1) ∙ h in
+        let f : Some z.0.name ≡ Some t = sym (ap (owner_name seats) e ∙ ap (option_map (λ (v : TaskSlot). v.name)) z.1) ∙ h in
         let same : z.0.name ≡ t = cc in
         (o.number, ap (λ q. entry (directory seats owned).owners q o.number) (sym same) ∙ view-entry seats owned z.0.name o.number ∙ ap (λ y. entry_of y o.number) (found seats o.owner z.0 sound.distinct z.1) ∙ z.2)
 
@@ -138,5 +138,5 @@ module _ (seats : List (Option Seat)) (owned : List (Option Owned)) (sound : IsS
       by (inr l) = absurd (let f : None ≡ Some t = sym (ap (owner_name seats) (past_end owned s (omega (arith, long, l)))) ∙ h in cc)
 
 -- the same of the value of `Tasks`
-pub kept_at : (seats : List (Option Seat)) (owned : List (Option Owned)) (d : TasksValue) → directory seats owned ≡ d → IsSound seats owned → length owned ≡ 4098 → count_by is_some seats ≤ 32 → OwnersConsistent d.owners
+pub kept_at : (seats : List (Option TaskSlot)) (owned : List (Option Owned)) (d : TasksValue) → directory seats owned ≡ d → IsSound seats owned → length owned ≡ 4098 → count_by is_some seats ≤ 32 → OwnersConsistent d.owners
 kept_at seats owned d e sound long few = subst (λ (v : TasksValue). OwnersConsistent v.owners) e (keeps seats owned sound long few)

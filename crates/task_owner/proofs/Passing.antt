@@ -7,15 +7,15 @@ use Rattle.mvs_model.specs.Gifts.{GiftsValue, gives, shares}
 use Rattle.task_owner.specs.Tasks.{TasksValue, IsTask}
 use Rattle.task_owner.specs.Seats.{item_at, number_of, directory, IsSound}
 use Rattle.task_owner.specs.Handing.{is_handed, taken}
-use Rattle.task_owner.specs.declared.seat.Seat.{Seat}
-use Rattle.task_owner.specs.declared.seat.Owned.{Owned}
+use Rattle.task_owner.specs.declared.task_slot.TaskSlot.{TaskSlot}
+use Rattle.task_owner.specs.declared.task_slot.Owned.{Owned}
 use Rattle.task_owner.proofs.Collecting.{number_inside}
 use Rattle.task_owner.proofs.Having.{gives_low}
 use Rattle.task_owner.proofs.Reading.{the_seat}
 
-module _ (old : Slab Seat) (owned : List (Option Owned)) (d : TasksValue) (m id : ℕ) (e : directory old.slots owned ≡ d) (f : m ≡ id) (sound : IsSound old.slots owned) (active : IsTask d id) (gifts : GiftsValue) (numbers : List (Option ℕ))
-    (takes : (x : Seat) → slot old m ≡ Some x → (n : ℕ) → n < 133 → item_at numbers n ≡ taken gifts x.numbers n) where
-  x : (x : Seat) × (item_at old.slots m ≡ Some x)
+module _ (old : Slab TaskSlot) (owned : List (Option Owned)) (d : TasksValue) (m id : ℕ) (e : directory old.slots owned ≡ d) (f : m ≡ id) (sound : IsSound old.slots owned) (active : IsTask d id) (gifts : GiftsValue) (numbers : List (Option ℕ))
+    (takes : (x : TaskSlot) → slot old m ≡ Some x → (n : ℕ) → n < 133 → item_at numbers n ≡ taken gifts x.numbers n) where
+  x : (x : TaskSlot) × (item_at old.slots m ≡ Some x)
   x = the_seat old.slots owned d m id e f active
 
   given_is : (n : ℕ) → n < 133 → gives gifts n ≡ true → item_at numbers n ≡ item_at x.0.numbers n

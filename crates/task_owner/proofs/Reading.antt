@@ -13,8 +13,8 @@ use Rattle.mvs_model.proofs.Orders.{name_cmp_total, entry_cmp_total, name_cmp-Is
 use Rattle.mvs_model.proofs.Tables.{get-table_all}
 use Rattle.task_owner.specs.Tasks.{TasksValue, name_at, IsTask, name_of, residence_of}
 use Rattle.task_owner.specs.Seats.{item_at, name_of_seat, number_of, seat_named, names, task_of, entry_of, owner_name, directory, IsSound, Distinct}
-use Rattle.task_owner.specs.declared.seat.Seat.{Seat}
-use Rattle.task_owner.specs.declared.seat.Owned.{Owned}
+use Rattle.task_owner.specs.declared.task_slot.TaskSlot.{TaskSlot}
+use Rattle.task_owner.specs.declared.task_slot.Owned.{Owned}
 use Rattle.task_owner.proofs.Places.{at_map, past_end, of_some, same_default}
 
 -- two names are the same or not, and the test says which
@@ -24,7 +24,7 @@ name_cases a b = by (same_name a b) refl where
   by true t = inl (t, same_name_is a b t)
   by false t = inr (t, λ e. (let f : true ≡ false = sym (same_name_self a) ∙ ap (same_name a) e ∙ t in cc))
 
-none_named : (seats : List (Option Seat)) (t : Name) → list_any (same_name t) (names seats) ≡ false → seat_named seats t ≡ None
+none_named : (seats : List (Option TaskSlot)) (t : Name) → list_any (same_name t) (names seats) ≡ false → seat_named seats t ≡ None
 none_named [] t e = refl
 none_named (None ∷ rest) t e = none_named rest t e
 none_named (Some x ∷ rest) t e = by (same_name t x.name) e (none_named rest t) where
@@ -32,7 +32,7 @@ none_named (Some x ∷ rest) t e = by (same_name t x.name) e (none_named rest t)
   by true h f = absurd (let e : true ≡ false = h in cc)
   by false h f = f h
 
-module _ (seats : List (Option Seat)) (owned : List (Option Owned)) where
+module _ (seats : List (Option TaskSlot)) (owned : List (Option Owned)) where
   pub view-name : (k : ℕ) → name_at (directory seats owned) k ≡ name_of_seat seats k
   unfolding directory
   view-name k = at_map (λ x. x.name) seats k
@@ -41,7 +41,7 @@ module _ (seats : List (Option Seat)) (owned : List (Option Owned)) where
   unfolding directory
   view-task t = get-keyed_all name_cmp_total name_cmp-IsAntisymmetric (names seats) (λ u. option_map (task_of seats) (seat_named seats u)) t (λ e. ap (option_map (task_of seats)) (none_named seats t e))
 
-  past : (o : Option Seat) (n : ℕ) → ltb n 133 ≡ false → entry_of o n ≡ None
+  past : (o : Option TaskSlot) (n : ℕ) → ltb n 133 ≡ false → entry_of o n ≡ None
   past None n e = refl
   past (Some x) n e = ap (λ b. cond b (item_at x.numbers n) None) e
 
@@ -57,46 +57,46 @@ module _ (seats : List (Option Seat)) (owned : List (Option Owned)) where
   unfolding directory
   view-owner s = get-table_all (length owned) (λ r. owner_name seats (item_at owned r)) (λ r h. ap (owner_name seats) (past_end owned r h)) s
 
-pub rest_distinct : (o : Option Seat) (rest : List (Option Seat)) → Distinct (o ∷ rest) → Distinct rest
+pub rest_distinct : (o : Option TaskSlot) (rest : List (Option TaskSlot)) → Distinct (o ∷ rest) → Distinct rest
 rest_distinct o rest h j k x y ex ey e = let f : suc j ≡ suc k = h (suc j) (suc k) x y ex ey e in omega arith
 
 -- a task is found by its name
-pub found : (seats : List (Option Seat)) (k : ℕ) (x : Seat) → Distinct seats → item_at seats k ≡ Some x → seat_named seats x.name ≡ Some x
-found [] k x h e = absurd (let f : ◌≡◌ {A = Option Seat} None (Some x) = e in cc)
-found (None ∷ rest) zero x h e = absurd (let f : ◌≡◌ {A = Option Seat} None (Some x) = e in cc)
+pub found : (seats : List (Option TaskSlot)) (k : ℕ) (x : TaskSlot) → Distinct seats → item_at seats k ≡ Some x → seat_named seats x.name ≡ Some x
+found [] k x h e = absurd (let f : ◌≡◌ {A = Option TaskSlot} None (Some x) = e in cc)
+found (None ∷ rest) zero x h e = absurd (let f : ◌≡◌ {A = Option TaskSlot} None (Some x) = e in cc)
 found (None ∷ rest) (suc k) x h e = found rest k x (rest_distinct None rest h) e
-found (Some y ∷ rest) zero x h e = let same : y ≡ x = (let f : Some y ≡ Some x = e in cc) in subst (λ (z : Seat). cond (same_name z.name y.name) (Some y) (seat_named rest z.name) ≡ Some z) same (ap (λ b. cond b (Some y) (seat_named rest y.name)) (same_name_self y.name))
+found (Some y ∷ rest) zero x h e = let same : y ≡ x = (let f : Some y ≡ Some x = e in cc) in subst (λ (z : TaskSlot). cond (same_name z.name y.name) (Some y) (seat_named rest z.name) ≡ Some z) same (ap (λ b. cond b (Some y) (seat_named rest y.name)) (same_name_self y.name))
 found (Some y ∷ rest) (suc k) x h e = by (same_name x.name y.name) (same_name_is x.name y.name) (found rest k x (rest_distinct (Some y) rest h) e) where
   by : (b : Bool) → (b ≡ true → x.name ≡ y.name) → seat_named rest x.name ≡ Some x → cond b (Some y) (seat_named rest x.name) ≡ Some x
   by true f r = absurd (let z : 0 ≡ suc k = h 0 (suc k) y x refl e (sym (f refl)) in omega arith)
   by false f r = r
 
 -- what is found by a name has this name and a key
-pub found_at : (seats : List (Option Seat)) (t : Name) (x : Seat) → seat_named seats t ≡ Some x → (k : ℕ) × (item_at seats k ≡ Some x) × (x.name ≡ t)
-found_at [] t x e = absurd (let f : ◌≡◌ {A = Option Seat} None (Some x) = e in cc)
+pub found_at : (seats : List (Option TaskSlot)) (t : Name) (x : TaskSlot) → seat_named seats t ≡ Some x → (k : ℕ) × (item_at seats k ≡ Some x) × (x.name ≡ t)
+found_at [] t x e = absurd (let f : ◌≡◌ {A = Option TaskSlot} None (Some x) = e in cc)
 found_at (None ∷ rest) t x e = let r = found_at rest t x e in (suc r.0, r.1, r.2)
 found_at (Some y ∷ rest) t x e = by (same_name t y.name) (same_name_is t y.name) e (found_at rest t x) where
   by : (b : Bool) → (b ≡ true → t ≡ y.name) → cond b (Some y) (seat_named rest t) ≡ Some x → (seat_named rest t ≡ Some x → (k : ℕ) × (item_at rest k ≡ Some x) × (x.name ≡ t)) → (k : ℕ) × (item_at (Some y ∷ rest) k ≡ Some x) × (x.name ≡ t)
-  by true f e g = let same : y ≡ x = (let h : Some y ≡ Some x = e in cc) in (0, e, subst (λ (z : Seat). z.name ≡ t) same (sym (f refl)))
+  by true f e g = let same : y ≡ x = (let h : Some y ≡ Some x = e in cc) in (0, e, subst (λ (z : TaskSlot). z.name ≡ t) same (sym (f refl)))
   by false f e g = let r = g e in (suc r.0, r.1, r.2)
 
 -- where no task has the name, none is found by it
-pub not_found : (seats : List (Option Seat)) (t : Name) → ((k : ℕ) (x : Seat) → item_at seats k ≡ Some x → x.name ≢ t) → seat_named seats t ≡ None
+pub not_found : (seats : List (Option TaskSlot)) (t : Name) → ((k : ℕ) (x : TaskSlot) → item_at seats k ≡ Some x → x.name ≢ t) → seat_named seats t ≡ None
 not_found seats t h = by (seat_named seats t) refl where
-  by : (o : Option Seat) → seat_named seats t ≡ o → o ≡ None
+  by : (o : Option TaskSlot) → seat_named seats t ≡ o → o ≡ None
   by None e = refl
   by (Some x) e = let r = found_at seats t x e in absurd (h r.0 x r.1 r.2)
 
 -- the value of `Tasks` and an identifier, in place of the fields that they are views of
-along : (seats : List (Option Seat)) (owned : List (Option Owned)) (d : TasksValue) (key id : ℕ) (P : TasksValue → ℕ → Type 0) → directory seats owned ≡ d → key ≡ id → P (directory seats owned) key → P d id
+along : (seats : List (Option TaskSlot)) (owned : List (Option Owned)) (d : TasksValue) (key id : ℕ) (P : TasksValue → ℕ → Type 0) → directory seats owned ≡ d → key ≡ id → P (directory seats owned) key → P d id
 along seats owned d key id P e f h = subst (λ (v : TasksValue). P v id) e (subst (λ (k : ℕ). P (directory seats owned) k) f h)
 
 -- a seat that has a name is one
-pub seat_there : (o : Option Seat) → IsSome (option_map (λ x. x.name) o) → IsSome o
+pub seat_there : (o : Option TaskSlot) → IsSome (option_map (λ x. x.name) o) → IsSome o
 seat_there None h = h
 seat_there (Some x) h = refl
 
-module _ (seats : List (Option Seat)) (owned : List (Option Owned)) (d : TasksValue) (key id : ℕ) (e : directory seats owned ≡ d) (f : key ≡ id) where
+module _ (seats : List (Option TaskSlot)) (owned : List (Option Owned)) (d : TasksValue) (key id : ℕ) (e : directory seats owned ≡ d) (f : key ≡ id) where
   pub at_id : name_at d id ≡ name_of_seat seats key
   at_id = along seats owned d key id (λ v k. name_at v k ≡ name_of_seat seats key) e f (view-name seats owned key)
 
@@ -104,10 +104,10 @@ module _ (seats : List (Option Seat)) (owned : List (Option Owned)) (d : TasksVa
   is_seat h = seat_there (item_at seats key) (subst IsSome at_id h)
 
   -- the task of an identifier
-  pub the_seat : IsTask d id → (x : Seat) × (item_at seats key ≡ Some x)
+  pub the_seat : IsTask d id → (x : TaskSlot) × (item_at seats key ≡ Some x)
   the_seat h = of_some (item_at seats key) (is_seat h)
 
-  module _ (sound : IsSound seats owned) (x : Seat) (h : item_at seats key ≡ Some x) where
+  module _ (sound : IsSound seats owned) (x : TaskSlot) (h : item_at seats key ≡ Some x) where
     pub name_is : name_of d id ≡ x.name
     name_is = ap (λ o. unwrap_or o []) (at_id ∙ ap (option_map (λ x. x.name)) h)
 
@@ -131,15 +131,15 @@ pub low_number : (n : ℕ) (o : Option ℕ) → n < 133 → cond (ltb n 133) o N
 low_number n o h = grind (arith, nat_tests)
 
 -- the number at an index in range
-pub number_is : (x : Seat) (n : ℕ) (d : Option ℕ) → n < length x.numbers → n < 133 → slice_index_or x.numbers n d ≡ number_of x n
+pub number_is : (x : TaskSlot) (n : ℕ) (d : Option ℕ) → n < length x.numbers → n < 133 → slice_index_or x.numbers n d ≡ number_of x n
 number_is x n d h b = same_default x.numbers n d None h ∙ sym (low_number n (item_at x.numbers n) b)
 
 -- an identifier's name where its key has a task
-pub name_at_is : (seats : List (Option Seat)) (owned : List (Option Owned)) (d : TasksValue) (key : ℕ) (x : Seat) → directory seats owned ≡ d → item_at seats key ≡ Some x → name_at d key ≡ Some x.name
+pub name_at_is : (seats : List (Option TaskSlot)) (owned : List (Option Owned)) (d : TasksValue) (key : ℕ) (x : TaskSlot) → directory seats owned ≡ d → item_at seats key ≡ Some x → name_at d key ≡ Some x.name
 name_at_is seats owned d key x e h = at_id seats owned d key key e refl ∙ ap (option_map (λ x. x.name)) h
 
-pub no_task : (seats : List (Option Seat)) (owned : List (Option Owned)) (d : TasksValue) (t : Name) → directory seats owned ≡ d → ((k : ℕ) (x : Seat) → item_at seats k ≡ Some x → x.name ≢ t) → get d.owners.tasks t ≡ None
+pub no_task : (seats : List (Option TaskSlot)) (owned : List (Option Owned)) (d : TasksValue) (t : Name) → directory seats owned ≡ d → ((k : ℕ) (x : TaskSlot) → item_at seats k ≡ Some x → x.name ≢ t) → get d.owners.tasks t ≡ None
 no_task seats owned d t e h = subst (λ (v : TasksValue). get v.owners.tasks t ≡ None) e (view-task seats owned t ∙ ap (option_map (task_of seats)) (not_found seats t h))
 
-pub a_task : (seats : List (Option Seat)) (owned : List (Option Owned)) (d : TasksValue) (k : ℕ) (x : Seat) → directory seats owned ≡ d → IsSound seats owned → item_at seats k ≡ Some x → get d.owners.tasks x.name ≡ Some (task_of seats x)
+pub a_task : (seats : List (Option TaskSlot)) (owned : List (Option Owned)) (d : TasksValue) (k : ℕ) (x : TaskSlot) → directory seats owned ≡ d → IsSound seats owned → item_at seats k ≡ Some x → get d.owners.tasks x.name ≡ Some (task_of seats x)
 a_task seats owned d k x e sound h = subst (λ (v : TasksValue). get v.owners.tasks x.name ≡ Some (task_of seats x)) e (view-task seats owned x.name ∙ ap (option_map (task_of seats)) (found seats k x sound.distinct h))

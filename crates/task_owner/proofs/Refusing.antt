@@ -9,8 +9,8 @@ use Rattle.mvs_model.specs.Owners.{Owners, entry, owns}
 use Rattle.task_owner.specs.Tasks.{TasksValue}
 use Rattle.task_owner.specs.Seats.{directory, IsSound}
 use Rattle.task_owner.specs.Handing.{is_shared_gift}
-use Rattle.task_owner.specs.declared.seat.Seat.{Seat}
-use Rattle.task_owner.specs.declared.seat.Owned.{Owned}
+use Rattle.task_owner.specs.declared.task_slot.TaskSlot.{TaskSlot}
+use Rattle.task_owner.specs.declared.task_slot.Owned.{Owned}
 use Rattle.task_owner.proofs.Count.{tasks_len}
 
 -- what the two calls say of a number
@@ -22,7 +22,7 @@ pub passed_by : {P : Type 0} (R : Refusal → Type 0) (r : Option Refusal) → M
 passed_by R None p none = p
 passed_by R (Some x) p none = absurd (none x refl)
 
-module _ (seats : List (Option Seat)) (owned : List (Option Owned)) (d : TasksValue) (e : directory seats owned ≡ d) (sound : IsSound seats owned) where
+module _ (seats : List (Option TaskSlot)) (owned : List (Option Owned)) (d : TasksValue) (e : directory seats owned ≡ d) (sound : IsSound seats owned) where
   pub len_is : len d.owners.tasks ≡ count_by is_some seats
   len_is = ap (λ (v : TasksValue). len v.owners.tasks) (sym e) ∙ tasks_len seats owned sound
 

@@ -7,8 +7,8 @@ use Rattle.std.specs.List.{list_any}
 use Rattle.std.proofs.lemmas.Bool.{eqb-true, or_right}
 use Rattle.mvs_model.specs.Subpool.{is_step_number}
 use Rattle.task_owner.specs.Seats.{item_at, number_of, MayHave, IsSound}
-use Rattle.task_owner.specs.declared.seat.Seat.{Seat}
-use Rattle.task_owner.specs.declared.seat.Owned.{Owned}
+use Rattle.task_owner.specs.declared.task_slot.TaskSlot.{TaskSlot}
+use Rattle.task_owner.specs.declared.task_slot.Owned.{Owned}
 use Rattle.task_owner.proofs.Places.{of_some}
 
 without : ℕ → List ℕ → List ℕ
@@ -51,7 +51,7 @@ put : Option ℕ → List ℕ → List ℕ
 put None xs = xs
 put (Some s) xs = s ∷ xs
 
-under : Seat → ℕ → List ℕ
+under : TaskSlot → ℕ → List ℕ
 under x zero = []
 under x (suc n) = put (number_of x n) (under x n)
 
@@ -64,7 +64,7 @@ put_none : (o : Option ℕ) (xs : List ℕ) → o ≡ None → put o xs ≡ xs
 unfolding put
 put_none o xs e = ap (λ p. put p xs) e
 
-under_length : (x : Seat) (n : ℕ) → length (under x n) ≤ n
+under_length : (x : TaskSlot) (n : ℕ) → length (under x n) ≤ n
 unfolding under
 under_length x zero = omega arith
 under_length x (suc n) = let a = under_length x n in let b = put_length (number_of x n) (under x n) in omega arith
@@ -75,7 +75,7 @@ below_or_at m n h = by (ltb m n) refl where
   by true t = inl (grind (arith, nat_tests))
   by false t = inr (grind (arith, nat_tests))
 
-under_gap : (x : Seat) (n m : ℕ) → m < n → number_of x m ≡ None → length (under x n) < n
+under_gap : (x : TaskSlot) (n m : ℕ) → m < n → number_of x m ≡ None → length (under x n) < n
 unfolding under
 under_gap x zero m h e = absurd (omega arith)
 under_gap x (suc n) m h e = by (below_or_at m n h) (λ p. under_gap x n m p e) where
@@ -98,7 +98,7 @@ put_some : (o : Option ℕ) (s : ℕ) (xs : List ℕ) → o ≡ Some s → list_
 unfolding put
 put_some o s xs e = ap (λ p. list_any (eqb s) (put p xs)) e ∙ ap (λ b. b || list_any (eqb s) xs) (eqb_itself s)
 
-under_has : (x : Seat) (n m s : ℕ) → m < n → number_of x m ≡ Some s → list_any (eqb s) (under x n) ≡ true
+under_has : (x : TaskSlot) (n m s : ℕ) → m < n → number_of x m ≡ Some s → list_any (eqb s) (under x n) ≡ true
 unfolding under
 under_has x zero m s h e = absurd (omega arith)
 under_has x (suc n) m s h e = by (below_or_at m n h) (λ p. under_has x n m s p e) where
@@ -107,15 +107,15 @@ under_has x (suc n) m s h e = by (below_or_at m n h) (λ p. under_has x n m s p 
   by (inr p) f = put_some (number_of x n) s (under x n) (ap (number_of x) (sym p) ∙ e)
 
 -- all that stands under a number of a task
-everything : ℕ → List (Option Seat) → List ℕ
+everything : ℕ → List (Option TaskSlot) → List ℕ
 everything b [] = []
 everything b (None ∷ rest) = everything b rest
 everything b (Some x ∷ rest) = under x b ++ everything b rest
 
-one_seat : (x : Seat) (rest : List (Option Seat)) → count_by is_some (Some x ∷ rest) ≡ 1 + count_by is_some rest
-one_seat x rest = sum_by-cons (λ (o : Option Seat). cond (is_some o) 1 0) (Some x) rest
+one_seat : (x : TaskSlot) (rest : List (Option TaskSlot)) → count_by is_some (Some x ∷ rest) ≡ 1 + count_by is_some rest
+one_seat x rest = sum_by-cons (λ (o : Option TaskSlot). cond (is_some o) 1 0) (Some x) rest
 
-everything_length : (b : ℕ) (seats : List (Option Seat)) → length (everything b seats) ≤ b * count_by is_some seats
+everything_length : (b : ℕ) (seats : List (Option TaskSlot)) → length (everything b seats) ≤ b * count_by is_some seats
 unfolding everything
 everything_length b [] = omega arith
 everything_length b (None ∷ rest) = let h = everything_length b rest in omega arith
@@ -126,10 +126,10 @@ everything_length b (Some x ∷ rest) =
     let e : length (under x b ++ everything b rest) ≡ length (under x b) + length (everything b rest) = length-append (under x b) (everything b rest) in
     grind arith
 
-everything_gap : (b : ℕ) (seats : List (Option Seat)) (k m : ℕ) (x : Seat) → item_at seats k ≡ Some x → m < b → number_of x m ≡ None → length (everything b seats) < b * count_by is_some seats
+everything_gap : (b : ℕ) (seats : List (Option TaskSlot)) (k m : ℕ) (x : TaskSlot) → item_at seats k ≡ Some x → m < b → number_of x m ≡ None → length (everything b seats) < b * count_by is_some seats
 unfolding everything
-everything_gap b [] k m x h p e = absurd (let f : ◌≡◌ {A = Option Seat} None (Some x) = h in cc)
-everything_gap b (None ∷ rest) zero m x h p e = absurd (let f : ◌≡◌ {A = Option Seat} None (Some x) = h in cc)
+everything_gap b [] k m x h p e = absurd (let f : ◌≡◌ {A = Option TaskSlot} None (Some x) = h in cc)
+everything_gap b (None ∷ rest) zero m x h p e = absurd (let f : ◌≡◌ {A = Option TaskSlot} None (Some x) = h in cc)
 everything_gap b (None ∷ rest) (suc k) m x h p e = let r = everything_gap b rest k m x h p e in omega arith
 everything_gap b (Some y ∷ rest) zero m x h p e =
     let same : x ≡ y = (let f : Some y ≡ Some x = h in cc) in
@@ -145,10 +145,10 @@ everything_gap b (Some y ∷ rest) (suc k) m x h p e =
     let e : length (under y b ++ everything b rest) ≡ length (under y b) + length (everything b rest) = length-append (under y b) (everything b rest) in
     grind arith
 
-everything_has : (b : ℕ) (seats : List (Option Seat)) (k m s : ℕ) (x : Seat) → item_at seats k ≡ Some x → m < b → number_of x m ≡ Some s → list_any (eqb s) (everything b seats) ≡ true
+everything_has : (b : ℕ) (seats : List (Option TaskSlot)) (k m s : ℕ) (x : TaskSlot) → item_at seats k ≡ Some x → m < b → number_of x m ≡ Some s → list_any (eqb s) (everything b seats) ≡ true
 unfolding everything
-everything_has b [] k m s x h p e = absurd (let f : ◌≡◌ {A = Option Seat} None (Some x) = h in cc)
-everything_has b (None ∷ rest) zero m s x h p e = absurd (let f : ◌≡◌ {A = Option Seat} None (Some x) = h in cc)
+everything_has b [] k m s x h p e = absurd (let f : ◌≡◌ {A = Option TaskSlot} None (Some x) = h in cc)
+everything_has b (None ∷ rest) zero m s x h p e = absurd (let f : ◌≡◌ {A = Option TaskSlot} None (Some x) = h in cc)
 everything_has b (None ∷ rest) (suc k) m s x h p e = everything_has b rest k m s x h p e
 everything_has b (Some y ∷ rest) zero m s x h p e =
     let same : x ≡ y = (let f : Some y ≡ Some x = h in cc) in
@@ -169,10 +169,10 @@ some_or_all {X} (suc n) f = by (some_or_all n f) (f n) refl where
     at s (inr p) = ap is_some (ap f p ∙ e)
 
 -- what a task has under the two numbers of the job step task
-two : Seat → List ℕ
+two : TaskSlot → List ℕ
 two x = put (number_of x 131) (put (number_of x 132) [])
 
-two_length : (x : Seat) → length (two x) ≤ 2
+two_length : (x : TaskSlot) → length (two x) ≤ 2
 unfolding two
 two_length x =
     let a = put_length (number_of x 131) (put (number_of x 132) []) in
@@ -186,14 +186,14 @@ one_of_two n h = by (eqb n 131) refl where
   by true e = inl (grind (arith, nat_tests))
   by false e = inr (grind (arith, nat_tests))
 
-two_has : (x : Seat) (n s : ℕ) → is_step_number n ≡ true → number_of x n ≡ Some s → list_any (eqb s) (two x) ≡ true
+two_has : (x : TaskSlot) (n s : ℕ) → is_step_number n ≡ true → number_of x n ≡ Some s → list_any (eqb s) (two x) ≡ true
 unfolding two
 two_has x n s h e = by (one_of_two n h) where
   by : (n ≡ 131) ⊎ (n ≡ 132) → list_any (eqb s) (put (number_of x 131) (put (number_of x 132) [])) ≡ true
   by (inl p) = put_some (number_of x 131) s _ (ap (number_of x) (sym p) ∙ e)
   by (inr p) = put_has (number_of x 131) s _ (put_some (number_of x 132) s [] (ap (number_of x) (sym p) ∙ e))
 
-two_gap : (x : Seat) (n : ℕ) → is_step_number n ≡ true → number_of x n ≡ None → length (two x) < 2
+two_gap : (x : TaskSlot) (n : ℕ) → is_step_number n ≡ true → number_of x n ≡ None → length (two x) < 2
 unfolding two
 two_gap x n h e = by (one_of_two n h) where
   by : (n ≡ 131) ⊎ (n ≡ 132) → length (put (number_of x 131) (put (number_of x 132) [])) < 2
@@ -207,42 +207,42 @@ two_gap x n h e = by (one_of_two n h) where
       omega arith
 
 -- the first task without a mother
-else_next : Option ℕ → Seat → Option Seat → Option Seat
+else_next : Option ℕ → TaskSlot → Option TaskSlot → Option TaskSlot
 else_next None x next = Some x
 else_next (Some m) x next = next
 
-first_seat : List (Option Seat) → Option Seat
+first_seat : List (Option TaskSlot) → Option TaskSlot
 first_seat [] = None
 first_seat (None ∷ rest) = first_seat rest
 first_seat (Some x ∷ rest) = else_next x.mother x (first_seat rest)
 
-first_found : (seats : List (Option Seat)) (k : ℕ) (x : Seat) → item_at seats k ≡ Some x → x.mother ≡ None → (j : ℕ) × (y : Seat) × (item_at seats j ≡ Some y) × (y.mother ≡ None) × (first_seat seats ≡ Some y)
+first_found : (seats : List (Option TaskSlot)) (k : ℕ) (x : TaskSlot) → item_at seats k ≡ Some x → x.mother ≡ None → (j : ℕ) × (y : TaskSlot) × (item_at seats j ≡ Some y) × (y.mother ≡ None) × (first_seat seats ≡ Some y)
 unfolding first_seat else_next
-first_found [] k x h e = absurd (let f : ◌≡◌ {A = Option Seat} None (Some x) = h in cc)
-first_found (None ∷ rest) zero x h e = absurd (let f : ◌≡◌ {A = Option Seat} None (Some x) = h in cc)
+first_found [] k x h e = absurd (let f : ◌≡◌ {A = Option TaskSlot} None (Some x) = h in cc)
+first_found (None ∷ rest) zero x h e = absurd (let f : ◌≡◌ {A = Option TaskSlot} None (Some x) = h in cc)
 first_found (None ∷ rest) (suc k) x h e = let r = first_found rest k x h e in (suc r.0, r.1, r.2, r.3, r.4)
 first_found (Some y ∷ rest) zero x h e =
     let same : y ≡ x = (let f : Some y ≡ Some x = h in cc) in
-    let none : y.mother ≡ None = ap (λ (z : Seat). z.mother) same ∙ e in
+    let none : y.mother ≡ None = ap (λ (z : TaskSlot). z.mother) same ∙ e in
     (0, y, refl, none, ap (λ m. else_next m y (first_seat rest)) none)
 first_found (Some y ∷ rest) (suc k) x h e = at y.mother refl (first_found rest k x h e) where
-  at : (m : Option ℕ) → y.mother ≡ m → ((j : ℕ) × (z : Seat) × (item_at rest j ≡ Some z) × (z.mother ≡ None) × (first_seat rest ≡ Some z))
-      → (j : ℕ) × (z : Seat) × (item_at (Some y ∷ rest) j ≡ Some z) × (z.mother ≡ None) × (else_next y.mother y (first_seat rest) ≡ Some z)
+  at : (m : Option ℕ) → y.mother ≡ m → ((j : ℕ) × (z : TaskSlot) × (item_at rest j ≡ Some z) × (z.mother ≡ None) × (first_seat rest ≡ Some z))
+      → (j : ℕ) × (z : TaskSlot) × (item_at (Some y ∷ rest) j ≡ Some z) × (z.mother ≡ None) × (else_next y.mother y (first_seat rest) ≡ Some z)
   at None f r = (0, y, refl, f, ap (λ m. else_next m y (first_seat rest)) f)
   at (Some m) f r = (suc r.0, r.1, r.2, r.3, ap (λ m. else_next m y (first_seat rest)) f ∙ r.4)
 
 -- what the first has under the two numbers
-of_first : Option Seat → List ℕ
+of_first : Option TaskSlot → List ℕ
 of_first None = []
 of_first (Some x) = two x
 
-of_first_length : (o : Option Seat) → length (of_first o) ≤ 2
+of_first_length : (o : Option TaskSlot) → length (of_first o) ≤ 2
 unfolding of_first
 of_first_length None = omega arith
 of_first_length (Some x) = two_length x
 
-module _ (seats : List (Option Seat)) (owned : List (Option Owned)) (sound : IsSound seats owned) where
-  the_first : (k : ℕ) (x : Seat) → item_at seats k ≡ Some x → x.mother ≡ None → first_seat seats ≡ Some x
+module _ (seats : List (Option TaskSlot)) (owned : List (Option Owned)) (sound : IsSound seats owned) where
+  the_first : (k : ℕ) (x : TaskSlot) → item_at seats k ≡ Some x → x.mother ≡ None → first_seat seats ≡ Some x
   the_first k x h e =
       let r = first_found seats k x h e in
       let same : r.0 ≡ k = sound.first r.0 k r.1 x r.2 h r.3 e in
@@ -264,14 +264,14 @@ module _ (seats : List (Option Seat)) (owned : List (Option Owned)) (sound : IsS
       let y = sound.owners s o.0 o.1 in
       list_any-append (eqb s) (everything 128 seats) (of_first (first_seat seats)) ∙ by y.0 o.0.owner o.0.number y.1 y.2 (sound.places o.0.owner o.0.number s y.0 y.1 y.2)
     where
-      by : (y : Seat) (k n : ℕ) → item_at seats k ≡ Some y → number_of y n ≡ Some s → MayHave y n → (list_any (eqb s) (everything 128 seats) || list_any (eqb s) (of_first (first_seat seats))) ≡ true
+      by : (y : TaskSlot) (k n : ℕ) → item_at seats k ≡ Some y → number_of y n ≡ Some s → MayHave y n → (list_any (eqb s) (everything 128 seats) || list_any (eqb s) (of_first (first_seat seats))) ≡ true
       by y k n h e (inl low) = ap (λ c. c || list_any (eqb s) (of_first (first_seat seats))) (everything_has 128 seats k n s y h low e)
       by y k n h e (inr r) =
           ap (λ c. list_any (eqb s) (everything 128 seats) || c) (ap (λ o. list_any (eqb s) (of_first o)) (the_first k y h r.1) ∙ two_has y n s r.0 e)
           ∙ or_right (list_any (eqb s) (everything 128 seats)) true refl
 
   -- where a task has none under a number under which it may have one, they are fewer than there could be
-  all_few : (k m : ℕ) (x : Seat) → count_by is_some seats ≤ 32 → item_at seats k ≡ Some x → MayHave x m → number_of x m ≡ None → length all < 4098
+  all_few : (k m : ℕ) (x : TaskSlot) → count_by is_some seats ≤ 32 → item_at seats k ≡ Some x → MayHave x m → number_of x m ≡ None → length all < 4098
   unfolding all of_first
   all_few k m x few h (inl low) e =
       let a : length (everything 128 seats) < 128 * count_by is_some seats = everything_gap 128 seats k m x h low e in
@@ -286,7 +286,7 @@ module _ (seats : List (Option Seat)) (owned : List (Option Owned)) (sound : IsS
       omega arith
 
   -- then some subpool has no owner
-  pub room : (k m : ℕ) (x : Seat) → length owned ≡ 4098 → count_by is_some seats ≤ 32 → item_at seats k ≡ Some x → MayHave x m → number_of x m ≡ None → (s : ℕ) × (s < length owned) × (item_at owned s ≡ None)
+  pub room : (k m : ℕ) (x : TaskSlot) → length owned ≡ 4098 → count_by is_some seats ≤ 32 → item_at seats k ≡ Some x → MayHave x m → number_of x m ≡ None → (s : ℕ) × (s < length owned) × (item_at owned s ≡ None)
   room k m x long few h place e = by (some_or_all (length owned) (λ s. item_at owned s)) where
     by : ((s : ℕ) × (s < length owned) × (item_at owned s ≡ None)) ⊎ ((s : ℕ) → s < length owned → IsSome (item_at owned s)) → (s : ℕ) × (s < length owned) × (item_at owned s ≡ None)
     by (inl r) = r

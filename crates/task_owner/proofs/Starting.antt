@@ -10,8 +10,8 @@ use Rattle.mvs_model.specs.Owners.{entry_cmp}
 use Rattle.mvs_model.proofs.Orders.{name_cmp_total, entry_cmp_total, name_cmp-IsAntisymmetric, entry_cmp-IsAntisymmetric}
 use Rattle.mvs_model.specs.Start.{first_owners}
 use Rattle.task_owner.specs.Seats.{item_at, number_of, seat_named, mother_of, task_of, entry_of, owner_name, directory, IsSound}
-use Rattle.task_owner.specs.declared.seat.Seat.{Seat}
-use Rattle.task_owner.specs.declared.seat.Owned.{Owned}
+use Rattle.task_owner.specs.declared.task_slot.TaskSlot.{TaskSlot}
+use Rattle.task_owner.specs.declared.task_slot.Owned.{Owned}
 use Rattle.task_owner.proofs.Places.{same_or_not, none_everywhere}
 use Rattle.task_owner.proofs.Reading.{found, found_at, not_found, name_cases, view-task, view-entry, view-owner}
 
@@ -20,19 +20,19 @@ either_none : (b : Bool) (o : Option ℕ) → o ≡ None → cond b o None ≡ N
 either_none true o e = e
 either_none false o e = refl
 
-pub no_numbers : (x : Seat) (m n : ℕ) → x.numbers ≡ replicate m None → number_of x n ≡ None
+pub no_numbers : (x : TaskSlot) (m n : ℕ) → x.numbers ≡ replicate m None → number_of x n ≡ None
 no_numbers x m n e = either_none (ltb n 133) (item_at x.numbers n) (ap (λ xs. item_at xs n) e ∙ none_everywhere m None n refl)
 
 -- one task alone, without subpools
-module _ (seats : List (Option Seat)) (owned : List (Option Owned)) (key : ℕ) (x : Seat) (h : item_at seats key ≡ Some x) (others : (k : ℕ) → k ≢ key → item_at seats k ≡ None)
+module _ (seats : List (Option TaskSlot)) (owned : List (Option Owned)) (key : ℕ) (x : TaskSlot) (h : item_at seats key ≡ Some x) (others : (k : ℕ) → k ≢ key → item_at seats k ≡ None)
     (mother : x.mother ≡ None) (numbers : (n : ℕ) → number_of x n ≡ None) (none : (s : ℕ) → item_at owned s ≡ None) where
-  is_key : (k : ℕ) (y : Seat) → item_at seats k ≡ Some y → k ≡ key
+  is_key : (k : ℕ) (y : TaskSlot) → item_at seats k ≡ Some y → k ≡ key
   is_key k y e = by (same_or_not k key) where
     by : (k ≡ key) ⊎ (k ≢ key) → k ≡ key
     by (inl p) = p
     by (inr d) = absurd (let f : None ≡ Some y = sym (others k d) ∙ e in cc)
 
-  is_x : (k : ℕ) (y : Seat) → item_at seats k ≡ Some y → y ≡ x
+  is_x : (k : ℕ) (y : TaskSlot) → item_at seats k ≡ Some y → y ≡ x
   is_x k y e = let f : Some y ≡ Some x = sym e ∙ ap (item_at seats) (is_key k y e) ∙ h in cc
 
   pub start_sound : IsSound seats owned
@@ -45,11 +45,11 @@ module _ (seats : List (Option Seat)) (owned : List (Option Owned)) (key : ℕ) 
     places = λ k n s y ey en. absurd (let f : None ≡ Some s = sym (numbers n) ∙ ap (λ z. number_of z n) (sym (is_x k y ey)) ∙ en in cc);
     owners = λ s o e. absurd (let f : None ≡ Some o = sym (none s) ∙ e in cc);
   } where
-    no_mother : (k m : ℕ) (y : Seat) → item_at seats k ≡ Some y → y.mother ≡ Some m → ⊥
-    no_mother k m y ey em = let f : None ≡ Some m = sym mother ∙ ap (λ (z : Seat). z.mother) (sym (is_x k y ey)) ∙ em in cc
+    no_mother : (k m : ℕ) (y : TaskSlot) → item_at seats k ≡ Some y → y.mother ≡ Some m → ⊥
+    no_mother k m y ey em = let f : None ≡ Some m = sym mother ∙ ap (λ (z : TaskSlot). z.mother) (sym (is_x k y ey)) ∙ em in cc
 
   not_named : (q : Name) → q ≢ x.name → seat_named seats q ≡ None
-  not_named q d = not_found seats q (λ k y g n. d (sym n ∙ ap (λ (z : Seat). z.name) (is_x k y g)))
+  not_named q d = not_found seats q (λ k y g n. d (sym n ∙ ap (λ (z : TaskSlot). z.name) (is_x k y g)))
 
   tasks_at : (q : Name) → get (directory seats owned).owners.tasks q ≡ get (first_owners x.name x.residence).tasks q
   tasks_at q =
@@ -64,7 +64,7 @@ module _ (seats : List (Option Seat)) (owned : List (Option Owned)) (key : ℕ) 
 
   entries_at : (e : Name × ℕ) → get (directory seats owned).owners.table e ≡ get (first_owners x.name x.residence).table e
   entries_at e = view-entry seats owned e.0 e.1 ∙ by (seat_named seats e.0) refl ∙ sym (get-empty entry_cmp e) where
-    by : (o : Option Seat) → seat_named seats e.0 ≡ o → entry_of o e.1 ≡ None
+    by : (o : Option TaskSlot) → seat_named seats e.0 ≡ o → entry_of o e.1 ≡ None
     by None f = refl
     by (Some y) f = let r = found_at seats e.0 y f in ap (λ z. number_of z e.1) (is_x r.0 y r.1) ∙ numbers e.1
 

@@ -13,8 +13,8 @@ use Rattle.mvs_model.specs.Owners.{Task, IsMother, has_subtask}
 use Rattle.mvs_model.proofs.Orders.{same_name_is, same_name_self}
 use Rattle.task_owner.specs.Tasks.{TasksValue, IsTask, name_of}
 use Rattle.task_owner.specs.Seats.{item_at, seat_named, mother_of, task_of, directory, IsSound, Distinct}
-use Rattle.task_owner.specs.declared.seat.Seat.{Seat}
-use Rattle.task_owner.specs.declared.seat.Owned.{Owned}
+use Rattle.task_owner.specs.declared.task_slot.TaskSlot.{TaskSlot}
+use Rattle.task_owner.specs.declared.task_slot.Owned.{Owned}
 use Rattle.task_owner.proofs.Places.{of_mapped}
 use Rattle.task_owner.proofs.Reading.{found_at, view-task, the_seat, name_is, a_task}
 use Rattle.mvs_model.proofs.Tests.{same_test}
@@ -33,10 +33,10 @@ module _ {X : Type 0} (m : FinMap name_cmp X) (p : X → Bool) where
     by q (Some v) e h = (q, v, e, h)
 
 -- the mother of a task, at keys and by names
-pub mother_key : (seats : List (Option Seat)) → Distinct seats → (m : Option ℕ) (key : ℕ) (x : Seat) → item_at seats key ≡ Some x → has (same_name x.name) (mother_of seats m) ≡ true → m ≡ Some key
+pub mother_key : (seats : List (Option TaskSlot)) → Distinct seats → (m : Option ℕ) (key : ℕ) (x : TaskSlot) → item_at seats key ≡ Some x → has (same_name x.name) (mother_of seats m) ≡ true → m ≡ Some key
 mother_key seats distinct None key x h e = absurd (let f : false ≡ true = e in cc)
 mother_key seats distinct (Some m) key x h e = by (item_at seats m) refl e where
-  by : (o : Option Seat) → item_at seats m ≡ o → has (same_name x.name) (option_map (λ y. y.name) o) ≡ true → Some m ≡ Some key
+  by : (o : Option TaskSlot) → item_at seats m ≡ o → has (same_name x.name) (option_map (λ y. y.name) o) ≡ true → Some m ≡ Some key
   by None f t = absurd (let g : false ≡ true = t in cc)
   by (Some z) f t = ap Some (distinct m key z x f h (sym (same_name_is x.name z.name t)))
 
@@ -45,11 +45,11 @@ abbrev attached_by : Name → Task → Bool
 attached_by t task = has (same_name t) task.mother
 
 -- the test of the map is that of the keys
-pub subtask_test : (seats : List (Option Seat)) (owned : List (Option Owned)) (d : TasksValue) (key id : ℕ) (e : directory seats owned ≡ d) (f : key ≡ id) (sound : IsSound seats owned) (active : IsTask d id)
-    → (r : Bool) → (IsTrue r → (k : ℕ) × (x : Seat) × (item_at seats k ≡ Some x) × (x.mother ≡ Some key)) → ((k : ℕ) × (x : Seat) × (item_at seats k ≡ Some x) × (x.mother ≡ Some key) → IsTrue r)
+pub subtask_test : (seats : List (Option TaskSlot)) (owned : List (Option Owned)) (d : TasksValue) (key id : ℕ) (e : directory seats owned ≡ d) (f : key ≡ id) (sound : IsSound seats owned) (active : IsTask d id)
+    → (r : Bool) → (IsTrue r → (k : ℕ) × (x : TaskSlot) × (item_at seats k ≡ Some x) × (x.mother ≡ Some key)) → ((k : ℕ) × (x : TaskSlot) × (item_at seats k ≡ Some x) × (x.mother ≡ Some key) → IsTrue r)
     → r ≡ has_subtask d.owners (name_of d id)
 subtask_test seats owned d key id e f sound active r there back = same_test r (has_subtask d.owners (name_of d id)) yes known where
-  mother : (x : Seat) × (item_at seats key ≡ Some x)
+  mother : (x : TaskSlot) × (item_at seats key ≡ Some x)
   mother = the_seat seats owned d key id e f active
 
   named : name_of d id ≡ mother.0.name
@@ -69,14 +69,14 @@ subtask_test seats owned d key id e f sound active r there back = same_test r (h
       back (at.0, y.0, at.1, mother_key seats sound.distinct y.0.mother key mother.0 mother.1 (ap (λ n. has (same_name n) (mother_of seats y.0.mother)) (sym named) ∙ ap (λ (t : Task). has (same_name (name_of d id)) t.mother) y.2 ∙ q.3))
 
 -- what is told of a subtask that was looked for
-pub child_test : (seats : List (Option Seat)) (owned : List (Option Owned)) (d : TasksValue) (key id : ℕ) (e : directory seats owned ≡ d) (f : key ≡ id) (sound : IsSound seats owned) (active : IsTask d id)
-    → (r : Option Name) → MatchOption r ((k : ℕ) (x : Seat) → item_at seats k ≡ Some x → x.mother ≢ Some key) (λ name. (k : ℕ) × (x : Seat) × (item_at seats k ≡ Some x) × (x.mother ≡ Some key) × (x.name ≡ name))
+pub child_test : (seats : List (Option TaskSlot)) (owned : List (Option Owned)) (d : TasksValue) (key id : ℕ) (e : directory seats owned ≡ d) (f : key ≡ id) (sound : IsSound seats owned) (active : IsTask d id)
+    → (r : Option Name) → MatchOption r ((k : ℕ) (x : TaskSlot) → item_at seats k ≡ Some x → x.mother ≢ Some key) (λ name. (k : ℕ) × (x : TaskSlot) × (item_at seats k ≡ Some x) × (x.mother ≡ Some key) × (x.name ≡ name))
     → is_some r ≡ has_subtask d.owners (name_of d id)
 child_test seats owned d key id e f sound active None none = subtask_test seats owned d key id e f sound active false (λ t. absurd (let g : false ≡ true = t in cc)) (λ c. absurd (none c.0 c.1 c.2 c.3))
 child_test seats owned d key id e f sound active (Some name) h = subtask_test seats owned d key id e f sound active true (λ _. (h.0, h.1, h.2, h.3)) (λ _. refl)
 
-child_mother : (seats : List (Option Seat)) (owned : List (Option Owned)) (d : TasksValue) (key id : ℕ) (e : directory seats owned ≡ d) (f : key ≡ id) (sound : IsSound seats owned) (active : IsTask d id)
-    → (name : Name) → (k : ℕ) × (x : Seat) × (item_at seats k ≡ Some x) × (x.mother ≡ Some key) × (x.name ≡ name) → IsMother d.owners (name_of d id) name
+child_mother : (seats : List (Option TaskSlot)) (owned : List (Option Owned)) (d : TasksValue) (key id : ℕ) (e : directory seats owned ≡ d) (f : key ≡ id) (sound : IsSound seats owned) (active : IsTask d id)
+    → (name : Name) → (k : ℕ) × (x : TaskSlot) × (item_at seats k ≡ Some x) × (x.mother ≡ Some key) × (x.name ≡ name) → IsMother d.owners (name_of d id) name
 child_mother seats owned d key id e f sound active name h =
     let mother = the_seat seats owned d key id e f active in
     subst (λ n. IsMother d.owners (name_of d id) n) h.4 (
@@ -85,8 +85,8 @@ child_mother seats owned d key id e f sound active name h =
       ap (mother_of seats) h.3 ∙ ap (option_map (λ y. y.name)) mother.1 ∙ ap Some (sym (name_is seats owned d key id e f sound mother.0 mother.1)),
     )
 
-pub child_told : (seats : List (Option Seat)) (owned : List (Option Owned)) (d : TasksValue) (key id : ℕ) (e : directory seats owned ≡ d) (f : key ≡ id) (sound : IsSound seats owned) (active : IsTask d id)
-    → (r : Option Name) → MatchOption r ((k : ℕ) (x : Seat) → item_at seats k ≡ Some x → x.mother ≢ Some key) (λ name. (k : ℕ) × (x : Seat) × (item_at seats k ≡ Some x) × (x.mother ≡ Some key) × (x.name ≡ name))
+pub child_told : (seats : List (Option TaskSlot)) (owned : List (Option Owned)) (d : TasksValue) (key id : ℕ) (e : directory seats owned ≡ d) (f : key ≡ id) (sound : IsSound seats owned) (active : IsTask d id)
+    → (r : Option Name) → MatchOption r ((k : ℕ) (x : TaskSlot) → item_at seats k ≡ Some x → x.mother ≢ Some key) (λ name. (k : ℕ) × (x : TaskSlot) × (item_at seats k ≡ Some x) × (x.mother ≡ Some key) × (x.name ≡ name))
     → IfSome r (λ name. IsMother d.owners (name_of d id) name)
 child_told seats owned d key id e f sound active None h = tt
 child_told seats owned d key id e f sound active (Some name) h = child_mother seats owned d key id e f sound active name h

@@ -9,8 +9,8 @@ use Rattle.mvs_model.specs.Finite.{Changes, has}
 use Rattle.mvs_model.specs.Owners.{Owners, SubpoolOf, Enters, EntersBelow, entry, owns, handed, is_given}
 use Rattle.task_owner.specs.Tasks.{TasksValue, name_at, name_of}
 use Rattle.task_owner.specs.Seats.{item_at}
-use Rattle.task_owner.specs.declared.seat.Seat.{Seat}
-use Rattle.task_owner.specs.declared.seat.Owned.{Owned}
+use Rattle.task_owner.specs.declared.task_slot.TaskSlot.{TaskSlot}
+use Rattle.task_owner.specs.declared.task_slot.Owned.{Owned}
 use Rattle.mvs_model.specs.Numbers.{subpool_numbers}
 
 -- what the subtask has under a number
@@ -29,7 +29,7 @@ abbrev pub with_given : GiftsValue → List (Option ℕ) → List (Option ℕ) �
 with_given gifts numbers subtask n = if gives gifts n then item_at numbers n else item_at subtask n
 
 -- a task that no longer has what it gives
-pub record Leaves (gifts : GiftsValue) (old now : Seat) : Type 0 where
+pub record Leaves (gifts : GiftsValue) (old now : TaskSlot) : Type 0 where
   pub name : now.name ≡ old.name
   pub mother : now.mother ≡ old.mother
   pub residence : now.residence ≡ old.residence

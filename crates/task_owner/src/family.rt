@@ -7,18 +7,18 @@ ghost use Rattle.slab.specs.Slab.{get, slab_len};
 ghost use Rattle.mvs_model.specs.Numbers.{most_subpools, most_tasks};
 ghost use Rattle.task_owner.specs.Seats.{Distinct, MothersActive};
 ghost use Rattle.task_owner.specs.Family.{Falls, IsFreed, OwnersHave};
-ghost use Rattle.task_owner.specs.declared.seat.Seat.{Seat};
+ghost use Rattle.task_owner.specs.declared.task_slot.TaskSlot.{TaskSlot};
 
 use crate::freed::collect_owned;
-use crate::seat::{Owned, Seat, seat_at};
+use crate::task_slot::{Owned, TaskSlot, seat_at};
 use mvs_model::request::TaskNames;
 use mvs_model::subpool_set::SubpoolSet;
 use slab::Slab;
 
 // A task whose mother is not active.
-fn orphan(active: &Slab<Seat>) -> Option<usize>
+fn orphan(active: &Slab<TaskSlot>) -> Option<usize>
     ensures { MatchOption result (MothersActive active.now.slots)
-        (λ k. (m : ℕ) × (x : Seat) × (get active.now k ≡ Some x) × (x.mother ≡ Some m)
+        (λ k. (m : ℕ) × (x : TaskSlot) × (get active.now k ≡ Some x) × (x.mother ≡ Some m)
         × (get active.now m ≡ None)) }
 {
     for (key, seat) in active.iter() {
@@ -33,7 +33,7 @@ fn orphan(active: &Slab<Seat>) -> Option<usize>
 
 // Takes a task and its descendants out, and puts the subpools that they own into the set; the names of the descendants.
 pub(crate) fn remove_family(
-    active: &mut Slab<Seat>,
+    active: &mut Slab<TaskSlot>,
     owned: &[Option<Owned>],
     t: usize,
     freed: &mut SubpoolSet,
@@ -45,7 +45,7 @@ pub(crate) fn remove_family(
     requires long { length owned.now ≡ most_subpools }
     requires owners { OwnersHave active.old.slots owned.now }
     requires none { freed.old ≡ [] }
-    ensures falls { (x : Seat) → get active.old t ≡ Some x
+    ensures falls { (x : TaskSlot) → get active.old t ≡ Some x
         → Falls active.old t x.name result active.new }
     ensures closed { MothersActive active.new.slots }
     ensures freed { IsFreed active.new owned.now freed.new }
@@ -62,7 +62,7 @@ pub(crate) fn remove_family(
 
 // Takes out a task that has no subtask, and puts the subpools that it owns into the set.
 pub(crate) fn remove_alone(
-    active: &mut Slab<Seat>,
+    active: &mut Slab<TaskSlot>,
     owned: &[Option<Owned>],
     t: usize,
     freed: &mut SubpoolSet,
@@ -70,11 +70,11 @@ pub(crate) fn remove_alone(
     requires there { IsSome (get active.old t) }
     requires distinct { Distinct active.old.slots }
     requires mothers { MothersActive active.old.slots }
-    requires alone { (k : ℕ) (x : Seat) → get active.old k ≡ Some x → x.mother ≢ Some t }
+    requires alone { (k : ℕ) (x : TaskSlot) → get active.old k ≡ Some x → x.mother ≢ Some t }
     requires long { length owned.now ≡ most_subpools }
     requires owners { OwnersHave active.old.slots owned.now }
     requires none { freed.old ≡ [] }
-    ensures falls { (x : Seat) → get active.old t ≡ Some x
+    ensures falls { (x : TaskSlot) → get active.old t ≡ Some x
         → Falls active.old t x.name [] active.new }
     ensures closed { MothersActive active.new.slots }
     ensures freed { IsFreed active.new owned.now freed.new }

@@ -8,10 +8,10 @@ ghost use Rattle.mvs_model.specs.Numbers.{most_subpools, subpool_numbers};
 ghost use Rattle.mvs_model.specs.Storage.{is_one_of};
 ghost use Rattle.task_owner.specs.Seats.{item_at, number_of};
 ghost use Rattle.task_owner.specs.Family.{is_of, is_freed_below, EntriesStand, IsLost, IsTrimmed, FreedBelow};
-ghost use Rattle.task_owner.specs.declared.seat.Seat.{Seat};
-ghost use Rattle.task_owner.specs.declared.seat.Owned.{Owned};
+ghost use Rattle.task_owner.specs.declared.task_slot.TaskSlot.{TaskSlot};
+ghost use Rattle.task_owner.specs.declared.task_slot.Owned.{Owned};
 
-use crate::seat::{Numbers, Owned, Seat};
+use crate::task_slot::{OwnNumbers, Owned, TaskSlot};
 use mvs_model::subpool::SubpoolId;
 use mvs_model::subpool_set::SubpoolSet;
 use slab::Slab;
@@ -33,7 +33,7 @@ fn collect(subpool: SubpoolId, key: usize, owned: &[Option<Owned>], freed: &mut 
 
 // Adds each subpool that the task at the key owns to the set. They are the entries of its numbers.
 pub(crate) fn collect_owned(
-    numbers: &Numbers,
+    numbers: &OwnNumbers,
     key: usize,
     owned: &[Option<Owned>],
     freed: &mut SubpoolSet,
@@ -53,7 +53,7 @@ pub(crate) fn collect_owned(
 }
 
 // Drops a task's entry for a subpool under a number, if it has it.
-fn lose(active: &mut Slab<Seat>, key: usize, number: usize, subpool: SubpoolId)
+fn lose(active: &mut Slab<TaskSlot>, key: usize, number: usize, subpool: SubpoolId)
     requires there { IsSome (get active.old key) }
     requires low { number < subpool_numbers }
     ensures lost { IsLost number subpool (get active.old key) (get active.new key) }
@@ -72,10 +72,10 @@ fn lose(active: &mut Slab<Seat>, key: usize, number: usize, subpool: SubpoolId)
 }
 
 // Whether a task has the subpool under the number.
-fn is_held(active: &Slab<Seat>, number: usize, subpool: SubpoolId) -> bool
+fn is_held(active: &Slab<TaskSlot>, number: usize, subpool: SubpoolId) -> bool
     requires { number < subpool_numbers }
     ensures { IsTrue result
-        ↔ ((k : ℕ) × (x : Seat) × (get active.now k ≡ Some x)
+        ↔ ((k : ℕ) × (x : TaskSlot) × (get active.now k ≡ Some x)
         × (number_of x number ≡ Some subpool)) }
 {
     for (_, seat) in active.iter() {
@@ -87,7 +87,7 @@ fn is_held(active: &Slab<Seat>, number: usize, subpool: SubpoolId) -> bool
 }
 
 // Drops each task's entry for a subpool under a number. Few subpools are still held when they fall free.
-fn drop_entries(active: &mut Slab<Seat>, number: usize, subpool: SubpoolId)
+fn drop_entries(active: &mut Slab<TaskSlot>, number: usize, subpool: SubpoolId)
     requires { number < subpool_numbers }
     ensures each { (k : ℕ) → IsLost number subpool (get active.old k) (get active.new k) }
     ensures len { slab_len active.new ≡ slab_len active.old }
@@ -105,7 +105,7 @@ fn drop_entries(active: &mut Slab<Seat>, number: usize, subpool: SubpoolId)
 
 // Removes the owner of each subpool of the set, and the entry of each task for it. A subpool has only one number.
 pub(crate) fn free_subpools(
-    active: &mut Slab<Seat>,
+    active: &mut Slab<TaskSlot>,
     owned: &mut Vec<Option<Owned>>,
     freed: &SubpoolSet,
 )

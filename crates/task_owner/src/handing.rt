@@ -6,16 +6,16 @@ ghost use Rattle.mvs_model.specs.Gifts.{gives};
 ghost use Rattle.mvs_model.specs.Numbers.{most_subpools, subpool_numbers};
 ghost use Rattle.task_owner.specs.Seats.{item_at};
 ghost use Rattle.task_owner.specs.Handing.{taken, left_over, with_given, with_shared, is_handed, owned_anew, passed_on, Leaves};
-ghost use Rattle.task_owner.specs.declared.seat.Seat.{Seat};
-ghost use Rattle.task_owner.specs.declared.seat.Owned.{Owned};
+ghost use Rattle.task_owner.specs.declared.task_slot.TaskSlot.{TaskSlot};
+ghost use Rattle.task_owner.specs.declared.task_slot.Owned.{Owned};
 
-use crate::seat::{Numbers, Owned, SLOTS, Seat};
+use crate::task_slot::{OwnNumbers, Owned, SLOTS, TaskSlot};
 use mvs_model::gifts::Gifts;
 use mvs_model::subpool::SubpoolId;
 use slab::Slab;
 
 // Copies the entries of shared numbers to a subtask.
-fn share(numbers: &Numbers, gifts: &Gifts, subtask: &mut Numbers)
+fn share(numbers: &OwnNumbers, gifts: &Gifts, subtask: &mut OwnNumbers)
     ensures { (n : ℕ) → n < subpool_numbers
         → item_at subtask.new n ≡ with_shared gifts.now numbers.now subtask.old n }
 {
@@ -27,7 +27,7 @@ fn share(numbers: &Numbers, gifts: &Gifts, subtask: &mut Numbers)
 }
 
 // Moves the entries of given numbers to a subtask.
-fn give(numbers: &mut Numbers, gifts: &Gifts, subtask: &mut Numbers)
+fn give(numbers: &mut OwnNumbers, gifts: &Gifts, subtask: &mut OwnNumbers)
     ensures left { (n : ℕ) → n < subpool_numbers
         → item_at numbers.new n ≡ left_over gifts.now numbers.old n }
     ensures given { (n : ℕ) → n < subpool_numbers
@@ -42,12 +42,12 @@ fn give(numbers: &mut Numbers, gifts: &Gifts, subtask: &mut Numbers)
 }
 
 // Takes what the task at the key gives; what it gives and shares.
-pub(crate) fn hand_over(active: &mut Slab<Seat>, mother: usize, gifts: &Gifts) -> Numbers
+pub(crate) fn hand_over(active: &mut Slab<TaskSlot>, mother: usize, gifts: &Gifts) -> OwnNumbers
     requires { IsSome (get active.old mother) }
-    ensures taken { (x : Seat) → get active.old mother ≡ Some x → (n : ℕ) → n < subpool_numbers
+    ensures taken { (x : TaskSlot) → get active.old mother ≡ Some x → (n : ℕ) → n < subpool_numbers
         → item_at result n ≡ taken gifts.now x.numbers n }
-    ensures left { (x : Seat) → get active.old mother ≡ Some x
-        → (y : Seat) × (get active.new mother ≡ Some y) × Leaves gifts.now x y }
+    ensures left { (x : TaskSlot) → get active.old mother ≡ Some x
+        → (y : TaskSlot) × (get active.new mother ≡ Some y) × Leaves gifts.now x y }
     ensures others { (k : ℕ) → k ≢ mother → get active.new k ≡ get active.old k }
     ensures len { slab_len active.new ≡ slab_len active.old }
     ensures capacity { active.new.capacity ≡ active.old.capacity }
@@ -85,7 +85,7 @@ fn pass(owned: &mut Vec<Option<Owned>>, mother: usize, key: usize, subpool: Subp
 // Makes the task at the key the owner of each subpool that the attaching task gives. They are the entries of the given numbers.
 pub(crate) fn pass_on(
     owned: &mut Vec<Option<Owned>>,
-    numbers: &Numbers,
+    numbers: &OwnNumbers,
     mother: usize,
     key: usize,
     gifts: &Gifts,

@@ -4,8 +4,8 @@
 mod family;
 mod freed;
 mod handing;
-mod seat;
 mod skipping;
+mod task_slot;
 mod tasks;
 
 pub use skipping::pass_none;

@@ -5,7 +5,7 @@ ghost use Rattle.std.specs.List.{Contains};
 ghost use Rattle.std.specs.List.Sorted.{IsStrictlySortedBy};
 ghost use Rattle.std.specs.Ordering.{nat_cmp};
 ghost use Rattle.std.specs.FinMap.{get, len};
-ghost use Rattle.mvs_model.specs.Finite.{has, kept};
+ghost use Rattle.mvs_model.specs.Finite.{has, filtered};
 ghost use Rattle.mvs_model.specs.Gifts.{gives};
 ghost use Rattle.mvs_model.specs.Consistent.{OwnersConsistent};
 ghost use Rattle.mvs_model.specs.Numbers.{most_subpools, most_tasks, subpool_numbers, task_numbers};
@@ -20,8 +20,8 @@ ghost use Rattle.task_owner.specs.Tasks.{name_at, IsTask, name_of, residence_of}
 use crate::family::{remove_alone, remove_family};
 use crate::freed::free_subpools;
 use crate::handing::{hand_over, pass_on};
-use crate::seat::{
-    Owned, SLOTS, Seat, enter, find_child, find_first, find_key, first_owned, first_spare,
+use crate::task_slot::{
+    Owned, SLOTS, TaskSlot, enter, find_child, find_first, find_key, first_owned, first_spare,
     no_owners, seat_at,
 };
 use mvs_model::error::OutOfMemory;
@@ -56,7 +56,7 @@ impl Model for TaskId {
 /// The active tasks, at most 32, and their subpools.
 #[derive(Drop)]
 pub struct Tasks {
-    active: Slab<Seat>,
+    active: Slab<TaskSlot>,
     owned: Vec<Option<Owned>>,
 }
 
@@ -98,7 +98,7 @@ impl Tasks {
         let Ok(owned) = no_owners(alloc) else {
             return Err(OutOfMemory);
         };
-        active.insert_reserved(Seat {
+        active.insert_reserved(TaskSlot {
             name,
             mother: None,
             residence,
@@ -111,7 +111,7 @@ impl Tasks {
     pub fn find(&self, name: &Name) -> Option<TaskId>
         ensures active { is_some result ≡ is_active self.now.owners name.now }
         ensures named { IfSome result (λ id. name_at self.now id ≡ Some name.now) }
-        ensures kept { OwnersConsistent self.now.owners }
+        ensures filtered { OwnersConsistent self.now.owners }
     {
         match find_key(&self.active, *name) {
             Some(key) => Some(TaskId { key }),
@@ -409,7 +409,7 @@ impl Tasks {
         ensures fresh { name_at self.old result ≡ None }
         ensures others { (k : ℕ) → k ≢ result → name_at self.new k ≡ name_at self.old k }
     {
-        let subtask = Seat {
+        let subtask = TaskSlot {
             name: *name,
             mother: Some(mother.key),
             residence,
@@ -433,7 +433,7 @@ impl Tasks {
         ensures rising { IsStrictlySortedBy nat_cmp result.freed }
         ensures names { (id : ℕ)
             → name_at self.new id
-            ≡ kept (λ x. not (is_among_ended (name_of self.old t) result.fallen x))
+            ≡ filtered (λ x. not (is_among_ended (name_of self.old t) result.fallen x))
             (name_at self.old id) }
     {
         let mut freed = SubpoolSet::empty();
@@ -466,7 +466,7 @@ impl Tasks {
         ensures label { MatchOption result (get self.now.owners.owner subpool ≡ None)
             (λ r. (get self.now.owners.owner subpool ≡ Some r.1)
             × (entry self.now.owners r.1 r.0 ≡ Some subpool)) }
-        ensures kept { OwnersConsistent self.now.owners }
+        ensures filtered { OwnersConsistent self.now.owners }
     {
         match self.owned[subpool.get() as usize] {
             Some(owned) => Some((

@@ -9,8 +9,8 @@ use Rattle.annotated.proofs.statements.Goals as goal
 pub lines-preserved : goal.lines-preserved
 lines-preserved c =
     let text = c.lines.rest.now in
-    let next = next_of text c.parted.result.1 _ c.unwrap_or-rest.result refl c.parted.ensures.after c.unwrap_or-rest.ensures in
-    let cut : lines_of text ≡ c.parted.result.0.now ∷ lines_of c.unwrap_or-rest.result.now = rw (next, c.parted.ensures.before) (first_line text (some_left text c.is_empty.result c.is_empty.ensures c.lines-test.true)) in
+    let next = next_of text c.split_once.result.1 _ c.unwrap_or-rest.result refl c.split_once.ensures.after c.unwrap_or-rest.ensures in
+    let cut : lines_of text ≡ c.split_once.result.0.now ∷ lines_of c.unwrap_or-rest.result.now = rw (next, c.split_once.ensures.before) (first_line text (some_left text c.is_empty.result c.is_empty.ensures c.lines-test.true)) in
     let run : c.push.new.self.items ≡ (c.lines.run.items ++ c.statement_of.result.now) ++ 10 ∷ [] = grind (arith, common_steps) in
     ap (λ r. r ++ ended_text (map statement_of (lines_of c.unwrap_or-rest.result.now))) run
-    ∙ run_more c.lines.run.items c.statement_of.result.now c.parted.result.0.now text c.unwrap_or-rest.result.now cut c.statement_of.ensures ∙ c.lines.invariant
+    ∙ run_more c.lines.run.items c.statement_of.result.now c.split_once.result.0.now text c.unwrap_or-rest.result.now cut c.statement_of.ensures ∙ c.lines.invariant

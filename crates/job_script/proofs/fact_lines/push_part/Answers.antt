@@ -5,4 +5,4 @@ use Rattle.job_script.proofs.Appending.{behind}
 use Rattle.job_script.proofs.fact_lines.push_part.Goals as goal
 
 pub returns-clause-text : goal.returns-clause-text
-returns-clause-text c = (behind c.args.text.now c.push_place.new.text c.push_all-5.new.self (codes "Pool " ++ trimmed c.args.pool.now ++ codes " has a new part for " ++ cells_text c.args.cells ++ codes " of " ++ decimal c.args.size ++ codes " bytes: " ++ place_text c.args.place) (codes ". (rule 57)") (behind c.args.text.now c.push_all-4.new.self c.push_place.new.text (codes "Pool " ++ trimmed c.args.pool.now ++ codes " has a new part for " ++ cells_text c.args.cells ++ codes " of " ++ decimal c.args.size ++ codes " bytes: ") (place_text c.args.place) (behind c.args.text.now c.push_decimal.new.self c.push_all-4.new.self (codes "Pool " ++ trimmed c.args.pool.now ++ codes " has a new part for " ++ cells_text c.args.cells ++ codes " of " ++ decimal c.args.size) (codes " bytes: ") (behind c.args.text.now c.push_all-3.new.self c.push_decimal.new.self (codes "Pool " ++ trimmed c.args.pool.now ++ codes " has a new part for " ++ cells_text c.args.cells ++ codes " of ") (decimal c.args.size) (behind c.args.text.now c.push_cells.new.text c.push_all-3.new.self (codes "Pool " ++ trimmed c.args.pool.now ++ codes " has a new part for " ++ cells_text c.args.cells) (codes " of ") (behind c.args.text.now c.push_all-2.new.self c.push_cells.new.text (codes "Pool " ++ trimmed c.args.pool.now ++ codes " has a new part for ") (cells_text c.args.cells) (behind c.args.text.now c.push_name.new.self c.push_all-2.new.self (codes "Pool " ++ trimmed c.args.pool.now) (codes " has a new part for ") (behind c.args.text.now c.push_all.new.self c.push_name.new.self (codes "Pool ") (trimmed c.args.pool.now) c.push_all.ensures.text c.push_name.ensures.text) c.push_all-2.ensures.text) c.push_cells.ensures.text) c.push_all-3.ensures.text) c.push_decimal.ensures.text) c.push_all-4.ensures.text) c.push_place.ensures.text) c.push_all-5.ensures.text)
+returns-clause-text c = (behind c.args.text.now c.push_place.new.text c.push_str-5.new.self (codes "Pool " ++ trimmed c.args.pool.now ++ codes " has a new part for " ++ cells_text c.args.cells ++ codes " of " ++ decimal c.args.size ++ codes " bytes: " ++ place_text c.args.place) (codes ". (rule 57)") (behind c.args.text.now c.push_str-4.new.self c.push_place.new.text (codes "Pool " ++ trimmed c.args.pool.now ++ codes " has a new part for " ++ cells_text c.args.cells ++ codes " of " ++ decimal c.args.size ++ codes " bytes: ") (place_text c.args.place) (behind c.args.text.now c.push_decimal.new.self c.push_str-4.new.self (codes "Pool " ++ trimmed c.args.pool.now ++ codes " has a new part for " ++ cells_text c.args.cells ++ codes " of " ++ decimal c.args.size) (codes " bytes: ") (behind c.args.text.now c.push_str-3.new.self c.push_decimal.new.self (codes "Pool " ++ trimmed c.args.pool.now ++ codes " has a new part for " ++ cells_text c.args.cells ++ codes " of ") (decimal c.args.size) (behind c.args.text.now c.push_cells.new.text c.push_str-3.new.self (codes "Pool " ++ trimmed c.args.pool.now ++ codes " has a new part for " ++ cells_text c.args.cells) (codes " of ") (behind c.args.text.now c.push_str-2.new.self c.push_cells.new.text (codes "Pool " ++ trimmed c.args.pool.now ++ codes " has a new part for ") (cells_text c.args.cells) (behind c.args.text.now c.push_name.new.self c.push_str-2.new.self (codes "Pool " ++ trimmed c.args.pool.now) (codes " has a new part for ") (behind c.args.text.now c.push_str.new.self c.push_name.new.self (codes "Pool ") (trimmed c.args.pool.now) c.push_str.ensures.text c.push_name.ensures.text) c.push_str-2.ensures.text) c.push_cells.ensures.text) c.push_str-3.ensures.text) c.push_decimal.ensures.text) c.push_str-4.ensures.text) c.push_place.ensures.text) c.push_str-5.ensures.text)

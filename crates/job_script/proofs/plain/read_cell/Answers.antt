@@ -6,8 +6,8 @@ use Rattle.job_script.proofs.plain.read_cell.Goals as goal
 pub returns-in-Some : goal.returns-in-Some
 returns-in-Some c = of_text _ _ _ (ap (λ t. codes " CPOOL " ++ t) c.in-Some.ensures) c.read_get.ensures
 
-pub returns-in-Some-behind : goal.returns-in-Some-behind
-returns-in-Some-behind c = of_text _ _ _ (ap (λ t. codes " CPOOL " ++ t) c.in-Some-behind.ensures) c.read_get-in-Some-behind.ensures
+pub returns-in-Some-strip_prefix : goal.returns-in-Some-strip_prefix
+returns-in-Some-strip_prefix c = of_text _ _ _ (ap (λ t. codes " CPOOL " ++ t) c.in-Some-strip_prefix.ensures) c.read_get-in-Some-strip_prefix.ensures
 
 pub returns : goal.returns
 returns c = of_text _ _ _ (ap (λ t. codes " CPOOL " ++ t) c.in_ok-rest.ensures) c.read_free.ensures

@@ -5,5 +5,5 @@ use Rattle.job_script.proofs.subtasks.+set.Goals as goal
 
 pub returns-in-None : goal.returns-in-None
 returns-in-None t c =
-    let parts = rw c.in-None.is at c.parted.ensures.parts in
-    c.bit.ensures ∙ ap (λ n. 2 ^ n) c.number.ensures ∙ sym (or_zero_r (2 ^ number c.parted.result.0.now)) ∙ ap (λ xs. set_of (map number xs)) (sym parts)
+    let parts = rw c.in-None.is at c.split_once.ensures.parts in
+    c.bit.ensures ∙ ap (λ n. 2 ^ n) c.number.ensures ∙ sym (or_zero_r (2 ^ number c.split_once.result.0.now)) ∙ ap (λ xs. set_of (map number xs)) (sym parts)

@@ -4,7 +4,7 @@ use Rattle.annotated.specs.ExpectedAnswers.{expected_of}
 use Rattle.annotated.specs.Reports.{counts_of, report_of}
 use Rattle.mvs_model.specs.Runs.{IsPrinting}
 use Rattle.mvsjob.specs.Checking.{IsReported, checked_ending, line_of}
-use Rattle.mvsjob.specs.Served.{IsFaultOf}
+use Rattle.mvsjob.specs.ModeResult.{IsFaultOf}
 use Rattle.mvsjob.proofs.answers.check_answers.Goals as goal
 
 pub returns : goal.returns

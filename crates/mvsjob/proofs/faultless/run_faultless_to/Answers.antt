@@ -9,7 +9,7 @@ use Rattle.mvs_job.specs.Consuming.{WritesText}
 use Rattle.mvs_job.specs.Streams.{StopsText}
 use Rattle.mvs_job.proofs.Forgetting.{ended_text, given_up_text}
 use Rattle.mvs_job.proofs.Printed.{err_so, ok_so}
-use Rattle.mvsjob.specs.Faultless.{StopsWithin, Writes, WritesPart, known_coming, without_faults}
+use Rattle.mvsjob.specs.FaultFilter.{StopsWithin, Writes, WritesPart, known_coming, without_faults}
 use Rattle.mvsjob.proofs.Coming.{written_by, written_part}
 use Rattle.mvsjob.proofs.Counting.{any_end}
 use Rattle.mvsjob.proofs.Limited.{failed_short, healthy_both, ok_limited, on_limited, read_limited, stops_within, write_limited}

@@ -83,12 +83,12 @@ returns-clause-agree c =
           (let v = c.get-3.ensures.value in let l = c.get-3.ensures.low in omega arith) (let v = c.get-3.ensures.value in let l = c.get-3.ensures.high in omega arith) c.requires.counted;
     }
 
-pub returns-clause-told : goal.returns-clause-told
-returns-clause-told c a e q chosen first =
+pub returns-clause-hint : goal.returns-clause-hint
+returns-clause-hint c a e q chosen first =
     let st = c.args.store.now.storage in
     let now = c.args.plan.now in
-    let told = subst (λ (plan : Plan). (q : PlaceValue) → c.args.told ≡ Some (q.addr + head_length plan.primary) → Chosen st.regions (holder st) c.args.subpool (part_want plan.cell_size plan.primary plan.side) q → Some c.in-Some.place ≡ Some q) c.plan.view_is c.in-Some.ensures.told in
-    let here : Some c.in-Some.place ≡ Some q = told q (e ∙ ap Some (first ∙ is_first_after (new_pool c.args.subpool now) now.primary _ _ q chosen)) chosen in
+    let hint = subst (λ (plan : Plan). (q : PlaceValue) → c.args.hint ≡ Some (q.addr + head_length plan.primary) → Chosen st.regions (holder st) c.args.subpool (part_want plan.cell_size plan.primary plan.side) q → Some c.in-Some.place ≡ Some q) c.plan.view_is c.in-Some.ensures.hint in
+    let here : Some c.in-Some.place ≡ Some q = hint q (e ∙ ap Some (first ∙ is_first_after (new_pool c.args.subpool now) now.primary _ _ q chosen)) chosen in
     let same : c.in-Some.place ≡ q = cc in
     let put = subst (λ (plan : Plan). get (pools_of c.insert.new.self c.lay_out.new.store.storage) c.args.name.now ≡ Some (with_part (new_pool c.args.subpool plan) plan.primary c.in-Some.place)) c.plan.view_is
     (put_here (state_of st nobody (pools_of c.args.self.now st)) (state_of c.lay_out.new.store.storage nobody (pools_of c.insert.new.self c.lay_out.new.store.storage)) c.args.name.now _ (built_there c nobody nobody).pools) in

@@ -70,14 +70,14 @@ returns-clause-agree c =
       counted = extended_counted c.args.self.now c.args.store.now.storage c.obtain_part.new.store.storage c.lay_out.new.store.storage c.put_word.new.store.storage c.requires.agree.parts g.1 c.args.name.now c.args.root.now c.requires.root c.in-Some.place grant lays k more w c.replace.new.self now (subst (λ n. 1 ≤ n) second c.get-2.ensures.low) (subst (λ n. n ≤ 65536) second c.get-2.ensures.high) (full_of_none (byte_of c.args.store.now.storage) c.args.root.now.first c.args.root.now.count (sym counted.free ∙ c.requires.full)) c.requires.agree.counted;
     }
 
-pub returns-in_default-clause-told : goal.returns-in_default-clause-told
-returns-in_default-clause-told c q e chosen =
-    let told = subst (λ (r : Root). (q : PlaceValue) → c.args.told ≡ Some (q.addr + head_length r.secondary) → MayAdd c.args.store.now.storage r q → None ≡ Some q) c.root.view_is c.in_default.ensures.told in
-    absurd (let never : None ≡ Some q = told q e chosen in cc)
+pub returns-in_default-clause-hint : goal.returns-in_default-clause-hint
+returns-in_default-clause-hint c q e chosen =
+    let hint = subst (λ (r : Root). (q : PlaceValue) → c.args.hint ≡ Some (q.addr + head_length r.secondary) → MayAdd c.args.store.now.storage r q → None ≡ Some q) c.root.view_is c.in_default.ensures.hint in
+    absurd (let never : None ≡ Some q = hint q e chosen in cc)
 
-pub returns-clause-told : goal.returns-clause-told
-returns-clause-told c q e chosen =
-    let told = subst (λ (r : Root). (q : PlaceValue) → c.args.told ≡ Some (q.addr + head_length r.secondary) → MayAdd c.args.store.now.storage r q → Some c.in-Some.place ≡ Some q) c.root.view_is c.in-Some.ensures.told in
-    let here : Some c.in-Some.place ≡ Some q = told q e chosen in
+pub returns-clause-hint : goal.returns-clause-hint
+returns-clause-hint c q e chosen =
+    let hint = subst (λ (r : Root). (q : PlaceValue) → c.args.hint ≡ Some (q.addr + head_length r.secondary) → MayAdd c.args.store.now.storage r q → Some c.in-Some.place ≡ Some q) c.root.view_is c.in-Some.ensures.hint in
+    let here : Some c.in-Some.place ≡ Some q = hint q e chosen in
     let same : c.in-Some.place ≡ q = cc in
     ap Some (c.with_part-extended.ensures ∙ ap (extended c.args.root.now) (c.addr-part.ensures ∙ ap (λ (p : PlaceValue). p.addr) same))

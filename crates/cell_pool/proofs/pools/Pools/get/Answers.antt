@@ -83,18 +83,18 @@ returns-clause-answer c o t =
     (subst (λ (r : Root). c.take_cell-2.result ≡ place_at (s.part + head_length (count_at (byte_of mid) s.part) + s.cell * r.cell_size) r.cell_size) e.1 taken.place)
     c.if-conditional.false o t)
 
-pub returns-then-has_free-clause-told : goal.returns-then-has_free-clause-told
-returns-then-has_free-clause-told c o a e =
+pub returns-then-has_free-clause-hint : goal.returns-then-has_free-clause-hint
+returns-then-has_free-clause-hint c o a e =
     let is = sym c.in-Some.ensures in
     let s = c.find_spot-spot.result in
     let spot = c.find_spot-spot.ensures in
     let taken = c.take_cell.ensures in
     takes_free c.args.self.now c.args.store.now.storage c.requires.parts c.args.name.now c.in-Some.root is o a c.args.first c.take_cell.result _
     (got_free c.args.self.now c.args.store.now.storage c.requires.parts c.args.name.now c.in-Some.root is s.part s.cell s.taken s.open_part c.take_cell.new.store.storage c.take_cell.result spot.free taken.taken taken.place)
-    (λ f. ap (λ (p : PlaceValue). p.addr) taken.place ∙ ap (λ n. s.part + head_length n + s.cell * c.in-Some.root.cell_size) (sym spot.count) ∙ sym (spot.told a e f))
+    (λ f. ap (λ (p : PlaceValue). p.addr) taken.place ∙ ap (λ n. s.part + head_length n + s.cell * c.in-Some.root.cell_size) (sym spot.count) ∙ sym (spot.hint a e f))
 
-pub returns-clause-told : goal.returns-clause-told
-returns-clause-told c o a told =
+pub returns-clause-hint : goal.returns-clause-hint
+returns-clause-hint c o a hint =
     let is = sym c.in-Some.ensures in
     let chain = chain_of c.args.self.now c.args.store.now.storage c.args.name.now c.in-Some.root c.requires.parts is in
     let all = all_taken c.args.store.now.storage c.in-Some.root chain (c.requires.counted c.args.name.now c.in-Some.root is) c.if-has_free.ensures in
@@ -104,9 +104,9 @@ returns-clause-told c o a told =
     let spot = c.find_spot-spot-2.ensures in
     takes_further c.args.self.now c.args.store.now.storage c.requires.parts c.args.name.now c.in-Some.root is o a c.args.first c.take_cell-2.result (none_free c.args.self.now c.args.store.now.storage c.requires.parts c.args.name.now c.args.conditional c.in-Some.root is all)
     (λ q i may first low at.
-    let put : Some c.in-Some-extend.extended ≡ Some (extended c.in-Some.root q.addr) = x.told q first may in
+    let put : Some c.in-Some-extend.extended ≡ Some (extended c.in-Some.root q.addr) = x.hint q first may in
     let same : c.in-Some-extend.extended ≡ extended c.in-Some.root q.addr = cc in
     let here : e.0 ≡ q.addr = ap (λ (r : Root). r.last) (sym e.1 ∙ same) in
     let free = fresh c.args.self.now c.args.store.now.storage c.requires.parts c.args.name.now c.args.conditional c.in-Some.root is all e.0 c.extend.new.self c.extend.new.store.storage e.2 x.agree.parts i a low (at ∙ ap (λ b. b + head_length c.in-Some.root.secondary + i * c.in-Some.root.cell_size) (sym here)) in
     ap (λ (p : PlaceValue). p.addr) c.take_cell-2.ensures.place ∙ ap (λ n. s.part + head_length n + s.cell * c.in-Some-extend.extended.cell_size) (sym spot.count)
-    ∙ sym (spot.told a told (subst (λ (r : Root). IsFreeCell (pool_of (byte_of c.extend.new.store.storage) r) a) (sym e.1) free)))
+    ∙ sym (spot.hint a hint (subst (λ (r : Root). IsFreeCell (pool_of (byte_of c.extend.new.store.storage) r) a) (sym e.1) free)))

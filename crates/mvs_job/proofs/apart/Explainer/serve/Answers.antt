@@ -18,8 +18,8 @@ returns g c = elim c.match-print_explanation.branch [
       rw (w.result-is, ← c.self.view_is) (record {
         told = c.in-Ok.ensures.ran.0;
         printed = c.in-Ok.ensures.ran.1;
-        behind = stands_behind _ _ c.args.walk.now set c.args.line.now c.tell.new.walk c.in-Ok.told (explanation_text c.tell.new.self (events_of_line c.args.walk.now.number c.tell.new.walk c.in-Ok.told) c.tell.new.walk.step) p.bytes c.in-Ok.ensures.behind;
-        lines = subst (λ later. RecordsOrigins c.args.walk.now set c.args.line.now c.tell.new.walk c.in-Ok.told later) (sym c.print_explanation.ensures.lines) c.in-Ok.ensures.lines;
+        behind = stands_behind _ _ c.args.walk.now set c.args.line.now c.run_line.new.walk c.in-Ok.told (explanation_text c.run_line.new.self (events_of_line c.args.walk.now.number c.run_line.new.walk c.in-Ok.told) c.run_line.new.walk.step) p.bytes c.in-Ok.ensures.behind;
+        lines = subst (λ later. RecordsOrigins c.args.walk.now set c.args.line.now c.run_line.new.walk c.in-Ok.told later) (sym c.print_explanation.ensures.lines) c.in-Ok.ensures.lines;
         full_answer = c.in-Ok.ensures.full_answer;
         number = c.in-Ok.ensures.number;
         memory = λ e. absurd (is_ok Memory e);
@@ -46,7 +46,7 @@ returns g c = elim c.match-print_explanation.branch [
 pub returns-in-Err-clause-memory : goal.returns-in-Err-clause-memory
 returns-in-Err-clause-memory g c = λ e.
     let is : c.in-Err.stop ≡ Memory = cc in
-    subst (λ stop. RunsLine (g.W.Write.contents c.args.writer.now.inner) (g.W.Write.contents c.tell.new.writer.inner) c.args.walk.now c.args.line.now c.tell.new.walk (Err stop)) is c.in-Err.ensures.ran
+    subst (λ stop. RunsLine (g.W.Write.contents c.args.writer.now.inner) (g.W.Write.contents c.run_line.new.writer.inner) c.args.walk.now c.args.line.now c.run_line.new.walk (Err stop)) is c.in-Err.ensures.ran
 
 pub returns-in-Err-clause-write : goal.returns-in-Err-clause-write
 returns-in-Err-clause-write g c = λ e. inl (c.in-Err.ensures.write e)

@@ -11,5 +11,5 @@ returns-in_default-clause-answer c = (inl (not_valid c.args.number c.in_default.
 pub returns-clause-answer : goal.returns-clause-answer
 returns-clause-answer c = rw (← c.in-Some.ensures.1) c.build_pool.ensures.answer
 
-pub returns-clause-told : goal.returns-clause-told
-returns-clause-told c = subst (λ n. OnOk c.build_pool.result (TakesPool c.args.self.now.state (task_name c.args.self.now c.args.t) n c.args.pool.now c.args.plan.now c.args.told c.build_pool.new.self.state)) c.in-Some.ensures.1 c.build_pool.ensures.told
+pub returns-clause-hints : goal.returns-clause-hints
+returns-clause-hints c = subst (λ n. OnOk c.build_pool.result (TakesPool c.args.self.now.state (task_name c.args.self.now c.args.t) n c.args.pool.now c.args.plan.now c.args.hints c.build_pool.new.self.state)) c.in-Some.ensures.1 c.build_pool.ensures.hints

@@ -19,17 +19,17 @@ returns-else-is_ok-clause-answer c = rw (← c.self.view_is)
     (not_built c.self.inside.pools c.build-built.new.self c.self.inside.store.storage c.build-built.new.store.storage c.self.inside.tasks.owners (name_of c.self.inside.tasks c.args.t) c.args.pool.now c.args.number c.spare-subpool.result _ c.self.invariant c.requires.valid c.build-built.result
     (sym c.is_ok.ensures.value ∙ c.if-is_ok.false) (sym c.subpool.ensures ∙ c.in-None.is) c.spare-subpool.ensures c.build-built.ensures.refused c.build-built.ensures.unchanged c.build-built.ensures.pools_unchanged)
 
-pub returns-in-Some-clause-told : goal.returns-in-Some-clause-told
-returns-in-Some-clause-told c = rw (← c.self.view_is)
+pub returns-in-Some-clause-hints : goal.returns-in-Some-clause-hints
+returns-in-Some-clause-hints c = rw (← c.self.view_is)
     (pool_takes c.self.inside.pools c.build.new.self c.self.inside.store.storage c.build.new.store.storage c.self.inside.tasks.owners c.self.inside.tasks.owners (name_of c.self.inside.tasks c.args.t) c.args.pool.now c.args.number c.in-Some.subpool _ c.self.invariant
-    (its_subpool _ _ _ _ (sym c.subpool.ensures ∙ c.in-Some.is)) c.args.told c.build.result c.build.ensures.told)
+    (its_subpool _ _ _ _ (sym c.subpool.ensures ∙ c.in-Some.is)) c.args.hints c.build.result c.build.ensures.hints)
 
-pub returns-then-is_ok-clause-told : goal.returns-then-is_ok-clause-told
-returns-then-is_ok-clause-told c = rw (← c.self.view_is)
+pub returns-then-is_ok-clause-hints : goal.returns-then-is_ok-clause-hints
+returns-then-is_ok-clause-hints c = rw (← c.self.view_is)
     (pool_takes c.self.inside.pools c.build-built.new.self c.self.inside.store.storage c.build-built.new.store.storage c.self.inside.tasks.owners c.bind.new.self.owners (name_of c.self.inside.tasks c.args.t) c.args.pool.now c.args.number c.spare-subpool.result _ c.self.invariant
-    (new_subpool _ _ _ _ (sym c.subpool.ensures ∙ c.in-None.is) c.spare-subpool.ensures) c.args.told c.build-built.result c.build-built.ensures.told)
+    (new_subpool _ _ _ _ (sym c.subpool.ensures ∙ c.in-None.is) c.spare-subpool.ensures) c.args.hints c.build-built.result c.build-built.ensures.hints)
 
-pub returns-else-is_ok-clause-told : goal.returns-else-is_ok-clause-told
-returns-else-is_ok-clause-told c = rw (← c.self.view_is)
+pub returns-else-is_ok-clause-hints : goal.returns-else-is_ok-clause-hints
+returns-else-is_ok-clause-hints c = rw (← c.self.view_is)
     (pool_takes c.self.inside.pools c.build-built.new.self c.self.inside.store.storage c.build-built.new.store.storage c.self.inside.tasks.owners c.self.inside.tasks.owners (name_of c.self.inside.tasks c.args.t) c.args.pool.now c.args.number c.spare-subpool.result _ c.self.invariant
-    (new_subpool _ _ _ _ (sym c.subpool.ensures ∙ c.in-None.is) c.spare-subpool.ensures) c.args.told c.build-built.result c.build-built.ensures.told)
+    (new_subpool _ _ _ _ (sym c.subpool.ensures ∙ c.in-None.is) c.spare-subpool.ensures) c.args.hints c.build-built.result c.build-built.ensures.hints)

@@ -32,5 +32,5 @@ returns-in-Some-obtain_area-clause-answer c =
     let enough : ShortOf old (keeper old.owners t c.args.number) c.args.number want → ⊥ = λ s. no_grant old (keeper old.owners t c.args.number) c.args.number want p new (round8_some c.args.ask.now.least c.in-Some-obtain_area.ensures.some) s grant in
     ((is_valid c.args.number c.in-Some.ensures.0, (enough, tt)), (p, refl, grant))
 
-pub returns-in-Some-obtain_area-clause-told : goal.returns-in-Some-obtain_area-clause-told
-returns-in-Some-obtain_area-clause-told c = subst (λ n. TakesArea c.args.self.now.state (task_name c.args.self.now c.args.t) c.args.form n c.args.ask.now c.args.told c.in-Some-obtain_area.place) c.in-Some.ensures.1 c.in-Some-obtain_area.ensures.told
+pub returns-in-Some-obtain_area-clause-hints : goal.returns-in-Some-obtain_area-clause-hints
+returns-in-Some-obtain_area-clause-hints c = subst (λ n. TakesArea c.args.self.now.state (task_name c.args.self.now c.args.t) c.args.form n c.args.ask.now c.args.hints c.in-Some-obtain_area.place) c.in-Some.ensures.1 c.in-Some-obtain_area.ensures.hints

@@ -47,22 +47,22 @@ invariant_of-self c = area_agrees c.self.inside.pools c.self.inside.store.storag
 pub invariant_of-self-in-None : goal.invariant_of-self-in-None
 invariant_of-self-in-None c = area_agrees c.self.inside.pools c.self.inside.store.storage c.obtain-in-None.new.self.storage c.spare-subpool.result c.want-want.result c.obtain-in-None.result c.self.invariant c.obtain-in-None.ensures.storage c.obtain-in-None.ensures.grant
 
-pub returns-in-Some-clause-told : goal.returns-in-Some-clause-told
-returns-in-Some-clause-told c = rw (← c.self.view_is) (
+pub returns-in-Some-clause-hints : goal.returns-in-Some-clause-hints
+returns-in-Some-clause-hints c = rw (← c.self.view_is) (
     let o = c.self.inside.tasks.owners in
     let st = machine_state c.self.inside.pools c.self.inside.store.storage o in
     let wanted = want_seen st (name_of c.self.inside.tasks c.args.t) _ c.args.form c.args.ask.now _ _ _ _ _ refl c.residence.ensures c.loc.ensures c.side.ensures c.form_side.ensures c.want-want.ensures.want in
     let has = sym c.subpool.ensures ∙ c.in-Some.is in
     let t = keeper o (name_of c.self.inside.tasks c.args.t) c.args.number in
-    subst (λ (w : WantValue). IfSome c.obtain.result (λ p. (a : ℕ) → c.args.told ≡ Some a → FollowsHint st t c.args.number w a p)) wanted
-    (area_takes c.self.inside.pools c.self.inside.store.storage o t c.args.number c.in-Some.subpool c.want-want.result c.args.told c.obtain.result c.self.invariant (its_subpool o t c.args.number c.in-Some.subpool has) c.obtain.ensures.told))
+    subst (λ (w : WantValue). IfSome c.obtain.result (λ p. (a : ℕ) → c.args.hints ≡ Some a → FollowsHint st t c.args.number w a p)) wanted
+    (area_takes c.self.inside.pools c.self.inside.store.storage o t c.args.number c.in-Some.subpool c.want-want.result c.args.hints c.obtain.result c.self.invariant (its_subpool o t c.args.number c.in-Some.subpool has) c.obtain.ensures.hints))
 
-pub returns-in-Some-obtain-clause-told : goal.returns-in-Some-obtain-clause-told
-returns-in-Some-obtain-clause-told c = rw (← c.self.view_is) (
+pub returns-in-Some-obtain-clause-hints : goal.returns-in-Some-obtain-clause-hints
+returns-in-Some-obtain-clause-hints c = rw (← c.self.view_is) (
     let o = c.self.inside.tasks.owners in
     let st = machine_state c.self.inside.pools c.self.inside.store.storage o in
     let wanted = want_seen st (name_of c.self.inside.tasks c.args.t) _ c.args.form c.args.ask.now _ _ _ _ _ refl c.residence.ensures c.loc.ensures c.side.ensures c.form_side.ensures c.want-want.ensures.want in
     let none = sym c.subpool.ensures ∙ c.in-None.is in
     let t = keeper o (name_of c.self.inside.tasks c.args.t) c.args.number in
-    subst (λ (w : WantValue). (a : ℕ) → c.args.told ≡ Some a → FollowsHint st t c.args.number w a c.in-Some-obtain.place) wanted
-    (area_takes c.self.inside.pools c.self.inside.store.storage o t c.args.number c.spare-subpool.result c.want-want.result c.args.told (Some c.in-Some-obtain.place) c.self.invariant (new_subpool o t c.args.number c.spare-subpool.result none c.spare-subpool.ensures) c.in-Some-obtain.ensures.told))
+    subst (λ (w : WantValue). (a : ℕ) → c.args.hints ≡ Some a → FollowsHint st t c.args.number w a c.in-Some-obtain.place) wanted
+    (area_takes c.self.inside.pools c.self.inside.store.storage o t c.args.number c.spare-subpool.result c.want-want.result c.args.hints (Some c.in-Some-obtain.place) c.self.invariant (new_subpool o t c.args.number c.spare-subpool.result none c.spare-subpool.ensures) c.in-Some-obtain.ensures.hints))

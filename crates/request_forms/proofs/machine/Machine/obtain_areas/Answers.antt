@@ -15,26 +15,26 @@ returns-in-Err-clause-granted c = rw (← c.self.view_is) (
 
 pub returns-in-Some-clause-granted : goal.returns-in-Some-clause-granted
 returns-in-Some-clause-granted c = rw (← c.self.view_is)
-    (areas_of c.self.inside.pools c.self.inside.store.storage c.grant_each.new.store.storage c.self.inside.tasks.owners (keeper c.self.inside.tasks.owners (name_of c.self.inside.tasks c.args.t) c.args.number) c.args.number c.in-Some.subpool c.args.start c.as_slice.result.now c.args.lengths.now c.args.told.now c.grant_each.result
+    (areas_of c.self.inside.pools c.self.inside.store.storage c.grant_each.new.store.storage c.self.inside.tasks.owners (keeper c.self.inside.tasks.owners (name_of c.self.inside.tasks c.args.t) c.args.number) c.args.number c.in-Some.subpool c.args.start c.as_slice.result.now c.args.lengths.now c.args.hints.now c.grant_each.result
     c.self.invariant c.as_slice.ensures.items (sym c.subpool.ensures ∙ c.in-Some.is) c.grant_each.ensures.places)
 
 pub returns-in-Ok-clause-granted : goal.returns-in-Ok-clause-granted
 returns-in-Ok-clause-granted c = rw (← c.self.view_is)
-    (new_areas c.self.inside.pools c.self.inside.store.storage c.grant_each-in-None.new.store.storage c.self.inside.tasks.owners c.bind.new.self.owners (keeper c.self.inside.tasks.owners (name_of c.self.inside.tasks c.args.t) c.args.number) c.args.number c.spare-subpool.result c.args.start c.as_slice-in-None.result.now c.args.lengths.now c.args.told.now c.in-Ok.places
+    (new_areas c.self.inside.pools c.self.inside.store.storage c.grant_each-in-None.new.store.storage c.self.inside.tasks.owners c.bind.new.self.owners (keeper c.self.inside.tasks.owners (name_of c.self.inside.tasks c.args.t) c.args.number) c.args.number c.spare-subpool.result c.args.start c.as_slice-in-None.result.now c.args.lengths.now c.args.hints.now c.in-Ok.places
     c.self.invariant c.as_slice-in-None.ensures.items c.as_slice-in-None.ensures.least (sym c.subpool.ensures ∙ c.in-None.is) c.spare-subpool.ensures (bound_keeper c.self.inside.tasks.owners (name_of c.self.inside.tasks c.args.t) _ c.args.number c.spare-subpool.result c.bind.new.self.owners refl c.bind.ensures.binds) c.in-Ok.ensures.places)
 
 pub invariant_of-self : goal.invariant_of-self
-invariant_of-self c = areas_agree c.self.inside.pools c.self.inside.store.storage c.grant_each.new.store.storage c.in-Some.subpool c.args.start c.as_slice.result.now c.args.told.now c.grant_each.result c.self.invariant c.grant_each.ensures.places
+invariant_of-self c = areas_agree c.self.inside.pools c.self.inside.store.storage c.grant_each.new.store.storage c.in-Some.subpool c.args.start c.as_slice.result.now c.args.hints.now c.grant_each.result c.self.invariant c.grant_each.ensures.places
 
 pub invariant_of-self-in-None : goal.invariant_of-self-in-None
-invariant_of-self-in-None c = areas_agree c.self.inside.pools c.self.inside.store.storage c.grant_each-in-None.new.store.storage c.spare-subpool.result c.args.start c.as_slice-in-None.result.now c.args.told.now c.grant_each-in-None.result c.self.invariant c.grant_each-in-None.ensures.places
+invariant_of-self-in-None c = areas_agree c.self.inside.pools c.self.inside.store.storage c.grant_each-in-None.new.store.storage c.spare-subpool.result c.args.start c.as_slice-in-None.result.now c.args.hints.now c.grant_each-in-None.result c.self.invariant c.grant_each-in-None.ensures.places
 
-pub returns-in-Some-clause-told : goal.returns-in-Some-clause-told
-returns-in-Some-clause-told c = rw (← c.self.view_is)
-    (areas_take c.self.inside.pools c.self.inside.store.storage c.grant_each.new.store.storage c.self.inside.tasks.owners (keeper c.self.inside.tasks.owners (name_of c.self.inside.tasks c.args.t) c.args.number) c.args.number c.in-Some.subpool c.args.start c.as_slice.result.now c.args.lengths.now c.args.told.now c.grant_each.result
+pub returns-in-Some-clause-hints : goal.returns-in-Some-clause-hints
+returns-in-Some-clause-hints c = rw (← c.self.view_is)
+    (areas_take c.self.inside.pools c.self.inside.store.storage c.grant_each.new.store.storage c.self.inside.tasks.owners (keeper c.self.inside.tasks.owners (name_of c.self.inside.tasks c.args.t) c.args.number) c.args.number c.in-Some.subpool c.args.start c.as_slice.result.now c.args.lengths.now c.args.hints.now c.grant_each.result
     c.self.invariant c.as_slice.ensures.items (sym c.subpool.ensures ∙ c.in-Some.is) c.grant_each.ensures.places)
 
-pub returns-in-Ok-clause-told : goal.returns-in-Ok-clause-told
-returns-in-Ok-clause-told c = rw (← c.self.view_is)
-    (new_areas_take c.self.inside.pools c.self.inside.store.storage c.grant_each-in-None.new.store.storage c.self.inside.tasks.owners c.bind.new.self.owners (keeper c.self.inside.tasks.owners (name_of c.self.inside.tasks c.args.t) c.args.number) c.args.number c.spare-subpool.result c.args.start c.as_slice-in-None.result.now c.args.lengths.now c.args.told.now c.in-Ok.places
+pub returns-in-Ok-clause-hints : goal.returns-in-Ok-clause-hints
+returns-in-Ok-clause-hints c = rw (← c.self.view_is)
+    (new_areas_take c.self.inside.pools c.self.inside.store.storage c.grant_each-in-None.new.store.storage c.self.inside.tasks.owners c.bind.new.self.owners (keeper c.self.inside.tasks.owners (name_of c.self.inside.tasks c.args.t) c.args.number) c.args.number c.spare-subpool.result c.args.start c.as_slice-in-None.result.now c.args.lengths.now c.args.hints.now c.in-Ok.places
     c.self.invariant c.as_slice-in-None.ensures.items c.as_slice-in-None.ensures.least (sym c.subpool.ensures ∙ c.in-None.is) c.spare-subpool.ensures (bound_keeper c.self.inside.tasks.owners (name_of c.self.inside.tasks c.args.t) _ c.args.number c.spare-subpool.result c.bind.new.self.owners refl c.bind.ensures.binds) c.in-Ok.ensures.places)

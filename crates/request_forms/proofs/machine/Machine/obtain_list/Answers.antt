@@ -36,5 +36,5 @@ returns-in-Ok-clause-answer c = λ form.
     let grant = subst (λ n. ListGrant old (keeper old.owners t n) n (list_wants c.args.lengths.now c.args.start) c.in-Ok.places c.obtain_areas.new.self.state) c.in-Some.ensures.1 c.in-Ok.ensures.granted in
     ((is_valid c.args.number c.in-Some.ensures.0, (tt, tt)), (c.in-Ok.places, refl, grant))
 
-pub returns-in-Ok-clause-told : goal.returns-in-Ok-clause-told
-returns-in-Ok-clause-told c = subst (λ n. TakesAreas c.args.self.now.state (task_name c.args.self.now c.args.t) n c.args.lengths.now c.args.start c.args.told.now c.in-Ok.places c.obtain_areas.new.self.state) c.in-Some.ensures.1 c.in-Ok.ensures.told
+pub returns-in-Ok-clause-hints : goal.returns-in-Ok-clause-hints
+returns-in-Ok-clause-hints c = subst (λ n. TakesAreas c.args.self.now.state (task_name c.args.self.now c.args.t) n c.args.lengths.now c.args.start c.args.hints.now c.in-Ok.places c.obtain_areas.new.self.state) c.in-Some.ensures.1 c.in-Ok.ensures.hints

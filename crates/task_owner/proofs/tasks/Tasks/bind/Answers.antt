@@ -1,6 +1,6 @@
 use Rattle.std.proofs.Common.{◌<◌, ◌∙◌, [], ap, arith, is_some, length, length-set, Some, unwrap_or}
 use Rattle.mvs_model.specs.Owners.{entry}
-use Rattle.task_owner.specs.declared.seat.Owned.{Owned}
+use Rattle.task_owner.specs.declared.task_slot.Owned.{Owned}
 use Rattle.task_owner.proofs.tasks.Tasks.bind.Goals as goal
 use Rattle.task_owner.proofs.Reading.{is_seat}
 use Rattle.task_owner.proofs.Keepers.{keeper_place}

@@ -1,7 +1,7 @@
 use Rattle.std.proofs.Common.{not, sym, subst, arith}
 use Rattle.mvs_model.specs.Owners.{is_among_ended}
 use Rattle.task_owner.specs.Family.{IsFreed, OwnersHave}
-use Rattle.task_owner.specs.declared.seat.Seat.{Seat}
+use Rattle.task_owner.specs.declared.task_slot.TaskSlot.{TaskSlot}
 use Rattle.task_owner.proofs.tasks.Tasks.end.Goals as goal
 use Rattle.task_owner.proofs.Reading.{is_seat, the_seat}
 use Rattle.task_owner.proofs.Collecting.{number_inside}
@@ -19,7 +19,7 @@ free_subpools-requires-clause-low c = λ s o h. let x = c.self.invariant.0.owner
 pub free_subpools-requires-clause-entries : goal.free_subpools-requires-clause-entries
 free_subpools-requires-clause-entries c =
     let y = the_seat _ _ _ _ _ c.self.view_is c.t.view_is c.requires in
-    still_stand c.self.inside.active c.remove_family-names.new.active c.self.inside.owned.items (λ (x : Seat). not (is_among_ended y.0.name c.remove_family-names.result x.name)) c.self.invariant.0
+    still_stand c.self.inside.active c.remove_family-names.new.active c.self.inside.owned.items (λ (x : TaskSlot). not (is_among_ended y.0.name c.remove_family-names.result x.name)) c.self.invariant.0
     (c.remove_family-names.ensures.falls y.0 y.1).kept
 
 pub free_subpools-requires-clause-owned : goal.free_subpools-requires-clause-owned
@@ -32,7 +32,7 @@ invariant_of-self c =
     let y = the_seat _ _ _ _ _ c.self.view_is c.t.view_is c.requires in
     let falls = c.remove_family-names.ensures.falls y.0 y.1 in
     let owned = c.self.inside.owned.items in
-    let stand = still_stand c.self.inside.active c.remove_family-names.new.active owned (λ (x : Seat). not (is_among_ended y.0.name c.remove_family-names.result x.name)) c.self.invariant.0 falls.kept in
+    let stand = still_stand c.self.inside.active c.remove_family-names.new.active owned (λ (x : TaskSlot). not (is_among_ended y.0.name c.remove_family-names.result x.name)) c.self.invariant.0 falls.kept in
     let is_freed = subst (λ os. IsFreed c.remove_family-names.new.active os c.remove_family-names.new.freed) c.as_slice.ensures.value c.remove_family-names.ensures.freed in
     let below = c.free_subpools.ensures in (
       (ended c.self.inside.active c.remove_family-names.new.active c.free_subpools.new.active owned c.free_subpools.new.owned.items _ _ _ c.self.view_is c.t.view_is c.self.invariant.0 c.requires
@@ -49,7 +49,7 @@ returns c =
     let y = the_seat _ _ _ _ _ c.self.view_is c.t.view_is c.requires in
     let falls = c.remove_family-names.ensures.falls y.0 y.1 in
     let owned = c.self.inside.owned.items in
-    let stand = still_stand c.self.inside.active c.remove_family-names.new.active owned (λ (x : Seat). not (is_among_ended y.0.name c.remove_family-names.result x.name)) c.self.invariant.0 falls.kept in
+    let stand = still_stand c.self.inside.active c.remove_family-names.new.active owned (λ (x : TaskSlot). not (is_among_ended y.0.name c.remove_family-names.result x.name)) c.self.invariant.0 falls.kept in
     let is_freed = subst (λ os. IsFreed c.remove_family-names.new.active os c.remove_family-names.new.freed) c.as_slice.ensures.value c.remove_family-names.ensures.freed in
     let below = c.free_subpools.ensures in
     let r = ended c.self.inside.active c.remove_family-names.new.active c.free_subpools.new.active owned c.free_subpools.new.owned.items _ _ _ c.self.view_is c.t.view_is c.self.invariant.0 c.requires

@@ -5,7 +5,7 @@ use Rattle.mvs_model.specs.Name.{name_cmp}
 use Rattle.mvs_model.specs.Owners.{is_among_ended, has_subtask}
 use Rattle.task_owner.specs.Tasks.{name_of}
 use Rattle.task_owner.specs.Family.{IsFreed, OwnersHave}
-use Rattle.task_owner.specs.declared.seat.Seat.{Seat}
+use Rattle.task_owner.specs.declared.task_slot.TaskSlot.{TaskSlot}
 use Rattle.task_owner.proofs.tasks.Tasks.end_alone.Goals as goal
 use Rattle.task_owner.proofs.Reading.{is_seat, the_seat}
 use Rattle.task_owner.proofs.Collecting.{number_inside}
@@ -35,7 +35,7 @@ free_subpools-requires-clause-low c = λ s o h. let x = c.self.invariant.0.owner
 pub free_subpools-requires-clause-entries : goal.free_subpools-requires-clause-entries
 free_subpools-requires-clause-entries c =
     let y = the_seat _ _ _ _ _ c.self.view_is c.t.view_is c.requires.active in
-    still_stand c.self.inside.active c.remove_alone.new.active c.self.inside.owned.items (λ (x : Seat). not (is_among_ended y.0.name [] x.name)) c.self.invariant.0
+    still_stand c.self.inside.active c.remove_alone.new.active c.self.inside.owned.items (λ (x : TaskSlot). not (is_among_ended y.0.name [] x.name)) c.self.invariant.0
     (c.remove_alone.ensures.falls y.0 y.1).kept
 
 pub free_subpools-requires-clause-owned : goal.free_subpools-requires-clause-owned
@@ -48,7 +48,7 @@ invariant_of-self c =
     let y = the_seat _ _ _ _ _ c.self.view_is c.t.view_is c.requires.active in
     let falls = c.remove_alone.ensures.falls y.0 y.1 in
     let owned = c.self.inside.owned.items in
-    let stand = still_stand c.self.inside.active c.remove_alone.new.active owned (λ (x : Seat). not (is_among_ended y.0.name [] x.name)) c.self.invariant.0 falls.kept in
+    let stand = still_stand c.self.inside.active c.remove_alone.new.active owned (λ (x : TaskSlot). not (is_among_ended y.0.name [] x.name)) c.self.invariant.0 falls.kept in
     let is_freed = subst (λ os. IsFreed c.remove_alone.new.active os c.remove_alone.new.freed) c.as_slice.ensures.value c.remove_alone.ensures.freed in
     let below = c.free_subpools.ensures in (
       (ended c.self.inside.active c.remove_alone.new.active c.free_subpools.new.active owned c.free_subpools.new.owned.items _ _ _ c.self.view_is c.t.view_is c.self.invariant.0 c.requires.active
@@ -65,7 +65,7 @@ returns c =
     let y = the_seat _ _ _ _ _ c.self.view_is c.t.view_is c.requires.active in
     let falls = c.remove_alone.ensures.falls y.0 y.1 in
     let owned = c.self.inside.owned.items in
-    let stand = still_stand c.self.inside.active c.remove_alone.new.active owned (λ (x : Seat). not (is_among_ended y.0.name [] x.name)) c.self.invariant.0 falls.kept in
+    let stand = still_stand c.self.inside.active c.remove_alone.new.active owned (λ (x : TaskSlot). not (is_among_ended y.0.name [] x.name)) c.self.invariant.0 falls.kept in
     let is_freed = subst (λ os. IsFreed c.remove_alone.new.active os c.remove_alone.new.freed) c.as_slice.ensures.value c.remove_alone.ensures.freed in
     let below = c.free_subpools.ensures in
     let r = ended c.self.inside.active c.remove_alone.new.active c.free_subpools.new.active owned c.free_subpools.new.owned.items _ _ _ c.self.view_is c.t.view_is c.self.invariant.0 c.requires.active

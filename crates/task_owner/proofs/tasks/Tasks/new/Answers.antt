@@ -1,15 +1,15 @@
 use Rattle.std.proofs.Common.{◌≡◌, ap, ◌∙◌, Option, None, length, replicate, count_by, is_some, refl, arith}
 use Rattle.std.proofs.lemmas.List.{length-replicate}
 use Rattle.task_owner.specs.Seats.{item_at}
-use Rattle.task_owner.specs.declared.seat.Seat.{Seat}
-use Rattle.task_owner.specs.declared.seat.Owned.{Owned}
+use Rattle.task_owner.specs.declared.task_slot.TaskSlot.{TaskSlot}
+use Rattle.task_owner.specs.declared.task_slot.Owned.{Owned}
 use Rattle.task_owner.proofs.tasks.Tasks.new.Goals as goal
 use Rattle.task_owner.proofs.Places.{none_everywhere}
 use Rattle.task_owner.proofs.Starting.{start_sound, starts, no_numbers}
 
 pub invariant_of-result : goal.invariant_of-result
 invariant_of-result c =
-    let x : Seat = record { name = c.args.name; mother = None; residence = c.args.residence; numbers = replicate 133 None } in
+    let x : TaskSlot = record { name = c.args.name; mother = None; residence = c.args.residence; numbers = replicate 133 None } in
     let few : count_by is_some c.in-Ok.active.slots ≡ 0 = ap (count_by is_some) c.in-Ok.ensures.empty in
     let len = c.insert_reserved.ensures.len in
     let capacity = c.insert_reserved.ensures.capacity in
@@ -24,7 +24,7 @@ invariant_of-result c =
 
 pub returns : goal.returns
 returns c =
-    let x : Seat = record { name = c.args.name; mother = None; residence = c.args.residence; numbers = replicate 133 None } in
+    let x : TaskSlot = record { name = c.args.name; mother = None; residence = c.args.residence; numbers = replicate 133 None } in
     starts c.insert_reserved.new.self.slots c.in-Ok-no_owners.owned.items c.insert_reserved.result x c.insert_reserved.ensures.updates.changed
     (λ k n. c.insert_reserved.ensures.updates.others k n ∙ ap (λ xs. item_at xs k) c.in-Ok.ensures.empty)
     refl (λ n. no_numbers x 133 n refl) (λ s. ap (λ xs. item_at xs s) c.in-Ok-no_owners.ensures ∙ none_everywhere 4098 None s refl)

@@ -1,0 +1,16 @@
+use Rattle.std.proofs.Common.{sym, ap, ◌∙◌}
+use Rattle.mvs_model.specs.Owners.{subpool_meant}
+use Rattle.task_owner.specs.Tasks.{name_of}
+use Rattle.request_forms.proofs.Ending.{found_name}
+use Rattle.request_forms.proofs.Owning.{label_told, meant_told}
+use Rattle.request_forms.proofs.machine.Machine.resolved_owner.Goals as goal
+
+pub returns : goal.returns
+returns c = rw (← c.self.view_is) (
+    let tasks = c.self.inside.tasks in
+    let t = c.args.name.now in
+    let id = c.in-Some-find.t in
+    let s = c.in-Some-subpool.subpool in
+    meant_told tasks.owners t c.args.number s c.label.result (sym c.in-Some.ensures.0) c.in-Some-find.ensures.active
+    (ap (λ x. subpool_meant tasks.owners x c.args.number) (sym (found_name tasks id t c.in-Some-find.ensures.named)) ∙ ap (subpool_meant tasks.owners (name_of tasks id)) (sym c.in-Some.ensures.1) ∙ sym c.subpool.ensures ∙ c.in-Some-subpool.is)
+    (label_told tasks.owners s c.label.result c.label.ensures.kept c.label.ensures.label))

@@ -1,6 +1,0 @@
-use Rattle.std.proofs.Common.{◌≡◌}
-use Rattle.task_owner.proofs.Found.{Unseen}
-use Rattle.task_owner.proofs.seat.find_key.Given as goal
-
-abbrev pub invariant-loop-key : goal.invariant-loop-key
-invariant-loop-key l = Unseen l.active (λ x. x.name ≡ l.name) l.key-iterator
