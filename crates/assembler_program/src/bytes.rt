@@ -2,7 +2,7 @@
 
 use crate::cards::ProgramFault;
 use crate::step::{StepEntry, Writing};
-use mvs_model::line::{Location, Written};
+use mvs_model::line::{Location, SourceRequest};
 use mvs_model::name::Name;
 use std::alloc::{AllocError, Global};
 use std::io::Write;
@@ -71,11 +71,15 @@ impl<W: Write> Writing<W> {
     }
 
     /// A request that touches bytes.
-    pub fn of_bytes(&mut self, entry: &StepEntry, written: &Written) -> Result<(), ProgramFault> {
+    pub fn of_bytes(
+        &mut self,
+        entry: &StepEntry,
+        written: &SourceRequest,
+    ) -> Result<(), ProgramFault> {
         match written {
-            Written::Put { to, bytes } => self.put(entry, to, bytes.as_slice()),
-            Written::Show { from, len } => self.show(from, len.get()),
-            Written::Move { to, from, len } => self.copy(to, from, len.get()),
+            SourceRequest::Put { to, bytes } => self.put(entry, to, bytes.as_slice()),
+            SourceRequest::Show { from, len } => self.show(from, len.get()),
+            SourceRequest::Move { to, from, len } => self.copy(to, from, len.get()),
             _ => Ok(()),
         }
     }

@@ -5,7 +5,7 @@ use crate::step::{StepEntry, Writing};
 use mvs_model::bounded::Exponent;
 use mvs_model::code::Form;
 use mvs_model::codes::is_conditional;
-use mvs_model::line::{Names, Written};
+use mvs_model::line::{Names, SourceRequest};
 use mvs_model::name::Name;
 use mvs_model::request::Lengths;
 use mvs_model::want::{AreaRequest, Loc, Residence, Side};
@@ -273,9 +273,13 @@ impl<W: Write> Writing<W> {
     }
 
     /// A request for one area or for a list of them.
-    pub fn obtain(&mut self, entry: &StepEntry, written: &Written) -> Result<(), ProgramFault> {
+    pub fn obtain(
+        &mut self,
+        entry: &StepEntry,
+        written: &SourceRequest,
+    ) -> Result<(), ProgramFault> {
         match written {
-            Written::Obtain {
+            SourceRequest::Obtain {
                 form,
                 number,
                 ask,
@@ -289,7 +293,7 @@ impl<W: Write> Writing<W> {
                     self.obtain_fixed(entry, *form, ask, &rest, area)
                 }
             }
-            Written::ObtainList {
+            SourceRequest::ObtainList {
                 form,
                 number,
                 lengths,

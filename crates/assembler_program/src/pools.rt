@@ -3,7 +3,7 @@
 use crate::cards::ProgramFault;
 use crate::obtains::location;
 use crate::step::{StepEntry, Writing};
-use mvs_model::line::{Location, Written};
+use mvs_model::line::{Location, SourceRequest};
 use mvs_model::name::Name;
 use mvs_model::want::Loc;
 use std::io::Write;
@@ -86,9 +86,13 @@ impl<W: Write> Writing<W> {
     }
 
     /// A request of a pool.
-    pub fn of_pool(&mut self, entry: &StepEntry, written: &Written) -> Result<(), ProgramFault> {
+    pub fn of_pool(
+        &mut self,
+        entry: &StepEntry,
+        written: &SourceRequest,
+    ) -> Result<(), ProgramFault> {
         match written {
-            Written::Build {
+            SourceRequest::Build {
                 pool,
                 number,
                 size,
@@ -105,13 +109,13 @@ impl<W: Write> Writing<W> {
                 };
                 self.build(entry, pool, &plan)
             }
-            Written::Get {
+            SourceRequest::Get {
                 pool,
                 conditional,
                 cell,
             } => self.get(pool, *conditional, cell),
-            Written::Free { pool, cell } => self.give(pool, cell),
-            Written::Delete { pool } => self.delete(pool),
+            SourceRequest::Free { pool, cell } => self.give(pool, cell),
+            SourceRequest::Delete { pool } => self.delete(pool),
             _ => Ok(()),
         }
     }

@@ -5,7 +5,7 @@ use crate::names::{StepNames, text_of};
 use crate::step::{StepEntry, Writing, is_written};
 use crate::texts::{DRIVER, JOB, LAYOUTS, TASK};
 use job_script::read_line;
-use mvs_model::line::{Fault, Line, Statement, Written};
+use mvs_model::line::{Fault, Line, SourceRequest, Statement};
 use mvs_model::name::Name;
 use std::alloc::{AllocError, Global};
 use std::io::Write;
@@ -34,7 +34,7 @@ fn is_of_storage(line: &str) -> bool {
 fn name_tasks(names: &mut StepNames, entries: &[StepEntry]) -> Result<(), AllocError> {
     for entry in entries {
         names.tasks.number(&entry.task)?;
-        if let Statement::Request(Written::Attach { name, .. }) = &entry.statement {
+        if let Statement::Request(SourceRequest::Attach { name, .. }) = &entry.statement {
             names.tasks.number(name)?;
         }
     }

@@ -5,7 +5,7 @@ use crate::obtains::word_for;
 use crate::step::{StepEntry, Writing};
 use mvs_model::code::Form;
 use mvs_model::codes::is_conditional;
-use mvs_model::line::{Location, Locations, Written};
+use mvs_model::line::{Location, Locations, SourceRequest};
 use mvs_model::name::Name;
 use mvs_model::request::Lengths;
 use std::io::Write;
@@ -124,24 +124,30 @@ impl<W: Write> Writing<W> {
     }
 
     /// A release, of which kind ever.
-    pub fn release(&mut self, entry: &StepEntry, written: &Written) -> Result<(), ProgramFault> {
+    pub fn release(
+        &mut self,
+        entry: &StepEntry,
+        written: &SourceRequest,
+    ) -> Result<(), ProgramFault> {
         match written {
-            Written::Release {
+            SourceRequest::Release {
                 form,
                 number,
                 location,
                 len,
             } => self.release_area(entry, *form, *number, location, len.get()),
-            Written::ReleaseArea { form, number, area } => {
+            SourceRequest::ReleaseArea { form, number, area } => {
                 self.release_named(*form, *number, area)
             }
-            Written::ReleaseList {
+            SourceRequest::ReleaseList {
                 form,
                 number,
                 locations,
                 lengths,
             } => self.release_list(entry, *form, *number, locations, lengths),
-            Written::ReleaseWhole { form, number } => self.release_whole(entry, *form, *number),
+            SourceRequest::ReleaseWhole { form, number } => self.release_whole(
+                entry, *form, *number,
+            ),
             _ => Ok(()),
         }
     }

@@ -2,7 +2,7 @@
 
 use crate::cards::{Cards, ProgramFault};
 use crate::names::{StepNames, text_of};
-use mvs_model::line::{Location, Statement, Written};
+use mvs_model::line::{Location, SourceRequest, Statement};
 use mvs_model::name::Name;
 use std::alloc::AllocError;
 use std::io::Write;
@@ -111,21 +111,23 @@ impl<W: Write> Writing<W> {
     }
 
     // What a request is written as.
-    fn request(&mut self, entry: &StepEntry, written: &Written) -> Result<(), ProgramFault> {
+    fn request(&mut self, entry: &StepEntry, written: &SourceRequest) -> Result<(), ProgramFault> {
         match written {
-            Written::Obtain { .. } | Written::ObtainList { .. } => self.obtain(entry, written),
-            Written::Release { .. }
-            | Written::ReleaseArea { .. }
-            | Written::ReleaseList { .. }
-            | Written::ReleaseWhole { .. } => self.release(entry, written),
-            Written::Build { .. }
-            | Written::Get { .. }
-            | Written::Free { .. }
-            | Written::Delete { .. } => self.of_pool(entry, written),
-            Written::Attach { .. } | Written::Return | Written::Abend(_) => {
+            SourceRequest::Obtain { .. } | SourceRequest::ObtainList { .. } => self.obtain(
+                entry, written,
+            ),
+            SourceRequest::Release { .. }
+            | SourceRequest::ReleaseArea { .. }
+            | SourceRequest::ReleaseList { .. }
+            | SourceRequest::ReleaseWhole { .. } => self.release(entry, written),
+            SourceRequest::Build { .. }
+            | SourceRequest::Get { .. }
+            | SourceRequest::Free { .. }
+            | SourceRequest::Delete { .. } => self.of_pool(entry, written),
+            SourceRequest::Attach { .. } | SourceRequest::Return | SourceRequest::Abend(_) => {
                 self.of_task(entry, written)
             }
-            Written::Show { .. } | Written::Put { .. } | Written::Move { .. } => {
+            SourceRequest::Show { .. } | SourceRequest::Put { .. } | SourceRequest::Move { .. } => {
                 self.of_bytes(entry, written)
             }
         }

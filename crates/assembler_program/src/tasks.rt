@@ -3,7 +3,7 @@
 use crate::cards::ProgramFault;
 use crate::step::{StepEntry, Writing};
 use mvs_model::gifts::Gifts;
-use mvs_model::line::Written;
+use mvs_model::line::SourceRequest;
 use mvs_model::name::Name;
 use mvs_model::want::Residence;
 use std::alloc::{AllocError, Global};
@@ -115,9 +115,13 @@ impl<W: Write> Writing<W> {
     }
 
     /// A request that begins or ends a task.
-    pub fn of_task(&mut self, entry: &StepEntry, written: &Written) -> Result<(), ProgramFault> {
+    pub fn of_task(
+        &mut self,
+        entry: &StepEntry,
+        written: &SourceRequest,
+    ) -> Result<(), ProgramFault> {
         match written {
-            Written::Attach {
+            SourceRequest::Attach {
                 name,
                 gifts,
                 residence,
@@ -125,8 +129,8 @@ impl<W: Write> Writing<W> {
                 self.attach(entry, name, gifts)?;
                 Ok(self.names.reside(name, *residence)?)
             }
-            Written::Return => self.cards.go("TASKRETN"),
-            Written::Abend(code) => {
+            SourceRequest::Return => self.cards.go("TASKRETN"),
+            SourceRequest::Abend(code) => {
                 let operands = format!(in self.cards.alloc(); "{}", code.get())?;
                 self.cards.code("ABEND", &operands)
             }

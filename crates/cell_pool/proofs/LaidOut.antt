@@ -8,7 +8,7 @@ use Rattle.std.proofs.lemmas.Nat.{from_be_bytes-to_be_bytes_4}
 use Rattle.std.proofs.lemmas.Nat.Bits.{bit_at-zero}
 use Rattle.mvs_model.specs.Place.{PlaceValue, place_at}
 use Rattle.mvs_model.specs.Storage.{Storage, has_address}
-use Rattle.subpool_store.specs.Written.{Puts}
+use Rattle.subpool_store.specs.WrittenBytes.{Puts}
 use Rattle.cell_pool.specs.Layout.{byte_of, word, flag, flag_room}
 use Rattle.cell_pool.specs.Walk.{Fills}
 use Rattle.cell_pool.specs.Laying.{PutsWord, LaysOut}

@@ -10,7 +10,7 @@ use Rattle.std.specs.FinMap.Entries.{below_all}
 use Rattle.mvs_model.specs.declared.name.Name.{Name}
 use Rattle.mvs_model.specs.Name.{name_cmp}
 use Rattle.mvs_model.specs.Storage.{Storage, NoPlace, holder as held_by}
-use Rattle.mvs_model.specs.Owners.{Enters, keeper}
+use Rattle.mvs_model.specs.Owners.{Enters, effective_task}
 use Rattle.mvs_model.specs.Pools.{part_want}
 use Rattle.mvs_model.specs.View.{state_of}
 use Rattle.mvs_model.specs.Requests.{Plan, Builds as MachineBuilds}
@@ -106,11 +106,11 @@ module _ (roots : FinMap name_cmp Root) (old : Storage) (name : Name) (s : ℕ) 
 -- a pool that is made is one by the machine
 pub build_is_step : BuildIsStep
 build_is_step roots new_roots old new name s plan o after t number agree valid of = (done, refused) where
-  done : Builds roots old name s plan new_roots new → Enters o (keeper o t number) number s after
-      → Passed (build_causes (state_of old o (pools_of roots old)) t name number (part_want plan.cell_size plan.primary plan.side)) × MachineBuilds (state_of old o (pools_of roots old)) (keeper o t number) name number plan (state_of new after (pools_of new_roots new))
+  done : Builds roots old name s plan new_roots new → Enters o (effective_task o t number) number s after
+      → Passed (build_causes (state_of old o (pools_of roots old)) t name number (part_want plan.cell_size plan.primary plan.side)) × MachineBuilds (state_of old o (pools_of roots old)) (effective_task o t number) name number plan (state_of new after (pools_of new_roots new))
   done b enters =
-      let made : MachineBuilds (state_of old o (pools_of roots old)) (keeper o t number) name number plan (state_of new after (pools_of new_roots new)) = (s, of, (b.place, after, enters, b.extends o after)) in
-      ((valid, (b.fresh, (b.room, (built_not_short (state_of old o (pools_of roots old)) (state_of new after (pools_of new_roots new)) (keeper o t number) name number plan made, tt)))), made)
+      let made : MachineBuilds (state_of old o (pools_of roots old)) (effective_task o t number) name number plan (state_of new after (pools_of new_roots new)) = (s, of, (b.place, after, enters, b.extends o after)) in
+      ((valid, (b.fresh, (b.room, (built_not_short (state_of old o (pools_of roots old)) (state_of new after (pools_of new_roots new)) (effective_task o t number) name number plan made, tt)))), made)
 
   refused : (refusal : Refusal) → Refused (causes_of_build roots old name s plan) refusal → Refused (build_causes (state_of old o (pools_of roots old)) t name number (part_want plan.cell_size plan.primary plan.side)) refusal
   refused refusal (inl h) = inr (valid, inl h)

@@ -10,7 +10,7 @@ use Rattle.std.proofs.lemmas.Nat.Bits.{bit_at_set_same, bit_at_set_other, bit_at
 use Rattle.std.proofs.lemmas.Option.{slice_get-get_or}
 use Rattle.mvs_model.specs.Place.{PlaceValue, place_at}
 use Rattle.mvs_model.specs.Storage.{Storage, has_address}
-use Rattle.subpool_store.specs.Written.{Puts}
+use Rattle.subpool_store.specs.WrittenBytes.{Puts}
 use Rattle.cell_pool.specs.Layout.{byte_of, word, flag, taken_at}
 use Rattle.cell_pool.specs.Marks.{IsMark, Marks}
 

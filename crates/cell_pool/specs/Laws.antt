@@ -6,7 +6,7 @@ use Rattle.mvs_model.specs.Name.{name_cmp}
 use Rattle.mvs_model.specs.Place.{PlaceValue}
 use Rattle.mvs_model.specs.Want.{WantValue}
 use Rattle.mvs_model.specs.Storage.{Storage, IsStorage, Covers, has_address, holder, Grant, Release, ReleaseAll}
-use Rattle.mvs_model.specs.Owners.{Owners, SubpoolOf, Enters, keeper}
+use Rattle.mvs_model.specs.Owners.{Owners, SubpoolOf, Enters, effective_task}
 use Rattle.mvs_model.specs.declared.refusal.Refusal.{Refusal}
 use Rattle.mvs_model.specs.Requests.{Plan, Builds as MachineBuilds, is_invalid}
 use Rattle.mvs_model.specs.Causes.{Passed, Refused, build_causes}
@@ -66,10 +66,10 @@ NoneAgree = (st : Storage) → IsStorage st → IsBounded st.regions → Agree e
 -- and what it is refused for, the machine refuses it for.
 abbrev pub BuildIsStep : Type 0
 BuildIsStep =
-    (roots new_roots : FinMap name_cmp Root) (old new : Storage) (name : Name) (s : ℕ) (plan : Plan) (o after : Owners) (t : Name) (number : ℕ) → Agree roots old → is_invalid number ≡ false → SubpoolOf o (keeper o t number) number s
-    → (Builds roots old name s plan new_roots new → Enters o (keeper o t number) number s after
+    (roots new_roots : FinMap name_cmp Root) (old new : Storage) (name : Name) (s : ℕ) (plan : Plan) (o after : Owners) (t : Name) (number : ℕ) → Agree roots old → is_invalid number ≡ false → SubpoolOf o (effective_task o t number) number s
+    → (Builds roots old name s plan new_roots new → Enters o (effective_task o t number) number s after
     → Passed (build_causes (state_of old o (pools_of roots old)) t name number (part_want plan.cell_size plan.primary plan.side))
-    × MachineBuilds (state_of old o (pools_of roots old)) (keeper o t number) name number plan (state_of new after (pools_of new_roots new)))
+    × MachineBuilds (state_of old o (pools_of roots old)) (effective_task o t number) name number plan (state_of new after (pools_of new_roots new)))
     × ((refusal : Refusal) → Refused (causes_of_build roots old name s plan) refusal
     → Refused (build_causes (state_of old o (pools_of roots old)) t name number (part_want plan.cell_size plan.primary plan.side)) refusal)
 

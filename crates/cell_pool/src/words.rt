@@ -4,7 +4,7 @@ ghost use Rattle.std.specs.Prelude.{◌≡◌, ◌<◌, ◌≤◌, ◌+◌, ◌-
 ghost use Rattle.std.specs.Int.{bit_at, from_be_bytes, w32};
 ghost use Rattle.mvs_model.specs.Place.{place_at};
 ghost use Rattle.mvs_model.specs.Storage.{AllHeld};
-ghost use Rattle.subpool_store.specs.Written.{Puts};
+ghost use Rattle.subpool_store.specs.WrittenBytes.{Puts};
 ghost use Rattle.cell_pool.specs.Layout.{byte_of, next_at, count_at, taken_at, flag, head_length};
 ghost use Rattle.cell_pool.specs.Marks.{Marks};
 ghost use Rattle.cell_pool.specs.Walk.{Fills};

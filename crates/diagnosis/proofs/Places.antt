@@ -2,7 +2,7 @@
 use Rattle.std.proofs.Common.{◌≡◌, ℕ, ◌+◌, ◌≤◌, ◌<◌, List, [], ◌∷◌, ◌++◌, length, arith, refl, sym, ap, subst, ◌∙◌, map, length-take, Option, Some, None}
 use Rattle.std.specs.Prelude.{Bool, true, false, ◌||◌, position}
 use Rattle.std.specs.List.{list_any, before_first, position_or_len}
-use Rattle.job_script.specs.declared.given.Given.{Given}
+use Rattle.job_script.specs.declared.given.GivenOperands.{GivenOperands}
 use Rattle.job_script.proofs.Cut.{no_cut, cut_at}
 use Rattle.job_script.proofs.Taking.{TakesOn}
 use Rattle.diagnosis.specs.Blame.{before}
@@ -13,7 +13,7 @@ before_more [] o = omega arith
 before_more (x ∷ xs) o = let more = before_more xs o in omega (arith, more)
 
 -- what is known when the operands on the left of a text were taken, and how far that is
-pub record ContinuesRun (old now : Given) (field rest : List ℕ) (at : ℕ) : Type 0 where
+pub record ContinuesRun (old now : GivenOperands) (field rest : List ℕ) (at : ℕ) : Type 0 where
   pub on : TakesOn old now field rest
   pub place : at ≡ before on.left
   pub within : at + length rest ≡ length field

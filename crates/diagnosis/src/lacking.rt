@@ -1,13 +1,13 @@
 //! Operands that are missing, and operands that exclude each other.
 
-ghost use Rattle.job_script.specs.Given.{IsRead};
+ghost use Rattle.job_script.specs.GivenOperands.{IsRead};
 
 use crate::faults::{FaultSpan, place_of};
 use crate::hint::Hint;
 use crate::message::{Message, Missing};
 use crate::operands::{OperationField, field_of, second_word};
 use crate::words::StatementName;
-use job_script::given::Given;
+use job_script::given::GivenOperands;
 use job_script::items::{between, count};
 use job_script::keys::Key;
 use job_script::operations::{Operation, read_operation};
@@ -47,7 +47,7 @@ pub fn row_of<'a>(
 }
 
 // Returns whether a keyword belongs to another one that was given.
-fn is_partner(given: &Given<'_>, key: Key) -> bool
+fn is_partner(given: &GivenOperands<'_>, key: Key) -> bool
     requires { IsRead given.now }
 {
     for rule in given.row.rules() {
@@ -64,7 +64,7 @@ fn is_partner(given: &Given<'_>, key: Key) -> bool
 }
 
 // Of each keyword of a row, whether it is missing.
-fn lacking(given: &Given<'_>) -> [bool; 8]
+fn lacking(given: &GivenOperands<'_>) -> [bool; 8]
     requires { IsRead given.now }
 {
     let mut lacking = [false; 8];
@@ -105,7 +105,7 @@ fn missing_of<'a>(
     row: Row,
     text: Option<&'a [u8]>,
 ) -> Option<Message<'a>> {
-    let mut given = Given::none(row);
+    let mut given = GivenOperands::none(row);
     match given.take_field(text) {
         Ok(()) => {
             let keywords = lacking(&given);
@@ -156,7 +156,7 @@ pub fn missing(line: &[u8]) -> Option<FaultSpan<'_>> {
 }
 
 // The rule that operands break, and a key of it that was given.
-fn broken(given: &Given<'_>) -> Option<(Message<'static>, Key)>
+fn broken(given: &GivenOperands<'_>) -> Option<(Message<'static>, Key)>
     requires { IsRead given.now }
 {
     for rule in given.row.rules() {
@@ -206,7 +206,7 @@ fn keyed(text: &[u8], key: &[u8]) -> Option<(usize, usize)> {
 
 // The rule that the operands of a text break.
 fn broken_by(row: Row, text: &[u8]) -> Option<(Message<'static>, Key)> {
-    let mut given = Given::none(row);
+    let mut given = GivenOperands::none(row);
     match given.take_field(Some(text)) {
         Ok(()) => broken(&given),
         Err(_) => None,

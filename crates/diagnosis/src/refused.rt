@@ -7,7 +7,7 @@ ghost use Rattle.job_script.specs.Parted.{field_in};
 ghost use Rattle.job_script.specs.Rows.{key_text, row_at};
 ghost use Rattle.diagnosis.specs.Blame.{IsRefused, part_of};
 
-use job_script::given::Given;
+use job_script::given::GivenOperands;
 use job_script::kinds::Kind;
 use job_script::rows::{Keyword, Row};
 use job_script::split_once::{next_operand, split_once};
@@ -24,7 +24,7 @@ pub struct Refused<'a> {
 }
 
 // Returns the kind of a positional operand after those that were accepted.
-fn expected(given: &Given<'_>) -> Option<Kind> {
+fn expected(given: &GivenOperands<'_>) -> Option<Kind> {
     if given.keyed {
         return None;
     }
@@ -44,7 +44,7 @@ pub fn first_refused<'a>(row: Row, field: &'a [u8]) -> Option<Refused<'a>>
         r.fault) }
     ensures within { IfSome result (λ r. r.at ≤ length field.now) }
 {
-    let mut given = Given::none(row);
+    let mut given = GivenOperands::none(row);
     let mut at = 0;
     let mut rest = field;
     'operands: loop {

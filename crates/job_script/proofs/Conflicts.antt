@@ -12,11 +12,11 @@ use Rattle.job_script.specs.declared.rows.Keyword.{Keyword}
 use Rattle.job_script.specs.declared.rows.Positional.{Positional}
 use Rattle.job_script.specs.declared.rows.Row.{Row}
 use Rattle.job_script.specs.declared.rows.Row.TheVariants as row
-use Rattle.job_script.specs.declared.given.Given.{Given}
+use Rattle.job_script.specs.declared.given.GivenOperands.{GivenOperands}
 use Rattle.job_script.specs.declared.items.Item.TheVariants.{Number}
 use Rattle.job_script.specs.Items.{is_same_item, items_in}
 use Rattle.job_script.specs.Rows.{row_at, key_text, as_keyword, as_positional}
-use Rattle.job_script.specs.Given.{IsRead, by_place}
+use Rattle.job_script.specs.GivenOperands.{IsRead, by_place}
 use Rattle.job_script.specs.Rules.{AreNumbers, IsFit, is_shared_number}
 use Rattle.job_script.proofs.Taking.{taken_text}
 use Rattle.job_script.proofs.SameNumbers.{number_digits}
@@ -91,7 +91,7 @@ shares_apart a b c d =
 -- ---- rules
 
 -- what stands under a key whose kind is a number is one
-number_taken : (g : Given) → IsRead g → g.row ≡ row.Attach → (key : List ℕ) → ((text : List ℕ) → IsTaken grammar.attach key text → AreNumbers (Some text)) → AreNumbers ((by_place g).under key)
+number_taken : (g : GivenOperands) → IsRead g → g.row ≡ row.Attach → (key : List ℕ) → ((text : List ℕ) → IsTaken grammar.attach key text → AreNumbers (Some text)) → AreNumbers ((by_place g).under key)
 number_taken g read is key fits = at ((by_place g).under key) refl where
   at : (o : Option (List ℕ)) → (by_place g).under key ≡ o → AreNumbers o
   at None e = tt
@@ -108,7 +108,7 @@ list_is text e =
     let a = and_true (is_list text) (list_all is_number (items text)) e in
     ap (λ b. if b then list_all is_number (items text) else is_number text) a.0 ∙ a.1
 
-pub rules_fit : (g : Given) → IsRead g → (r : Row) → g.row ≡ r → AllByRecursion (IsFit (by_place g)) (row_at r).rules
+pub rules_fit : (g : GivenOperands) → IsRead g → (r : Row) → g.row ≡ r → AllByRecursion (IsFit (by_place g)) (row_at r).rules
 rules_fit g read row.GetmainFixedPlaced e = (tt, (tt, tt))
 rules_fit g read row.GetmainVariablePlaced e = (tt, (tt, tt))
 rules_fit g read row.StorageObtain e = (tt, (tt, tt))

@@ -10,19 +10,19 @@ use Rattle.mvs_model.specs.ReadingLaws.{IsTaken}
 use Rattle.mvs_model.proofs.Reading.{or_false}
 use Rattle.mvs_model.proofs.ReadingTaken.{and_true, nat_same}
 use Rattle.mvs_model.proofs.ReadingRanges.{number_no_list, attach_presents}
-use Rattle.job_script.specs.declared.given.Given.{Given}
+use Rattle.job_script.specs.declared.given.GivenOperands.{GivenOperands}
 use Rattle.job_script.specs.declared.rows.Row.{Row}
 use Rattle.job_script.specs.declared.rows.Row.TheVariants as row
 use Rattle.job_script.specs.Rows.{row_at}
-use Rattle.job_script.specs.Given.{IsRead, IsPlaced, by_place}
+use Rattle.job_script.specs.GivenOperands.{IsRead, IsPlaced, by_place}
 use Rattle.job_script.specs.Values.{IsExtent, IsNumbers, IsNames, IsLocations, IsSomeBytes}
 use Rattle.job_script.specs.LineMeaning.{IsByte, AreGiven, if_list}
 use Rattle.job_script.proofs.Taking.{taken_text}
 
-pub at_key : (g : Given) → IsRead g → (r : Row) → g.row ≡ r → (key text : List ℕ) → (by_place g).under key ≡ Some text → IsTaken (row_at r) key text
+pub at_key : (g : GivenOperands) → IsRead g → (r : Row) → g.row ≡ r → (key text : List ℕ) → (by_place g).under key ≡ Some text → IsTaken (row_at r) key text
 at_key g read r is key text e = subst (λ r. IsTaken (row_at r) key text) is (taken_text g read.0 read.1 key text e)
 
-pub at_place : (g : Given) → IsRead g → (r : Row) → g.row ≡ r → (place : ℕ) (text : List ℕ) → (by_place g).at place ≡ Some text → IsPlaced (row_at r) place text
+pub at_place : (g : GivenOperands) → IsRead g → (r : Row) → g.row ≡ r → (place : ℕ) (text : List ℕ) → (by_place g).at place ≡ Some text → IsPlaced (row_at r) place text
 at_place g read r is place text e = subst (λ r. IsPlaced (row_at r) place text) is (read.1.placed place text e)
 
 not_list : (text : List ℕ) → is_number text ≡ true → is_list text ≡ false
@@ -69,7 +69,7 @@ some_bytes text k w = record { are = k; few = leb-true (length (quoted text)) 20
 
 -- ---- ATTACH
 
-given_by : (g : Given) → IsRead g → g.row ≡ row.Attach → (key : List ℕ) → ((text : List ℕ) → IsTaken grammar.attach key text → AreGiven (Some text)) → AreGiven ((by_place g).under key)
+given_by : (g : GivenOperands) → IsRead g → g.row ≡ row.Attach → (key : List ℕ) → ((text : List ℕ) → IsTaken grammar.attach key text → AreGiven (Some text)) → AreGiven ((by_place g).under key)
 given_by g read is key fits = at ((by_place g).under key) refl where
   at : (o : Option (List ℕ)) → (by_place g).under key ≡ o → AreGiven o
   at None e = tt
@@ -83,25 +83,25 @@ given_list text k w =
     let a = and_true (is_list text) (list_all is_number (items text)) k in
     subst (λ b. if_list b text) (sym a.0) (record { digits = a.1; range = w })
 
-pub gives_number : (g : Given) → IsRead g → g.row ≡ row.Attach → AreGiven ((by_place g).under (codes "GSPV"))
+pub gives_number : (g : GivenOperands) → IsRead g → g.row ≡ row.Attach → AreGiven ((by_place g).under (codes "GSPV"))
 gives_number g read is = given_by g read is (codes "GSPV") (λ text k. given_number text k.of_kind k.within)
 
-pub gives_list : (g : Given) → IsRead g → g.row ≡ row.Attach → AreGiven ((by_place g).under (codes "GSPL"))
+pub gives_list : (g : GivenOperands) → IsRead g → g.row ≡ row.Attach → AreGiven ((by_place g).under (codes "GSPL"))
 gives_list g read is = given_by g read is (codes "GSPL") (λ text k. given_list text k.of_kind k.within)
 
-pub shares_number : (g : Given) → IsRead g → g.row ≡ row.Attach → AreGiven ((by_place g).under (codes "SHSPV"))
+pub shares_number : (g : GivenOperands) → IsRead g → g.row ≡ row.Attach → AreGiven ((by_place g).under (codes "SHSPV"))
 shares_number g read is = given_by g read is (codes "SHSPV") (λ text k. given_number text k.of_kind k.within)
 
-pub shares_list : (g : Given) → IsRead g → g.row ≡ row.Attach → AreGiven ((by_place g).under (codes "SHSPL"))
+pub shares_list : (g : GivenOperands) → IsRead g → g.row ≡ row.Attach → AreGiven ((by_place g).under (codes "SHSPL"))
 shares_list g read is = given_by g read is (codes "SHSPL") (λ text k. given_list text k.of_kind k.within)
 
 -- no rule of ATTACH is broken
-pub record Apart (g : Given) : Type 0 where
+pub record Apart (g : GivenOperands) : Type 0 where
   pub one_given : (is_some ((by_place g).under (codes "GSPV")) && is_some ((by_place g).under (codes "GSPL"))) ≡ false
   pub one_shared : (is_some ((by_place g).under (codes "SHSPV")) && is_some ((by_place g).under (codes "SHSPL"))) ≡ false
   pub apart : IsGifts (presents (by_place g))
 
-pub attach_apart : (g : Given) → IsRead g → g.row ≡ row.Attach → list_any (is_conflict (by_place g)) (row_at g.row).rules ≡ false → Apart g
+pub attach_apart : (g : GivenOperands) → IsRead g → g.row ≡ row.Attach → list_any (is_conflict (by_place g)) (row_at g.row).rules ≡ false → Apart g
 attach_apart g read is none =
     let rules : list_any (is_conflict (by_place g)) grammar.attach.rules ≡ false = ap (λ r. list_any (is_conflict (by_place g)) (row_at r).rules) (sym is) ∙ none in
     let a = or_false (is_some ((by_place g).under (codes "GSPV")) && is_some ((by_place g).under (codes "GSPL"))) _ rules in

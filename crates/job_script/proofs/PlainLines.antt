@@ -11,7 +11,7 @@ use Rattle.mvs_model.specs.declared.line.Location.{Location}
 use Rattle.mvs_model.specs.declared.line.Location.TheVariants.{Named}
 use Rattle.mvs_model.specs.declared.line.Statement.{Statement}
 use Rattle.mvs_model.specs.declared.line.Statement.TheVariants as says
-use Rattle.mvs_model.specs.declared.line.Written.TheVariants as written
+use Rattle.mvs_model.specs.declared.line.SourceRequest.TheVariants as written
 use Rattle.mvs_model.specs.declared.name.Name.{Name}
 use Rattle.mvs_model.specs.declared.want.Loc.{Loc}
 use Rattle.mvs_model.specs.declared.want.Loc.TheVariants as loc

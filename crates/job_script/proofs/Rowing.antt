@@ -13,13 +13,13 @@ use Rattle.mvs_model.specs.declared.line.Statement.{Statement}
 use Rattle.mvs_model.specs.Grammar as grammar
 use Rattle.mvs_model.specs.Reading.{ByKey, by_key, first_of, operand_checks, with_left, lacks_positional, lacks_keyword, is_half, is_conflict, statement_of, ◌when◌, ◌>>=◌, is_empty, has_key, takes_form, form_in, row_of, operands_after_form, row_checks, operands_in, parts_within}
 use Rattle.mvs_model.proofs.Reading.{IsEnough, all_enough, none_first, or_false}
-use Rattle.job_script.specs.declared.given.Given.{Given}
+use Rattle.job_script.specs.declared.given.GivenOperands.{GivenOperands}
 use Rattle.job_script.specs.declared.rows.Row.{Row}
 use Rattle.job_script.specs.declared.rows.Row.TheVariants as row
 use Rattle.job_script.specs.declared.operations.Operation.{Operation}
 use Rattle.job_script.specs.declared.operations.Operation.TheVariants as operation
 use Rattle.job_script.specs.Rows.{row_at}
-use Rattle.job_script.specs.Given.{IsGiven, by_place, field_now}
+use Rattle.job_script.specs.GivenOperands.{IsGiven, by_place, field_now}
 use Rattle.job_script.specs.Parted.{field_in}
 use Rattle.job_script.specs.Operations.{operation_text, row_with}
 use Rattle.job_script.specs.Rowed.{RowReading, FormReading, checks_after_form, form_checks, as_field}
@@ -66,13 +66,13 @@ pub row_not_taken : (row : grammar.Row) (task : Name) (form : List ℕ) (os : Li
 row_not_taken row task form os fault e = first_front (flat_map (operand_checks row) (with_left os)) (rest_checks row (by_key os)) fault e
 
 -- the operands of a row, as they were given
-moved : (g : Given) (r : Row) (os : List (List ℕ)) → IsGiven g os → g.row ≡ r → (o : Option Fault) → first_of (rest_checks (row_at g.row) (by_place g)) ≡ o → first_of (checks_after_form (row_at r) os) ≡ o
+moved : (g : GivenOperands) (r : Row) (os : List (List ℕ)) → IsGiven g os → g.row ≡ r → (o : Option Fault) → first_of (rest_checks (row_at g.row) (by_place g)) ≡ o → first_of (checks_after_form (row_at r) os) ≡ o
 moved g r os given is o e =
     is_first_after (flat_map (operand_checks (row_at r)) (with_left os)) (rest_checks (row_at r) (by_key os)) (ap (λ r. first_of (flat_map (operand_checks (row_at r)) (with_left os))) (sym is) ∙ given.taken)
     ∙ (λ i. first_of (rest_checks (row_at (sym is i)) (sym given.same i)))
     ∙ e
 
-pub row_lacks : (g : Given) (r : Row) (task : Name) (form : List ℕ) (os : List (List ℕ)) (fault : Fault) → IsGiven g os → g.row ≡ r → first_of (rest_checks (row_at g.row) (by_place g)) ≡ Some fault → RowReading (row_at r) task form os (Err fault)
+pub row_lacks : (g : GivenOperands) (r : Row) (task : Name) (form : List ℕ) (os : List (List ℕ)) (fault : Fault) → IsGiven g os → g.row ≡ r → first_of (rest_checks (row_at g.row) (by_place g)) ≡ Some fault → RowReading (row_at r) task form os (Err fault)
 row_lacks g r task form os fault given is e = moved g r os given is (Some fault) e
 
 said_some : (task : Name) (o : Option Statement) (result : Result Line Fault) (row : grammar.Row) (form : List ℕ) (os : List (List ℕ)) → is_some o ≡ true → o ≡ statement_of row.meaning form (by_key os)
@@ -80,7 +80,7 @@ said_some : (task : Name) (o : Option Statement) (result : Result Line Fault) (r
 said_some task None result row form os there is none e = absurd (let f : false ≡ true = there in cc)
 said_some task (Some s) result row form os there is none e = subst (RowReading row task form os) (sym e) (none, ap (option_map (line.Statement task)) (sym is))
 
-pub row_said : (g : Given) (r : Row) (task : Name) (form : List ℕ) (os : List (List ℕ)) (result : Result Line Fault) → IsGiven g os → g.row ≡ r → first_of (rest_checks (row_at g.row) (by_place g)) ≡ None
+pub row_said : (g : GivenOperands) (r : Row) (task : Name) (form : List ℕ) (os : List (List ℕ)) (result : Result Line Fault) → IsGiven g os → g.row ≡ r → first_of (rest_checks (row_at g.row) (by_place g)) ≡ None
     → result ≡ line_of_task task (statement_of (row_at g.row).meaning form (by_place g)) → RowReading (row_at r) task form os result
 row_said g r task form os result given is none e =
     let row = row_at r in

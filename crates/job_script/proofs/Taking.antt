@@ -14,7 +14,7 @@ use Rattle.mvs_model.specs.Reading.{first_of, operand_checks, with_left, kind_of
 use Rattle.mvs_model.specs.ReadingLaws.{IsTaken}
 use Rattle.mvs_model.proofs.Reading.{none_first, or_false, not_false}
 use Rattle.mvs_model.proofs.ReadingTaken.{under_key, bytes_same}
-use Rattle.job_script.specs.declared.given.Given.{Given}
+use Rattle.job_script.specs.declared.given.GivenOperands.{GivenOperands}
 use Rattle.job_script.specs.declared.keys.TheConstants.{KEYS}
 use Rattle.std.proofs.lemmas.Option.{slice_get-get_or}
 use Rattle.job_script.specs.declared.rows.Keyword.{Keyword}
@@ -24,7 +24,7 @@ use Rattle.job_script.specs.Rows.{row_at, key_text, as_keyword, as_positional}
 use Rattle.job_script.specs.Places.{place_by, place_in}
 use Rattle.job_script.specs.Parted.{field_in}
 use Rattle.job_script.proofs.KeyPlaces.{mapped_some, same_place}
-use Rattle.job_script.specs.Given.{option_now, kept_text, text_at, by_place, IsPlaced, IsGiven}
+use Rattle.job_script.specs.GivenOperands.{option_now, kept_text, text_at, by_place, IsPlaced, IsGiven}
 use Rattle.mvs_model.proofs.Tests.{bytes_self}
 use Rattle.std.proofs.lemmas.Bool.{or_right}
 
@@ -257,7 +257,7 @@ filter_push p (y ∷ xs) x = elim (p y) as (λ b. (if b then y ∷ filter p (xs 
 ]
 
 -- what is taken is of its kind and in its range, under its key
-pub taken_text : (g : Given) (left : List (List ℕ)) → IsGiven g left → (key text : List ℕ) → (by_place g).under key ≡ Some text → IsTaken (row_at g.row) key text
+pub taken_text : (g : GivenOperands) (left : List (List ℕ)) → IsGiven g left → (key text : List ℕ) → (by_place g).under key ≡ Some text → IsTaken (row_at g.row) key text
 taken_text g left given key text e = under_key (row_at g.row) left given.taken key text (sym (ap (λ b. b.under key) given.same) ∙ e)
 
 place_itself : (i : ℕ) → is_place i i ≡ true
@@ -266,7 +266,7 @@ place_itself (suc i) = place_itself i
 
 -- ---- what one operand more changes
 
-module _ (g : Given) (left : List (List ℕ)) (operand : List ℕ) (given : IsGiven g left) where
+module _ (g : GivenOperands) (left : List (List ℕ)) (operand : List ℕ) (given : IsGiven g left) where
   -- a positional operand: what stands under keys stays
   plain_under : has_key operand ≡ false → (key : List ℕ) → value_of key (left ++ operand ∷ []) ≡ value_of key left
   plain_under e key =
@@ -433,7 +433,7 @@ module _ (g : Given) (left : List (List ℕ)) (operand : List ℕ) (given : IsGi
       }
 
 -- what is known when the operands on the left of a text were taken
-pub record TakesOn (old now : Given) (field rest : List ℕ) : Type 0 where
+pub record TakesOn (old now : GivenOperands) (field rest : List ℕ) : Type 0 where
   pub left : List (List ℕ)
   pub parts : parts_within 0 (field_in field) ≡ left ++ parts_within 0 (field_in rest)
   pub given : IsGiven now left
@@ -449,7 +449,7 @@ nowhere : (n : ℕ) (o : Option ℕ) → text_at (replicate n None) o ≡ None
 nowhere n None = refl
 nowhere n (Some m) = none_kept n m
 
-pub nothing_given : (g : Given) → map as_keyword g.keywords.now ≡ (row_at g.row).keywords → g.places ≡ replicate 3 None → g.texts ≡ replicate KEYS None → g.keyed ≡ false → g.count ≡ 0 → IsGiven g []
+pub nothing_given : (g : GivenOperands) → map as_keyword g.keywords.now ≡ (row_at g.row).keywords → g.places ≡ replicate 3 None → g.texts ≡ replicate KEYS None → g.keyed ≡ false → g.count ≡ 0 → IsGiven g []
 nothing_given g table p t k n = record {
   table = table;
   three = ap length p;

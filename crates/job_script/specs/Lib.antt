@@ -4,7 +4,7 @@ pub mod Kinds
 pub mod Rows
 pub mod Places
 pub mod Operations
-pub mod Given
+pub mod GivenOperands
 pub mod Rules
 pub mod Values
 pub mod LineMeaning

@@ -90,7 +90,7 @@ overlap_text one other a = codes "The members at " ++ hex 8 one ++ codes " and "
 
 -- of a number under which a task has no subpool
 abbrev pub no_subpool_text : Request → Name → List ℕ
-no_subpool_text request keeper = trimmed keeper ++ codes " has no subpool " ++ decimal (number_of request) ++ codes ". (rule 26)"
+no_subpool_text request effective_task = trimmed effective_task ++ codes " has no subpool " ++ decimal (number_of request) ++ codes ". (rule 26)"
 
 -- where an address is, if no taken cell begins there
 abbrev pub spot_text : CellPosition → List ℕ
@@ -130,7 +130,7 @@ names_text request InvalidNumber = []
 names_text request (Shortage room) = []
 names_text request (NoMember k short) = []
 names_text request (OffDoubleword a) = []
-names_text request (NoSubpool keeper) = []
+names_text request (NoSubpool effective_task) = []
 names_text request (NotHeld a holder) = []
 names_text request (Overlap one other a) = []
 names_text request (NotOwned number owner) = []
@@ -145,7 +145,7 @@ reason_words t request InvalidNumber = codes "A program can use SP 0 to 127, 131
 reason_words t request (Shortage room) = shortage_text request room
 reason_words t request (NoMember k short) = no_member_text k short
 reason_words t request (OffDoubleword a) = off_text a
-reason_words t request (NoSubpool keeper) = no_subpool_text request keeper
+reason_words t request (NoSubpool effective_task) = no_subpool_text request effective_task
 reason_words t request (NotHeld a holder) = not_held_text t (number_of request) a holder
 reason_words t request (Overlap one other a) = overlap_text one other a
 reason_words t request (NotOwned number owner) = not_owned_text t number owner

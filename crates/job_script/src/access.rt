@@ -4,18 +4,18 @@ ghost use Rattle.std.specs.Prelude.{◌≡◌, []};
 ghost use Rattle.mvs_model.specs.Grammar.{Puts, Shows, Moves, AsksWhere};
 ghost use Rattle.mvs_model.specs.Numbers.{most_shown};
 ghost use Rattle.mvs_model.specs.Reading.{statement_of};
-ghost use Rattle.job_script.specs.Given.{IsRead, by_place};
+ghost use Rattle.job_script.specs.GivenOperands.{IsRead, by_place};
 ghost use Rattle.job_script.specs.Values.{IsSomeBytes};
 ghost use Rattle.job_script.specs.LineMeaning.{filled, line_of_task, Holds, IsRanged, IsNamed, IsLocated};
 
 use crate::addresses::{location, name};
 use crate::digits::bounded;
-use crate::given::Given;
+use crate::given::GivenOperands;
 use crate::values::bytes;
-use mvs_model::line::{Fault, Line, Statement, Written};
+use mvs_model::line::{Fault, Line, SourceRequest, Statement};
 use mvs_model::name::Name;
 
-impl Given<'_> {
+impl GivenOperands<'_> {
     /// PUT.
     pub fn put(&self, task: Name, line: &mut Line) -> Result<(), Fault>
         requires read { IsRead self.now }
@@ -28,7 +28,7 @@ impl Given<'_> {
         let digits = self.required_at(1)?;
         *line = Line::Statement(
             task,
-            Statement::Request(Written::Put {
+            Statement::Request(SourceRequest::Put {
                 to: location(to),
                 bytes: bytes(digits),
             }),
@@ -48,7 +48,7 @@ impl Given<'_> {
         let len = self.required_at(1)?;
         *line = Line::Statement(
             task,
-            Statement::Request(Written::Show {
+            Statement::Request(SourceRequest::Show {
                 from: location(from),
                 len: bounded(len),
             }),
@@ -70,7 +70,7 @@ impl Given<'_> {
         let len = self.required_at(2)?;
         *line = Line::Statement(
             task,
-            Statement::Request(Written::Move {
+            Statement::Request(SourceRequest::Move {
                 to: location(to),
                 from: location(from),
                 len: bounded(len),

@@ -7,10 +7,10 @@ ghost use Rattle.mvs_model.specs.Reading.{first_of, ◌when◌, items, number, i
 ghost use Rattle.job_script.specs.Items.{items_in};
 ghost use Rattle.job_script.specs.Kinds.{fault_in};
 ghost use Rattle.job_script.specs.Rows.{row_at, key_text, as_rule};
-ghost use Rattle.job_script.specs.Given.{IsRead, by_place, option_now};
+ghost use Rattle.job_script.specs.GivenOperands.{IsRead, by_place, option_now};
 ghost use Rattle.job_script.specs.Rules.{AreNumbers, IsFit, is_shared_number};
 
-use crate::given::Given;
+use crate::given::GivenOperands;
 use crate::items::{Item, between, count, inside, is_shared};
 use crate::keys::Key;
 use crate::rows::{Positional, Rule};
@@ -56,7 +56,7 @@ fn is_common(one: Option<&[u8]>, other: Option<&[u8]>) -> bool
     is_shared(Item::Number(0, 0), listed(one), listed(other))
 }
 
-impl Given<'_> {
+impl GivenOperands<'_> {
     // Whether a required positional operand is not there.
     fn lacks_positional(&self) -> bool
         ensures { result ≡ lacks_positional (row_at self.now.row) (by_place self.now) }

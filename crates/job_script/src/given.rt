@@ -14,7 +14,7 @@ use mvs_model::line::Fault;
 
 /// The operands of a statement: the texts of those that were read so far, in the places that the row and the keys have for them.
 #[derive(Drop)]
-pub struct Given<'a> {
+pub struct GivenOperands<'a> {
     /// What the statement takes.
     pub row: Row,
     /// The keyword operands that it takes.
@@ -47,18 +47,18 @@ fn keyword_at(keywords: &'static [Keyword], key: &[u8]) -> Option<&'static Keywo
     }
 }
 
-impl<'a> Given<'a> {
-    ghost use Rattle.job_script.specs.Given.{IsGiven, IsRead, IsPlaced, Takes, by_place, option_now, field_now};
+impl<'a> GivenOperands<'a> {
+    ghost use Rattle.job_script.specs.GivenOperands.{IsGiven, IsRead, IsPlaced, Takes, by_place, option_now, field_now};
     ghost use Rattle.job_script.specs.Parted.{field_in};
     ghost use Rattle.mvs_model.specs.ReadingLaws.{IsTaken};
     ghost use Rattle.mvs_model.specs.declared.line.Fault.TheVariants.{MissingOperand};
 
     /// No operand.
-    pub fn none(row: Row) -> Given<'a>
+    pub fn none(row: Row) -> GivenOperands<'a>
         ensures given { IsGiven result [] }
         ensures row { result.row ≡ row }
     {
-        Given {
+        GivenOperands {
             row,
             keywords: row.keywords(),
             keyed: false,

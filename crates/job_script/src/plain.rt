@@ -14,7 +14,7 @@ use crate::prefix::{
 use crate::values::bytes;
 use mvs_model::bounded::{Exponent, Length, Offset, ShowLength};
 use mvs_model::code::Form;
-use mvs_model::line::{Line, Location, Statement, Written};
+use mvs_model::line::{Line, Location, SourceRequest, Statement};
 use mvs_model::name::Name;
 use mvs_model::want::{AreaRequest, Loc};
 
@@ -103,7 +103,7 @@ fn read_obtain(task: Name, field: &[u8], line: &mut Line) -> Option<()>
     }
     *line = Line::Statement(
         task,
-        Statement::Request(Written::Obtain {
+        Statement::Request(SourceRequest::Obtain {
             form,
             number,
             ask: AreaRequest::fixed(Length::new(len), Exponent::new(3), loc),
@@ -126,7 +126,7 @@ fn read_release(task: Name, field: &[u8], line: &mut Line) -> Option<()>
     }
     *line = Line::Statement(
         task,
-        Statement::Request(Written::Release {
+        Statement::Request(SourceRequest::Release {
             form,
             number,
             location: Location::Named(name(area), Offset::new(offset)),
@@ -147,7 +147,7 @@ fn read_get(task: Name, conditional: bool, field: &[u8], line: &mut Line) -> Opt
     }
     *line = Line::Statement(
         task,
-        Statement::Request(Written::Get {
+        Statement::Request(SourceRequest::Get {
             pool: name(pool),
             conditional,
             cell: name(cell),
@@ -167,7 +167,7 @@ fn read_free(task: Name, field: &[u8], line: &mut Line) -> Option<()>
     }
     *line = Line::Statement(
         task,
-        Statement::Request(Written::Free {
+        Statement::Request(SourceRequest::Free {
             pool: name(pool),
             cell: Location::Named(name(cell), Offset::new(offset)),
         }),
@@ -196,7 +196,7 @@ fn read_return(task: Name, field: &[u8], line: &mut Line) -> Option<()>
     if !field.is_empty() {
         return None;
     }
-    *line = Line::Statement(task, Statement::Request(Written::Return));
+    *line = Line::Statement(task, Statement::Request(SourceRequest::Return));
     Some(())
 }
 
@@ -212,7 +212,7 @@ fn read_put(task: Name, field: &[u8], line: &mut Line) -> Option<()>
     }
     *line = Line::Statement(
         task,
-        Statement::Request(Written::Put {
+        Statement::Request(SourceRequest::Put {
             to: Location::Named(name(area), Offset::new(offset)),
             bytes: bytes(quoted),
         }),
@@ -232,7 +232,7 @@ fn read_show(task: Name, field: &[u8], line: &mut Line) -> Option<()>
     }
     *line = Line::Statement(
         task,
-        Statement::Request(Written::Show {
+        Statement::Request(SourceRequest::Show {
             from: Location::Named(name(area), Offset::new(offset)),
             len: ShowLength::new(len),
         }),

@@ -3,18 +3,18 @@
 ghost use Rattle.std.specs.Prelude.{◌≡◌, [], codes};
 ghost use Rattle.mvs_model.specs.Grammar.{BuildsPool, GetsCell, FreesCell, DeletesPool};
 ghost use Rattle.mvs_model.specs.Reading.{is_conditional, statement_of};
-ghost use Rattle.job_script.specs.Given.{IsRead, by_place};
+ghost use Rattle.job_script.specs.GivenOperands.{IsRead, by_place};
 ghost use Rattle.job_script.specs.LineMeaning.{filled, line_of_task, Holds, IsRanged, IsNamed, IsLocated};
 
 use crate::addresses::{location, name};
 use crate::digits::bounded;
-use crate::given::Given;
+use crate::given::GivenOperands;
 use crate::keys::Key;
 use mvs_model::bounded::CellCount;
-use mvs_model::line::{Fault, Line, Statement, Written};
+use mvs_model::line::{Fault, Line, SourceRequest, Statement};
 use mvs_model::name::Name;
 
-impl Given<'_> {
+impl GivenOperands<'_> {
     // The keyword after CPOOL GET makes it conditional.
     fn is_conditional(&self) -> bool
         requires { IsRead self.now }
@@ -42,7 +42,7 @@ impl Given<'_> {
         let primary: CellCount = bounded(count);
         *line = Line::Statement(
             task,
-            Statement::Request(Written::Build {
+            Statement::Request(SourceRequest::Build {
                 pool: name(pool),
                 number: self.subpool(),
                 size: bounded(size),
@@ -66,7 +66,7 @@ impl Given<'_> {
         let cell = self.required(Key::Cell)?;
         *line = Line::Statement(
             task,
-            Statement::Request(Written::Get {
+            Statement::Request(SourceRequest::Get {
                 pool: name(pool),
                 conditional: self.is_conditional(),
                 cell: name(cell),
@@ -87,7 +87,7 @@ impl Given<'_> {
         let cell = self.required(Key::Cell)?;
         *line = Line::Statement(
             task,
-            Statement::Request(Written::Free {
+            Statement::Request(SourceRequest::Free {
                 pool: name(pool),
                 cell: location(cell),
             }),
@@ -105,7 +105,7 @@ impl Given<'_> {
         let pool = self.required(Key::Cpid)?;
         *line = Line::Statement(
             task,
-            Statement::Request(Written::Delete { pool: name(pool) }),
+            Statement::Request(SourceRequest::Delete { pool: name(pool) }),
         );
         Ok(())
     }

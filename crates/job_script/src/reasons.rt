@@ -286,12 +286,12 @@ fn push_no_cell(text: &mut LineText, request: &Request, spot: &CellPosition)
 }
 
 // Appends that a task has no subpool with the number of a request.
-fn push_no_subpool(text: &mut LineText, request: &Request, keeper: &Name)
+fn push_no_subpool(text: &mut LineText, request: &Request, effective_task: &Name)
     requires { length text.old ≤ 2 }
-    ensures text { text.new ≡ text.old ++ no_subpool_text request.now keeper.now }
+    ensures text { text.new ≡ text.old ++ no_subpool_text request.now effective_task.now }
     ensures len { length text.new ≤ length text.old + 237 }
 {
-    text.push_name(keeper);
+    text.push_name(effective_task);
     text.push_str(b" has no subpool ");
     text.push_decimal(number(request));
     text.push_str(b". (rule 26)");
@@ -395,7 +395,7 @@ fn push_reason(text: &mut LineText, task: &Name, request: &Request, reason: &Rea
         Reason::Shortage(room) => push_shortage(text, request, room),
         Reason::NoMember(member, short) => push_no_member(text, *member, short),
         Reason::OffDoubleword(addr) => push_off(text, *addr),
-        Reason::NoSubpool(keeper) => push_no_subpool(text, request, keeper),
+        Reason::NoSubpool(effective_task) => push_no_subpool(text, request, effective_task),
         Reason::NotHeld(addr, holder) => {
             push_not_held(text, task, number(request), *addr, holder);
         }

@@ -13,7 +13,7 @@ ghost use Rattle.job_script.specs.Resolving.{IsAccess, IsObtain, IsOfPool, IsOfT
 use crate::names::NamePlaces;
 use mvs_model::bounded::Length;
 use mvs_model::error::OutOfMemory;
-use mvs_model::line::{Location, Locations, Written};
+use mvs_model::line::{Location, Locations, SourceRequest};
 use mvs_model::name::Name;
 use mvs_model::place::{Addr, Place};
 use mvs_model::request::{Lengths, Places, Reply, Request};
@@ -126,29 +126,29 @@ fn unset_among(names: &NamePlaces, locations: &[Location]) -> Option<Name>
 }
 
 /// The first name that a request looks up and that is not set.
-pub fn unset(names: &NamePlaces, written: &Written) -> Option<Name>
+pub fn unset(names: &NamePlaces, written: &SourceRequest) -> Option<Name>
     ensures { result ≡ first_unset names.now (looked_up written.now) }
 {
     match written {
-        Written::Release { location, .. } => unset_in(names, location),
-        Written::ReleaseArea { area, .. } => unset_name(names, area),
-        Written::ReleaseList { locations, .. } => unset_among(names, locations.as_slice()),
-        Written::Free { cell, .. } => unset_in(names, cell),
-        Written::Show { from, .. } => unset_in(names, from),
-        Written::Put { to, .. } => unset_in(names, to),
-        Written::Move { to, from, .. } => unset_among(names, &[*to, *from]),
+        SourceRequest::Release { location, .. } => unset_in(names, location),
+        SourceRequest::ReleaseArea { area, .. } => unset_name(names, area),
+        SourceRequest::ReleaseList { locations, .. } => unset_among(names, locations.as_slice()),
+        SourceRequest::Free { cell, .. } => unset_in(names, cell),
+        SourceRequest::Show { from, .. } => unset_in(names, from),
+        SourceRequest::Put { to, .. } => unset_in(names, to),
+        SourceRequest::Move { to, from, .. } => unset_among(names, &[*to, *from]),
         _ => None,
     }
 }
 
 /// The names that a request sets.
-pub fn names_set(written: &Written) -> &[Name]
+pub fn names_set(written: &SourceRequest) -> &[Name]
     ensures { result.now ≡ names_set written.now }
 {
     match written {
-        Written::Obtain { area, .. } => slice::from_ref(area),
-        Written::ObtainList { areas, .. } => areas.as_slice(),
-        Written::Get { cell, .. } => slice::from_ref(cell),
+        SourceRequest::Obtain { area, .. } => slice::from_ref(area),
+        SourceRequest::ObtainList { areas, .. } => areas.as_slice(),
+        SourceRequest::Get { cell, .. } => slice::from_ref(cell),
         _ => &[],
     }
 }
@@ -183,7 +183,7 @@ fn set_all(names: &mut NamePlaces, areas: &[Name], places: &[Place]) -> Result<(
 /// Sets the names of a request to the places that its reply gives.
 pub fn set_names(
     names: &mut NamePlaces,
-    written: &Written,
+    written: &SourceRequest,
     reply: &Reply,
 ) -> Result<(), OutOfMemory>
     requires { Fit (names_set written.now) (places_in reply.now) }
@@ -195,13 +195,13 @@ pub fn set_names(
 }
 
 // A request that releases, where each name that it looks up is set.
-fn release_request(names: &NamePlaces, written: &Written, request: &mut Request) -> Option<()>
+fn release_request(names: &NamePlaces, written: &SourceRequest, request: &mut Request) -> Option<()>
     requires { IsRelease written.now }
     ensures { MatchOption result (resolved names.now written.now ≡ None)
         (λ _. resolved names.now written.now ≡ Some request.new) }
 {
     match written {
-        Written::Release {
+        SourceRequest::Release {
             form,
             number,
             location,
@@ -214,7 +214,7 @@ fn release_request(names: &NamePlaces, written: &Written, request: &mut Request)
                 place,
             };
         }
-        Written::ReleaseArea { form, number, area } => {
+        SourceRequest::ReleaseArea { form, number, area } => {
             let place = names.get(area)?;
             *request = Request::Release {
                 form: *form,
@@ -222,7 +222,7 @@ fn release_request(names: &NamePlaces, written: &Written, request: &mut Request)
                 place,
             };
         }
-        Written::ReleaseList {
+        SourceRequest::ReleaseList {
             form,
             number,
             locations,
@@ -235,7 +235,7 @@ fn release_request(names: &NamePlaces, written: &Written, request: &mut Request)
                 places,
             };
         }
-        Written::ReleaseWhole { form, number } => {
+        SourceRequest::ReleaseWhole { form, number } => {
             *request = Request::ReleaseWhole {
                 form: *form,
                 number: *number,
@@ -247,24 +247,24 @@ fn release_request(names: &NamePlaces, written: &Written, request: &mut Request)
 }
 
 // A request that reads or writes bytes, where each name that it looks up is set.
-fn access_request(names: &NamePlaces, written: &Written, request: &mut Request) -> Option<()>
+fn access_request(names: &NamePlaces, written: &SourceRequest, request: &mut Request) -> Option<()>
     requires { IsAccess written.now }
     ensures { MatchOption result (resolved names.now written.now ≡ None)
         (λ _. resolved names.now written.now ≡ Some request.new) }
 {
     match written {
-        Written::Show { from, len } => {
+        SourceRequest::Show { from, len } => {
             let from = address(names, from)?;
             *request = Request::Show { from, len: *len };
         }
-        Written::Put { to, bytes } => {
+        SourceRequest::Put { to, bytes } => {
             let to = address(names, to)?;
             *request = Request::Put {
                 to,
                 bytes: bytes.copied(),
             };
         }
-        Written::Move { to, from, len } => {
+        SourceRequest::Move { to, from, len } => {
             let to = address(names, to)?;
             let from = address(names, from)?;
             *request = Request::Move {
@@ -279,12 +279,12 @@ fn access_request(names: &NamePlaces, written: &Written, request: &mut Request) 
 }
 
 // A request that begins or ends a task.
-fn task_request(written: &Written, request: &mut Request)
+fn task_request(written: &SourceRequest, request: &mut Request)
     requires { IsOfTask written.now }
     ensures { (names : FinMap name_cmp PlaceValue) → resolved names written.now ≡ Some request.new }
 {
     match written {
-        Written::Attach {
+        SourceRequest::Attach {
             name,
             gifts,
             residence,
@@ -295,19 +295,19 @@ fn task_request(written: &Written, request: &mut Request)
                 residence: *residence,
             };
         }
-        Written::Return => *request = Request::Return,
-        Written::Abend(code) => *request = Request::Abend(*code),
+        SourceRequest::Return => *request = Request::Return,
+        SourceRequest::Abend(code) => *request = Request::Abend(*code),
         _ => unreachable!(),
     }
 }
 
 // A request that obtains storage.
-fn obtain_request(written: &Written, request: &mut Request)
+fn obtain_request(written: &SourceRequest, request: &mut Request)
     requires { IsObtain written.now }
     ensures { (names : FinMap name_cmp PlaceValue) → resolved names written.now ≡ Some request.new }
 {
     match written {
-        Written::Obtain {
+        SourceRequest::Obtain {
             form,
             number,
             ask,
@@ -319,7 +319,7 @@ fn obtain_request(written: &Written, request: &mut Request)
                 ask: *ask,
             };
         }
-        Written::ObtainList {
+        SourceRequest::ObtainList {
             form,
             number,
             lengths,
@@ -338,13 +338,13 @@ fn obtain_request(written: &Written, request: &mut Request)
 }
 
 // A request for a cell pool, where the name that it looks up is set.
-fn pool_request(names: &NamePlaces, written: &Written, request: &mut Request) -> Option<()>
+fn pool_request(names: &NamePlaces, written: &SourceRequest, request: &mut Request) -> Option<()>
     requires { IsOfPool written.now }
     ensures { MatchOption result (resolved names.now written.now ≡ None)
         (λ _. resolved names.now written.now ≡ Some request.new) }
 {
     match written {
-        Written::Build {
+        SourceRequest::Build {
             pool,
             number,
             size,
@@ -361,7 +361,7 @@ fn pool_request(names: &NamePlaces, written: &Written, request: &mut Request) ->
                 loc: *loc,
             };
         }
-        Written::Get {
+        SourceRequest::Get {
             pool,
             conditional,
             ..
@@ -371,11 +371,11 @@ fn pool_request(names: &NamePlaces, written: &Written, request: &mut Request) ->
                 conditional: *conditional,
             };
         }
-        Written::Free { pool, cell } => {
+        SourceRequest::Free { pool, cell } => {
             let cell = address(names, cell)?;
             *request = Request::Free { pool: *pool, cell };
         }
-        Written::Delete { pool } => *request = Request::Delete { pool: *pool },
+        SourceRequest::Delete { pool } => *request = Request::Delete { pool: *pool },
         _ => unreachable!(),
     }
     Some(())
@@ -383,27 +383,27 @@ fn pool_request(names: &NamePlaces, written: &Written, request: &mut Request) ->
 
 /// Whether each name that a request looks up is set: then `request` is what is asked for, written over another, so that nothing of it is copied.
 /// Where one is not set, what `request` holds is asked for by nobody.
-pub fn resolve(names: &NamePlaces, written: &Written, request: &mut Request) -> Option<()>
+pub fn resolve(names: &NamePlaces, written: &SourceRequest, request: &mut Request) -> Option<()>
     ensures { MatchOption result (resolved names.now written.now ≡ None)
         (λ _. resolved names.now written.now ≡ Some request.new) }
 {
     match written {
-        Written::Obtain { .. } | Written::ObtainList { .. } => {
+        SourceRequest::Obtain { .. } | SourceRequest::ObtainList { .. } => {
             obtain_request(written, request);
             Some(())
         }
-        Written::Release { .. }
-        | Written::ReleaseArea { .. }
-        | Written::ReleaseList { .. }
-        | Written::ReleaseWhole { .. } => release_request(names, written, request),
-        Written::Show { .. } | Written::Put { .. } | Written::Move { .. } => {
+        SourceRequest::Release { .. }
+        | SourceRequest::ReleaseArea { .. }
+        | SourceRequest::ReleaseList { .. }
+        | SourceRequest::ReleaseWhole { .. } => release_request(names, written, request),
+        SourceRequest::Show { .. } | SourceRequest::Put { .. } | SourceRequest::Move { .. } => {
             access_request(names, written, request)
         }
-        Written::Build { .. }
-        | Written::Get { .. }
-        | Written::Free { .. }
-        | Written::Delete { .. } => pool_request(names, written, request),
-        Written::Attach { .. } | Written::Return | Written::Abend(_) => {
+        SourceRequest::Build { .. }
+        | SourceRequest::Get { .. }
+        | SourceRequest::Free { .. }
+        | SourceRequest::Delete { .. } => pool_request(names, written, request),
+        SourceRequest::Attach { .. } | SourceRequest::Return | SourceRequest::Abend(_) => {
             task_request(written, request);
             Some(())
         }

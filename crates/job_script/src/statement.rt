@@ -3,22 +3,22 @@
 ghost use Rattle.std.specs.Prelude.{◌≡◌, true, false};
 ghost use Rattle.std.specs.List.{list_any};
 ghost use Rattle.mvs_model.specs.Reading.{has_key, is_conflict, is_empty, operands_in, statement_of, takes_form};
-ghost use Rattle.job_script.specs.Given.{IsRead, by_place, field_now};
+ghost use Rattle.job_script.specs.GivenOperands.{IsRead, by_place, field_now};
 ghost use Rattle.job_script.specs.Operations.{operation_text};
 ghost use Rattle.job_script.specs.Rowed.{RowReading, FormReading, as_field};
 ghost use Rattle.job_script.specs.Rows.{row_at};
 ghost use Rattle.job_script.specs.LineMeaning.{filled, line_of_task};
 ghost use Rattle.job_script.specs.Parted.{field_in};
 
-use crate::given::Given;
+use crate::given::GivenOperands;
 use crate::keys::Key;
 use crate::operations::Operation;
 use crate::rows::Row;
 use crate::split_once::next_operand;
-use mvs_model::line::{Fault, Line, Statement, Written};
+use mvs_model::line::{Fault, Line, SourceRequest, Statement};
 use mvs_model::name::Name;
 
-impl Given<'_> {
+impl GivenOperands<'_> {
     // Returns the line for operands that were all accepted, and none of which excludes another.
     fn fill(&self, task: Name, form: &[u8], line: &mut Line) -> Result<(), Fault>
         requires read { IsRead self.now }
@@ -47,7 +47,7 @@ impl Given<'_> {
             Row::CpoolDelete => self.delete(task, line),
             Row::Attach => self.attach(task, line),
             Row::Return => {
-                *line = Line::Statement(task, Statement::Request(Written::Return));
+                *line = Line::Statement(task, Statement::Request(SourceRequest::Return));
                 Ok(())
             }
             Row::Abend => self.abend(task, line),
@@ -78,7 +78,7 @@ fn read_row(
     ensures { RowReading (row_at row) task form.now (operands_in (field_now field.entry))
         (filled line.new result) }
 {
-    let mut given = Given::none(row);
+    let mut given = GivenOperands::none(row);
     if let Err(fault) = given.take_field(field) {
         return Err(fault);
     }

@@ -5,19 +5,19 @@ ghost use Rattle.mvs_model.specs.Grammar.{IsRegion, Obtains, ObtainsList, Releas
 ghost use Rattle.mvs_model.specs.Numbers.{most_pages_above, most_pages_below};
 ghost use Rattle.mvs_model.specs.Reading.{number_or, is_word, subpool, start_of, loc_of, residence_of, ask_for, form_of, statement_of};
 ghost use Rattle.job_script.specs.Rows.{key_text};
-ghost use Rattle.job_script.specs.Given.{IsRead, by_place};
+ghost use Rattle.job_script.specs.GivenOperands.{IsRead, by_place};
 ghost use Rattle.job_script.specs.Values.{IsExtent, IsNumbers, IsNames, IsLocations};
 ghost use Rattle.job_script.specs.LineMeaning.{filled, line_of_task, loc_named, Holds, IsRanged, IsNamed, IsLocated, IsByte};
 
 use crate::addresses::{location, name};
 use crate::digits::bounded;
-use crate::given::Given;
+use crate::given::GivenOperands;
 use crate::items::inside;
 use crate::keys::Key;
 use crate::values::{byte, extent, lengths, locations, names};
 use mvs_model::bounded::{Bounded, Exponent, PagesAbove};
 use mvs_model::code::Form;
-use mvs_model::line::{Fault, Line, Statement, Written};
+use mvs_model::line::{Fault, Line, SourceRequest, Statement};
 use mvs_model::name::Name;
 use mvs_model::want::{AreaRequest, Loc, Residence};
 
@@ -34,7 +34,7 @@ fn loc_named(text: &[u8]) -> Loc
     }
 }
 
-impl Given<'_> {
+impl GivenOperands<'_> {
     // The number under a key, or another.
     pub fn number_or<const LEAST: u32, const MOST: u32>(
         &self,
@@ -210,7 +210,7 @@ impl Given<'_> {
         let area = self.required(area)?;
         *line = Line::Statement(
             task,
-            Statement::Request(Written::Obtain {
+            Statement::Request(SourceRequest::Obtain {
                 form: self.form(form),
                 number: self.subpool(),
                 ask: self.ask(lengths),
@@ -233,7 +233,7 @@ impl Given<'_> {
         let areas = self.required(Key::A)?;
         *line = Line::Statement(
             task,
-            Statement::Request(Written::ObtainList {
+            Statement::Request(SourceRequest::ObtainList {
                 form: self.form(form),
                 number: self.subpool(),
                 lengths: lengths(list),
@@ -267,7 +267,7 @@ impl Given<'_> {
             (Some(len), Some(address)) => {
                 *line = Line::Statement(
                     task,
-                    Statement::Request(Written::Release {
+                    Statement::Request(SourceRequest::Release {
                         form,
                         number,
                         location: location(address),
@@ -279,7 +279,7 @@ impl Given<'_> {
             (None, None) => {
                 *line = Line::Statement(
                     task,
-                    Statement::Request(Written::ReleaseWhole { form, number }),
+                    Statement::Request(SourceRequest::ReleaseWhole { form, number }),
                 );
                 Ok(())
             }
@@ -297,7 +297,7 @@ impl Given<'_> {
         let area = self.required(Key::A)?;
         *line = Line::Statement(
             task,
-            Statement::Request(Written::ReleaseArea {
+            Statement::Request(SourceRequest::ReleaseArea {
                 form: self.form(form),
                 number: self.subpool(),
                 area: name(area),
@@ -318,7 +318,7 @@ impl Given<'_> {
         let addresses = self.required(Key::A)?;
         *line = Line::Statement(
             task,
-            Statement::Request(Written::ReleaseList {
+            Statement::Request(SourceRequest::ReleaseList {
                 form: self.form(form),
                 number: self.subpool(),
                 locations: locations(addresses),

@@ -6,18 +6,18 @@ ghost use Rattle.mvs_model.specs.Grammar.{Attaches, Abends};
 ghost use Rattle.mvs_model.specs.Numbers.{task_numbers};
 ghost use Rattle.mvs_model.specs.Reading.{presents, statement_of, set_of, numbers_in, numbers_under, number};
 ghost use Rattle.job_script.specs.Rows.{key_text};
-ghost use Rattle.job_script.specs.Given.{IsRead, by_place};
+ghost use Rattle.job_script.specs.GivenOperands.{IsRead, by_place};
 ghost use Rattle.job_script.specs.Items.{items_in};
 ghost use Rattle.job_script.specs.LineMeaning.{filled, line_of_task, Holds, IsRanged, IsNamed, AreGifts, AreGiven};
 
 use crate::addresses::name;
 use crate::digits::{bounded, number};
-use crate::given::Given;
+use crate::given::GivenOperands;
 use crate::items::inside;
 use crate::keys::Key;
 use crate::split_once::split_once;
 use mvs_model::gifts::Gifts;
-use mvs_model::line::{Fault, Line, Statement, Written};
+use mvs_model::line::{Fault, Line, SourceRequest, Statement};
 use mvs_model::name::Name;
 
 // The set of one number.
@@ -51,7 +51,7 @@ fn set_in(text: &[u8]) -> u128
     }
 }
 
-impl Given<'_> {
+impl GivenOperands<'_> {
     // The set of the numbers under one of two keys.
     fn set_under(&self, one: Key, list: Key) -> u128
         requires read { IsRead self.now }
@@ -96,7 +96,7 @@ impl Given<'_> {
         };
         *line = Line::Statement(
             task,
-            Statement::Request(Written::Attach {
+            Statement::Request(SourceRequest::Attach {
                 name: name(subtask),
                 gifts,
                 residence: self.residence(),
@@ -113,7 +113,10 @@ impl Given<'_> {
             ≡ line_of_task task (statement_of Abends [] (by_place self.now)) }
     {
         let code = self.required_at(0)?;
-        *line = Line::Statement(task, Statement::Request(Written::Abend(bounded(code))));
+        *line = Line::Statement(
+            task,
+            Statement::Request(SourceRequest::Abend(bounded(code))),
+        );
         Ok(())
     }
 }

@@ -29,8 +29,8 @@ use Rattle.request_forms.proofs.Refused.{concerns}
 use Rattle.job_step.specs.Replying.{IsLeft, RepliesWith}
 
 module _ {A : Type 0} (reply_of : A → Reply) (old : State) (t : Name) (request : Request) (answer : Result A Refusal) (new : State) (reply : Reply) (result : Result (Unit {0}) Refusal) where
-  pub hints : Tries reply_of old t request answer new → RepliesWith reply_of answer reply result → Tries (λ _. reply) old t request result new
-  hints = at answer where
+  pub replied : Tries reply_of old t request answer new → RepliesWith reply_of answer reply result → Tries (λ _. reply) old t request result new
+  replied = at answer where
     at : (a : Result A Refusal) → Tries reply_of old t request a new → RepliesWith reply_of a reply result → Tries (λ _. reply) old t request result new
     at (Ok a) h is = subst (λ r. Tries (λ _. reply) old t request r new) (sym is.1) (h.0, subst (λ r. Does old t request r new) (sym is.0) h.1)
     at (Err refusal) h is = subst (λ r. Tries (λ _. reply) old t request r new) (sym is) h

@@ -4,9 +4,9 @@ use Rattle.std.specs.Prelude.{not, ◌||◌, ◌&&◌, is_some}
 use Rattle.std.specs.Bool.{MatchBool}
 use Rattle.std.specs.Option.{option_map, option_and_then}
 use Rattle.std.specs.FinMap.{FinMap, get, insert, get-insert}
-use Rattle.mvs_laws.proofs.Types.{Name, Written, Request, Reply, Statement, Location}
+use Rattle.mvs_laws.proofs.Types.{Name, SourceRequest, Request, Reply, Statement, Location}
 use Rattle.mvs_model.specs.declared.line.Location.TheVariants.{Absolute, Named}
-use Rattle.mvs_model.specs.declared.line.Written.TheVariants as written
+use Rattle.mvs_model.specs.declared.line.SourceRequest.TheVariants as written
 use Rattle.mvs_model.specs.declared.line.Statement.TheVariants as statement
 use Rattle.mvs_model.specs.declared.request.Reply.TheVariants as reply
 use Rattle.mvs_model.specs.declared.refusal.Consequence.{Consequence}
@@ -64,7 +64,7 @@ module _ (a b : FinMap name_cmp PlaceValue) (same : SetAlike a b) where
   places_alike (l ∷ ls) [] = refl
   places_alike (l ∷ ls) (n ∷ ns) = both _ (address_of a l) (places_of a ls ns) ∙ (λ i. address_alike l i && places_alike ls ns i) ∙ sym (both _ (address_of b l) (places_of b ls ns))
 
-  pub resolved_alike : (k : Written) → is_some (resolved a k) ≡ is_some (resolved b k)
+  pub resolved_alike : (k : SourceRequest) → is_some (resolved a k) ≡ is_some (resolved b k)
   resolved_alike (written.Release form n location len) = mapped _ (address_of a location) ∙ address_alike location ∙ sym (mapped _ (address_of b location))
   resolved_alike (written.ReleaseArea form n area) = mapped _ (get a area) ∙ same area ∙ sym (mapped _ (get b area))
   resolved_alike (written.ReleaseList form n locations lengths) = mapped _ (places_of a locations lengths) ∙ places_alike locations lengths ∙ sym (mapped _ (places_of b locations lengths))
@@ -84,7 +84,7 @@ module _ (a b : FinMap name_cmp PlaceValue) (same : SetAlike a b) where
 
 -- ---- how a step ends
 
-module _ (old : State) (t : Name) (k : Written) (r : Request) (answered : Reply) (new : State) where
+module _ (old : State) (t : Name) (k : SourceRequest) (r : Request) (answered : Reply) (new : State) where
   pub data Turned : Type 0 where
     stays : way (answer_of old k r answered) ≡ Stays → new ≡ old → length (places_in answered) ≡ 0 → is_abend answered ≡ false → Turned
     falls : way (answer_of old k r answered) ≡ Falls → Goes_away old.owners t (pool_at old) new.owners (pool_at new) → length (places_in answered) ≡ 0 → is_abend answered ≡ true → new.regions ≡ old.regions → Turned
@@ -121,7 +121,7 @@ module _ (one other : JobValue) (t : Name) (x y : Answer) (a b : JobValue) (like
   alike_at : a ≡ one → b ≡ other → AreAlike a b
   alike_at e f = subst (λ a. AreAlike a b) (sym e) (subst (λ b. AreAlike one b) (sym f) like)
 
-  module _ (k : Written) (r q : Request) (m : Makes Any one t k r x a) (n : Makes Any other t k q y b) where
+  module _ (k : SourceRequest) (r q : Request) (m : Makes Any one t k r x a) (n : Makes Any other t k q y b) where
     finish : (a.state.owners ≡ b.state.owners) × SamePools (pool_at a.state) (pool_at b.state) → length (places_in m.reply) ≡ length (places_in n.reply) → is_abend m.reply ≡ is_abend n.reply → a.state.regions ≡ b.state.regions → AreAlike a b
     finish s l e r = record {
       regions = r;
@@ -154,7 +154,7 @@ module _ (one other : JobValue) (t : Name) (x y : Answer) (a b : JobValue) (like
     steps (goes d) (stays u f h e) = apart (way y) (way x) Stays Goes (to_y u) (to_x d.goes) (sym ways) stays_goes
     steps (goes d) (falls u f h e i) = apart (way y) (way x) Falls Goes (to_y u) (to_x d.goes) (sym ways) falls_goes
 
-  asks : (k : Written) (o p : Option Request) → resolved one.names k ≡ o → resolved other.names k ≡ p → is_some o ≡ is_some p → Asks Any one t k o x a → Asks Any other t k p y b → AreAlike a b
+  asks : (k : SourceRequest) (o p : Option Request) → resolved one.names k ≡ o → resolved other.names k ≡ p → is_some o ≡ is_some p → Asks Any one t k o x a → Asks Any other t k p y b → AreAlike a b
   asks k None None e f s m n = alike_at m.1 n.1
   asks k None (Some q) e f s m n = false_true s
   asks k (Some r) None e f s m n = true_false s

@@ -7,15 +7,15 @@ use Rattle.std.proofs.lemmas.Bool.{cases_lt}
 use Rattle.mvs_model.specs.declared.name.Name.{Name}
 use Rattle.mvs_model.specs.declared.code.Form.{Form}
 use Rattle.mvs_model.specs.declared.line.Statement.TheVariants as says
-use Rattle.mvs_model.specs.declared.line.Written.{Written}
-use Rattle.mvs_model.specs.declared.line.Written.TheVariants as written
+use Rattle.mvs_model.specs.declared.line.SourceRequest.{SourceRequest}
+use Rattle.mvs_model.specs.declared.line.SourceRequest.TheVariants as written
 use Rattle.mvs_model.specs.declared.request.Request.TheVariants as request
 use Rattle.mvs_model.specs.declared.request.Reply.TheVariants.{Obtained}
 use Rattle.mvs_model.specs.Place.{PlaceValue}
 use Rattle.mvs_model.specs.Want.{AskValue, WantValue, IsAsk, want_of}
 use Rattle.mvs_model.specs.Name.{name_cmp}
 use Rattle.mvs_model.specs.Texts.{answer_text, hex}
-use Rattle.mvs_model.specs.Owners.{is_active, keeper}
+use Rattle.mvs_model.specs.Owners.{is_active, effective_task}
 use Rattle.mvs_model.specs.Storage.{Chosen, InRegion, Regions}
 use Rattle.mvs_model.specs.State.{State, holder}
 use Rattle.mvs_model.specs.Codes.{family, is_conditional, short}
@@ -86,11 +86,11 @@ pub record Apart (told : List ℕ) (old a b : JobValue) (t area : Name) (v : Boo
   takes : (k : ℕ) → told ≡ k ∷ [] → FollowsHint old.state keeps number want k one
 
 module _ (told : List ℕ) (old : JobValue) (t : Name) (answer other : Answer) (a b : JobValue) (form : Form) (number : ℕ) (ask : AskValue) (v : Bool) (area : Name) (ranged : IsAsk ask) where
-  abbrev k : Written
+  abbrev k : SourceRequest
   k = written.Obtain form number ask v area
 
   abbrev keeps : Name
-  keeps = keeper old.state.owners t number
+  keeps = effective_task old.state.owners t number
 
   abbrev want : WantValue
   want = want_of ask (side_for old.state t form ask.loc)

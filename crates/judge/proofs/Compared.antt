@@ -4,7 +4,7 @@ use Rattle.std.specs.Prelude.{not}
 use Rattle.std.specs.Bool.{MatchBool}
 use Rattle.std.specs.List.{flat_map}
 use Rattle.std.specs.FinMap.{get}
-use Rattle.mvs_laws.proofs.Types.{Name, Written, Request, Statement, SubpoolLine}
+use Rattle.mvs_laws.proofs.Types.{Name, SourceRequest, Request, Statement, SubpoolLine}
 use Rattle.mvs_model.specs.declared.line.Statement.TheVariants as statement
 use Rattle.mvs_model.specs.Place.{PlaceValue}
 use Rattle.mvs_model.specs.Owners.{is_active}
@@ -33,13 +33,13 @@ is_followed (statement.Request k) = true
 is_followed (statement.Where name) = true
 is_followed _ = false
 
-unsettled : (k : Written) (x : Answer) → is_settled (statement.Request k) x ≡ false → request_settled k x ≡ false
+unsettled : (k : SourceRequest) (x : Answer) → is_settled (statement.Request k) x ≡ false → request_settled k x ≡ false
 unsettled k NotRun e = true_false e
 unsettled k NoName e = true_false e
 unsettled k _ e = e
 
 module _ (old : JobValue) (t : Name) (x : Answer) (new : JobValue) (number : ℕ) where
-  asks_found : is_active old.state.owners t ≡ true → (k : Written) (o : Option Request) → resolved old.names k ≡ o → ShowsSome (statement.Request k) → is_settled (statement.Request k) x ≡ false → Asks Any old t k o x new → Found old.state.owners number t (statement.Request k) x
+  asks_found : is_active old.state.owners t ≡ true → (k : SourceRequest) (o : Option Request) → resolved old.names k ≡ o → ShowsSome (statement.Request k) → is_settled (statement.Request k) x ≡ false → Asks Any old t k o x new → Found old.state.owners number t (statement.Request k) x
   asks_found active k None e some u m = true_false (sym (ap (is_settled (statement.Request k)) m.0) ∙ u)
   asks_found active k (Some r) e some u m =
       subst (Found old.state.owners number t (statement.Request k)) (sym m.told)

@@ -3,15 +3,15 @@ use Rattle.std.proofs.Common.{◌≡◌, ℕ, inl, inr, Bool, true, false, List,
 use Rattle.std.specs.Prelude.{not, ◌==◌, if◌then◌else◌}
 use Rattle.std.specs.Option.{option_map, option_and_then}
 use Rattle.std.specs.FinMap.{FinMap, get}
-use Rattle.mvs_laws.proofs.Types.{Name, Written, Request, Reply, Cell}
+use Rattle.mvs_laws.proofs.Types.{Name, SourceRequest, Request, Reply, Cell}
 use Rattle.mvs_laws.proofs.Types.{Below}
-use Rattle.mvs_model.specs.declared.line.Written.TheVariants as written
+use Rattle.mvs_model.specs.declared.line.SourceRequest.TheVariants as written
 use Rattle.mvs_model.specs.Finite.{Changes, Keeps, filtered}
 use Rattle.mvs_model.specs.Name.{name_cmp, same_name}
 use Rattle.mvs_model.specs.Place.{PlaceValue}
 use Rattle.mvs_model.specs.Want.{fixed_want}
 use Rattle.mvs_model.specs.Owners as owners
-use Rattle.mvs_model.specs.Owners.{Owners, SubpoolOf, Enters, AreDescendants, Ends, ends_with, keeper, subpool_meant}
+use Rattle.mvs_model.specs.Owners.{Owners, SubpoolOf, Enters, AreDescendants, Ends, ends_with, effective_task, subpool_meant}
 use Rattle.mvs_model.specs.Pools.{Pool}
 use Rattle.mvs_model.specs.State.{State}
 use Rattle.mvs_model.specs.Changes.{End, ListGrant}
@@ -59,14 +59,14 @@ abbrev pub is_other : Option ℕ → ℕ → Bool
 is_other None s = true
 is_other (Some r) s = not (s == r)
 
-abbrev pub Effect : Written → Name → Owners → Pools → Owners → Pools → Type 0
-Effect (written.Obtain form n ask variable area) t o p new q = (s : ℕ) × SubpoolOf o (keeper o t n) n s × Enters o (keeper o t n) n s new × SamePools p q
-Effect (written.ObtainList form n lengths start areas) t o p new q = EntersEach o (keeper o t n) n lengths new × SamePools p q
+abbrev pub Effect : SourceRequest → Name → Owners → Pools → Owners → Pools → Type 0
+Effect (written.Obtain form n ask variable area) t o p new q = (s : ℕ) × SubpoolOf o (effective_task o t n) n s × Enters o (effective_task o t n) n s new × SamePools p q
+Effect (written.ObtainList form n lengths start areas) t o p new q = EntersEach o (effective_task o t n) n lengths new × SamePools p q
 Effect (written.Release form n location len) t o p new q = (new ≡ o) × SamePools p q
 Effect (written.ReleaseArea form n area) t o p new q = (new ≡ o) × SamePools p q
 Effect (written.ReleaseList form n locations lengths) t o p new q = (new ≡ o) × SamePools p q
 Effect (written.ReleaseWhole form n) t o p new q = (new ≡ o) × Filters p (is_other (subpool_meant o t n)) q
-Effect (written.Build pool n size primary secondary loc) t o p new q = (s : ℕ) × SubpoolOf o (keeper o t n) n s × Enters o (keeper o t n) n s new × Puts p pool (Some s) q
+Effect (written.Build pool n size primary secondary loc) t o p new q = (s : ℕ) × SubpoolOf o (effective_task o t n) n s × Enters o (effective_task o t n) n s new × Puts p pool (Some s) q
 Effect (written.Get pool conditional cell) t o p new q = (new ≡ o) × SamePools p q
 Effect (written.Free pool cell) t o p new q = (new ≡ o) × SamePools p q
 Effect (written.Delete pool) t o p new q = (new ≡ o) × Puts p pool None q
@@ -78,7 +78,7 @@ Effect (written.Put location bytes) t o p new q = (new ≡ o) × SamePools p q
 Effect (written.Move to from n) t o p new q = (new ≡ o) × SamePools p q
 
 -- how many places it is granted
-abbrev pub many : Written → ℕ
+abbrev pub many : SourceRequest → ℕ
 many (written.Obtain form n ask variable area) = 1
 many (written.ObtainList form n lengths start areas) = length lengths
 many (written.Get pool conditional cell) = 1
@@ -114,18 +114,18 @@ enters_each_one t number (n ∷ lengths) o a b x y =
     enters_each_one t number lengths y.2.0 a b (subst (λ m. EntersEach m t number lengths a) m x.2.2) y.2.2
 
 module _ (t : Name) (o : Owners) (p p' : Pools) (a b : Owners) (q q' : Pools) (same : SamePools p p') where
-  pub one_effect : (k : Written) → Effect k t o p a q → Effect k t o p' b q' → (a ≡ b) × SamePools q q'
+  pub one_effect : (k : SourceRequest) → Effect k t o p a q → Effect k t o p' b q' → (a ≡ b) × SamePools q q'
   one_effect (written.Obtain form n ask variable area) x y =
-      let s = one_subpool o (keeper o t n) n x.0 y.0 x.1 y.1 in
-      (one_enters o (keeper o t n) n y.0 a b (subst (λ s. Enters o (keeper o t n) n s a) s x.2) y.2, pools_one t o p p' a b q q' same x.3 y.3)
-  one_effect (written.ObtainList form n lengths start areas) x y = (enters_each_one (keeper o t n) n lengths o a b x.0 y.0, pools_one t o p p' a b q q' same x.1 y.1)
+      let s = one_subpool o (effective_task o t n) n x.0 y.0 x.1 y.1 in
+      (one_enters o (effective_task o t n) n y.0 a b (subst (λ s. Enters o (effective_task o t n) n s a) s x.2) y.2, pools_one t o p p' a b q q' same x.3 y.3)
+  one_effect (written.ObtainList form n lengths start areas) x y = (enters_each_one (effective_task o t n) n lengths o a b x.0 y.0, pools_one t o p p' a b q q' same x.1 y.1)
   one_effect (written.Release form n location len) x y = (x.0 ∙ sym y.0, pools_one t o p p' a b q q' same x.1 y.1)
   one_effect (written.ReleaseArea form n area) x y = (x.0 ∙ sym y.0, pools_one t o p p' a b q q' same x.1 y.1)
   one_effect (written.ReleaseList form n locations lengths) x y = (x.0 ∙ sym y.0, pools_one t o p p' a b q q' same x.1 y.1)
   one_effect (written.ReleaseWhole form n) x y = (x.0 ∙ sym y.0, filters_one t o p p' a b q q' same (is_other (subpool_meant o t n)) (is_other (subpool_meant o t n)) refl x.1 y.1)
   one_effect (written.Build pool n size primary secondary loc) x y =
-      let s = one_subpool o (keeper o t n) n x.0 y.0 x.1 y.1 in
-      (one_enters o (keeper o t n) n y.0 a b (subst (λ s. Enters o (keeper o t n) n s a) s x.2) y.2, puts_one t o p p' a b q q' same pool (Some x.0) (Some y.0) (ap Some s) x.3 y.3)
+      let s = one_subpool o (effective_task o t n) n x.0 y.0 x.1 y.1 in
+      (one_enters o (effective_task o t n) n y.0 a b (subst (λ s. Enters o (effective_task o t n) n s a) s x.2) y.2, puts_one t o p p' a b q q' same pool (Some x.0) (Some y.0) (ap Some s) x.3 y.3)
   one_effect (written.Get pool conditional cell) x y = (x.0 ∙ sym y.0, pools_one t o p p' a b q q' same x.1 y.1)
   one_effect (written.Free pool cell) x y = (x.0 ∙ sym y.0, pools_one t o p p' a b q q' same x.1 y.1)
   one_effect (written.Delete pool) x y = (x.0 ∙ sym y.0, puts_one t o p p' a b q q' same pool None None refl x.1 y.1)
@@ -146,7 +146,7 @@ subpool_kept f (Some pool) = by (f pool.subpool) where
   by false = refl
 
 module _ (old : State) (t : Name) (new : State) where
-  abbrev Are : Written → Type 0
+  abbrev Are : SourceRequest → Type 0
   Are k = Effect k t old.owners (pool_at old) new.owners (pool_at new)
 
   same_pools : new.pools ≡ old.pools → SamePools (pool_at old) (pool_at new)
@@ -173,7 +173,7 @@ put_same p q name v is x n = by (same_name n name) refl where
   by false e = (λ i. if sym e i then v else p n) ∙ sym (x n)
 
 -- A request is done: its effect, how many places it is granted, and that it is answered so.
-pub record Doing (old : State) (t : Name) (new : State) (reply : Reply) (k : Written) (r : Request) : Type 0 where
+pub record Doing (old : State) (t : Name) (new : State) (reply : Reply) (k : SourceRequest) (r : Request) : Type 0 where
   pub effect : Effect k t old.owners (pool_at old) new.owners (pool_at new)
   pub count : length (places_in reply) ≡ many k
   pub goes : way (answer_of old k r reply) ≡ Goes
@@ -218,19 +218,19 @@ pub two_is : {A B : Type 0} (o : Option A) (p : Option B) (f : A → B → Reque
 two_is None p f r P e h = none_some e
 two_is (Some a) p f r P e h = map_is p (f a) r P e (h a)
 
-grant_goes : (k : Written) (p : PlaceValue) → way (grant_answer k p) ≡ Goes
+grant_goes : (k : SourceRequest) (p : PlaceValue) → way (grant_answer k p) ≡ Goes
 grant_goes (written.Obtain form n ask true area) p = refl
 grant_goes (written.Obtain form n ask false area) p = refl
 grant_goes _ p = refl
 
 module _ (names : FinMap name_cmp PlaceValue) (old : State) (t : Name) (new : State) (reply : Reply) where
-  abbrev pub May : Written → Request → Type 0
+  abbrev pub May : SourceRequest → Request → Type 0
   May k r = Does old t r reply new → Doing old t new reply k r
 
-  abbrev pub Is : Written → Type 0
+  abbrev pub Is : SourceRequest → Type 0
   Is k = (r : Request) → resolved names k ≡ Some r → May k r
 
-  made : (k : Written) (r : Request) (c : Reply) → reply ≡ c → Effect k t old.owners (pool_at old) new.owners (pool_at new) → length (places_in c) ≡ many k → way (answer_of old k r c) ≡ Goes → is_abend c ≡ false → new.regions ≡ old.regions → Doing old t new reply k r
+  made : (k : SourceRequest) (r : Request) (c : Reply) → reply ≡ c → Effect k t old.owners (pool_at old) new.owners (pool_at new) → length (places_in c) ≡ many k → way (answer_of old k r c) ≡ Goes → is_abend c ≡ false → new.regions ≡ old.regions → Doing old t new reply k r
   made k r c e effect count goes whole regions = record {
     effect = effect;
     count = ap (λ c. length (places_in c)) e ∙ count;
@@ -254,18 +254,18 @@ module _ (names : FinMap name_cmp PlaceValue) (old : State) (t : Name) (new : St
   deleted name None x = absurd x
   deleted name (Some pool) x = (x.owners, put_pools old t new name None x.pools, x.regions)
 
-  pub does_effect : (k : Written) → Is k
+  pub does_effect : (k : SourceRequest) → Is k
   does_effect (written.Obtain form n ask variable area) r e = subst (May (written.Obtain form n ask variable area)) (some_one _ r e)
       (λ x. made _ _ _ x.1 (x.2.subpool, x.2.is_subpool, x.2.owners, same_pools old t new x.2.pools) refl (grant_goes (written.Obtain form n ask variable area) x.0) refl x.2.regions)
   does_effect (written.ObtainList form n lengths start areas) r e = subst (May (written.ObtainList form n lengths start areas)) (some_one _ r e)
-      (λ x. let g = list_effect (keeper old.owners t n) n start lengths x.0 old new x.2 in made _ _ _ x.1 (g.0, same_pools old t new g.1) g.2 refl refl g.3)
+      (λ x. let g = list_effect (effective_task old.owners t n) n start lengths x.0 old new x.2 in made _ _ _ x.1 (g.0, same_pools old t new g.1) g.2 refl refl g.3)
   does_effect (written.Release form n location len) r e = map_is (address_of names location) _ r (May (written.Release form n location len)) e (λ a x. made _ _ _ x.0 (x.1.owners, same_pools old t new x.1.pools) refl refl refl x.1.regions)
   does_effect (written.ReleaseArea form n area) r e = map_is (get names area) _ r (May (written.ReleaseArea form n area)) e (λ a x. made _ _ _ x.0 (x.1.owners, same_pools old t new x.1.pools) refl refl refl x.1.regions)
   does_effect (written.ReleaseList form n locations lengths) r e = map_is (places_of names locations lengths) _ r (May (written.ReleaseList form n locations lengths)) e (λ a x. made _ _ _ x.0 (x.1.owners, same_pools old t new x.1.pools) refl refl refl x.1.regions)
   does_effect (written.ReleaseWhole form n) r e = subst (May (written.ReleaseWhole form n)) (some_one _ r e)
       (λ x. let y = emptied (subpool_meant old.owners t n) x.1 in made _ _ _ x.0 (y.0, y.1) refl refl refl y.2)
   does_effect (written.Build pool n size primary secondary loc) r e = subst (May (written.Build pool n size primary secondary loc)) (some_one _ r e)
-      (λ x. let b = x.1 in made _ _ _ x.0 (b.0, b.1, subst (Enters old.owners (keeper old.owners t n) n b.0) (sym b.2.3.owners_are) b.2.2, put_pools old t new pool _ b.2.3.pools) refl refl refl b.2.3.regions)
+      (λ x. let b = x.1 in made _ _ _ x.0 (b.0, b.1, subst (Enters old.owners (effective_task old.owners t n) n b.0) (sym b.2.3.owners_are) b.2.2, put_pools old t new pool _ b.2.3.pools) refl refl refl b.2.3.regions)
   does_effect (written.Get pool conditional cell) r e = subst (May (written.Get pool conditional cell)) (some_one _ r e)
       (λ x. let g = get_effect old pool (get old.pools pool) reply new refl x in let c = get_cell old pool (get old.pools pool) reply new x in made _ _ _ c.1 (g.0, g.1) refl refl refl g.3)
   does_effect (written.Free pool cell) r e = map_is (address_of names cell) _ r (May (written.Free pool cell)) e (λ a x. let y = given_back pool a (get old.pools pool) refl x.1 in made _ _ _ x.0 (y.0, y.1) refl refl refl y.2)

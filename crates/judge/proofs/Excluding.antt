@@ -3,10 +3,10 @@ use Rattle.std.proofs.Common.{Decides as Tests, ◌≡◌, ℕ, ◌+◌, ◌⊎�
 use Rattle.std.specs.Prelude.{not, ◌&&◌, ◌||◌, if◌then◌else◌}
 use Rattle.std.specs.Bool.{MatchBool}
 use Rattle.std.proofs.lemmas.List.{append_cancel_left}
-use Rattle.mvs_laws.proofs.Types.{Name, Request, Written, Statement, Line, Fault, Outcome}
+use Rattle.mvs_laws.proofs.Types.{Name, Request, SourceRequest, Statement, Line, Fault, Outcome}
 use Rattle.mvs_model.specs.declared.line.Line.TheVariants as line
 use Rattle.mvs_model.specs.declared.line.Statement.TheVariants as statement
-use Rattle.mvs_model.specs.declared.line.Written.TheVariants as written
+use Rattle.mvs_model.specs.declared.line.SourceRequest.TheVariants as written
 use Rattle.mvs_model.specs.declared.request.Reply.{Reply}
 use Rattle.mvs_model.specs.declared.request.Reply.TheVariants as reply
 use Rattle.mvs_model.specs.declared.request.Request.TheVariants as request
@@ -61,12 +61,12 @@ abbrev is_region : Answer → Bool
 is_region (Region card) = true
 is_region _ = false
 
-replies_apart : (st : State) (k : Written) (r : Request) (c : Reply) → is_region (answer_of st k r c) ≡ false
+replies_apart : (st : State) (k : SourceRequest) (r : Request) (c : Reply) → is_region (answer_of st k r c) ≡ false
 replies_apart st k r reply.NotRun = refl
 replies_apart st k r reply.Rc0 = refl
 replies_apart st k r reply.Rc4 = refl
 replies_apart st k r (reply.Obtained p) = at k where
-  at : (j : Written) → is_region (grant_answer j p) ≡ false
+  at : (j : SourceRequest) → is_region (grant_answer j p) ≡ false
   at (written.Obtain form n ask true area) = refl
   at (written.Obtain form n ask false area) = refl
   at _ = refl
@@ -81,7 +81,7 @@ replies_apart st k r reply.Done = at r where
   at _ = refl
 replies_apart st k r (reply.Abended code fallen) = refl
 
-asks_apart : (old : JobValue) (t : Name) (k : Written) (o : Option Request) (x : Answer) (new : JobValue) → Asks Any old t k o x new → is_region x ≡ false
+asks_apart : (old : JobValue) (t : Name) (k : SourceRequest) (o : Option Request) (x : Answer) (new : JobValue) → Asks Any old t k o x new → is_region x ≡ false
 asks_apart old t k None x new m = ap is_region m.0
 asks_apart old t k (Some r) x new m = ap is_region m.told ∙ replies_apart old.state k r m.reply
 

@@ -9,8 +9,8 @@ use Rattle.mvs_model.specs.declared.name.Name.{Name}
 use Rattle.mvs_model.specs.declared.code.Form.{Form}
 use Rattle.mvs_model.specs.declared.want.Side.TheVariants.{Below}
 use Rattle.mvs_model.specs.declared.line.Statement.TheVariants as says
-use Rattle.mvs_model.specs.declared.line.Written.{Written}
-use Rattle.mvs_model.specs.declared.line.Written.TheVariants as written
+use Rattle.mvs_model.specs.declared.line.SourceRequest.{SourceRequest}
+use Rattle.mvs_model.specs.declared.line.SourceRequest.TheVariants as written
 use Rattle.mvs_model.specs.declared.request.Request.{Request}
 use Rattle.mvs_model.specs.declared.request.Request.TheVariants as request
 use Rattle.mvs_model.specs.declared.request.Reply.{Reply}
@@ -19,7 +19,7 @@ use Rattle.mvs_model.specs.Place.{PlaceValue}
 use Rattle.mvs_model.specs.Want.{WantValue, fixed_want}
 use Rattle.mvs_model.specs.Name.{name_cmp, trimmed}
 use Rattle.mvs_model.specs.Texts.{answer_text, code_text, reply_line}
-use Rattle.mvs_model.specs.Owners.{is_active, keeper}
+use Rattle.mvs_model.specs.Owners.{is_active, effective_task}
 use Rattle.mvs_model.specs.Storage.{InRegion, Regions}
 use Rattle.mvs_model.specs.State.{State}
 use Rattle.mvs_model.specs.declared.code.Family.{Family}
@@ -137,14 +137,14 @@ abbrev pub AreOtherwise : Answer → Answer → Type 0
 AreOtherwise answer other = ((answer ≡ Rc0) × IsFailure other) ⊎ (IsFailure answer × (other ≡ Rc0))
 
 module _ (told : List ℕ) (old : JobValue) (t : Name) (answer other : Answer) (a b : JobValue) (form : Form) (number : ℕ) (lengths : List ℕ) (start : ℕ) (areas : List Name) (long : length lengths ≡ length areas) (apart : AreApart areas) (bounded : IsBounded old.state.regions) where
-  abbrev k : Written
+  abbrev k : SourceRequest
   k = written.ObtainList form number lengths start areas
 
   abbrev r : Request
   r = request.ObtainList form number lengths start
 
   abbrev keeps : Name
-  keeps = keeper old.state.owners t number
+  keeps = effective_task old.state.owners t number
 
   abbrev wants : List WantValue
   wants = map (λ n. fixed_want n start Below) lengths

@@ -5,9 +5,9 @@ use Rattle.std.specs.Bool.{MatchBool}
 use Rattle.std.specs.List.{list_all}
 use Rattle.std.specs.FinMap.{FinMap, get, contains_key}
 use Rattle.std.specs.FinSet as set
-use Rattle.mvs_laws.proofs.Types.{Name, Code, User, System, Form, Written, Request, Reply, Statement}
+use Rattle.mvs_laws.proofs.Types.{Name, Code, User, System, Form, SourceRequest, Request, Reply, Statement}
 use Rattle.mvs_model.specs.declared.code.Family.TheVariants.{Located}
-use Rattle.mvs_model.specs.declared.line.Written.TheVariants as written
+use Rattle.mvs_model.specs.declared.line.SourceRequest.TheVariants as written
 use Rattle.mvs_model.specs.declared.line.Statement.TheVariants as statement
 use Rattle.mvs_model.specs.declared.request.Reply.TheVariants as reply
 use Rattle.mvs_model.specs.declared.request.Request.TheVariants as request
@@ -58,32 +58,32 @@ length_shown st a zero = refl
 length_shown st a (suc n) = let e = length_shown st (a + 1) n in omega (arith, e)
 
 module _ (names : FinMap name_cmp PlaceValue) (old : State) (t : Name) (new : State) (answered : Reply) (number : ℕ) where
-  abbrev In : Written → Request → List ℕ → Type 0
+  abbrev In : SourceRequest → Request → List ℕ → Type 0
   In k r front = Is old.owners number t (shown (statement.Request k)) front (answer_of old k r answered)
 
-  by : (k : Written) (r : Request) (front : List ℕ) (c : Reply) → answered ≡ c → Is old.owners number t (shown (statement.Request k)) front (answer_of old k r c) → In k r front
+  by : (k : SourceRequest) (r : Request) (front : List ℕ) (c : Reply) → answered ≡ c → Is old.owners number t (shown (statement.Request k)) front (answer_of old k r c) → In k r front
   by k r front c e x = subst (λ c. Is old.owners number t (shown (statement.Request k)) front (answer_of old k r c)) (sym e) x
 
-  abends : (k : Written) (r : Request) (code : Code) → Abends old t code answered new → In k r (abend_opening code)
+  abends : (k : SourceRequest) (r : Request) (code : Code) → Abends old t code answered new → In k r (abend_opening code)
   abends k r code x = by k r (abend_opening code) _ x.1 (x.0.is_fallen, rest_abend number t code x.0.fallen)
 
-  fails : (k : Written) (r : Request) (b : Bool) (code : Code) → Fails b old t code answered new → In k r (if b then codes "RC 4\n" else abend_opening code)
+  fails : (k : SourceRequest) (r : Request) (b : Bool) (code : Code) → Fails b old t code answered new → In k r (if b then codes "RC 4\n" else abend_opening code)
   fails k r true code x = by k r (codes "RC 4\n") reply.Rc4 x.0 (tt, rest_rc4 number t)
   fails k r false code x = abends k r code x
 
-  rc0 : (k : Written) (r : Request) → answered ≡ reply.Rc0 → In k r (codes "RC 0\n")
+  rc0 : (k : SourceRequest) (r : Request) → answered ≡ reply.Rc0 → In k r (codes "RC 0\n")
   rc0 k r e = by k r (codes "RC 0\n") reply.Rc0 e (tt, rest_rc0 number t)
 
   -- the answer of a request that is not settled
-  abbrev pub OpenedBy : Written → Request → Type 0
+  abbrev pub OpenedBy : SourceRequest → Request → Type 0
   OpenedBy k r = ShowsSome (statement.Request k) → request_settled k (answer_of old k r answered) ≡ false → Acts old t r answered new → Found old.owners number t (statement.Request k) (answer_of old k r answered)
 
   -- two fronts
-  two : (k : Written) (r : Request) (f g : List ℕ) → In k r f ⊎ In k r g → Measured old.owners t (shown (statement.Request k)) (answer_of old k r answered) × Opens number t (f ∷ g ∷ []) (answer_of old k r answered)
+  two : (k : SourceRequest) (r : Request) (f g : List ℕ) → In k r f ⊎ In k r g → Measured old.owners t (shown (statement.Request k)) (answer_of old k r answered) × Opens number t (f ∷ g ∷ []) (answer_of old k r answered)
   two k r f g (inl x) = first _ _ _ _ _ f (g ∷ []) x
   two k r f g (inr x) = next _ _ _ _ _ f (g ∷ []) (first _ _ _ _ _ g [] x)
 
-  three : (k : Written) (r : Request) (f g h : List ℕ) → In k r f ⊎ (In k r g ⊎ In k r h) → Measured old.owners t (shown (statement.Request k)) (answer_of old k r answered) × Opens number t (f ∷ g ∷ h ∷ []) (answer_of old k r answered)
+  three : (k : SourceRequest) (r : Request) (f g h : List ℕ) → In k r f ⊎ (In k r g ⊎ In k r h) → Measured old.owners t (shown (statement.Request k)) (answer_of old k r answered) × Opens number t (f ∷ g ∷ h ∷ []) (answer_of old k r answered)
   three k r f g h (inl x) = first _ _ _ _ _ f (g ∷ h ∷ []) x
   three k r f g h (inr x) = next _ _ _ _ _ f (g ∷ h ∷ []) (two k r g h x)
 
@@ -92,7 +92,7 @@ module _ (names : FinMap name_cmp PlaceValue) (old : State) (t : Name) (new : St
   unless P Q R false e x f = f x
 
   -- the answer is measured, and begins with one of these
-  abbrev Starts : Written → Request → List (List ℕ) → Type 0
+  abbrev Starts : SourceRequest → Request → List (List ℕ) → Type 0
   Starts k r fronts = Measured old.owners t (shown (statement.Request k)) (answer_of old k r answered) × Opens number t fronts (answer_of old k r answered)
 
   ok : List ℕ
@@ -104,7 +104,7 @@ module _ (names : FinMap name_cmp PlaceValue) (old : State) (t : Name) (new : St
   off : Form → List ℕ
   off form = abend_opening (bad_address (family form))
 
-  released : (k : Written) (r : Request) (form : Form) (n : ℕ) (ps : List PlaceValue) → is_invalid n ≡ false → ReleaseStep old t form n ps answered new → Starts k r (ok ∷ unheld form ∷ off form ∷ [])
+  released : (k : SourceRequest) (r : Request) (form : Form) (n : ℕ) (ps : List PlaceValue) → is_invalid n ≡ false → ReleaseStep old t form n ps answered new → Starts k r (ok ∷ unheld form ∷ off form ∷ [])
   unfolding ok unheld off
   released k r form n ps e x = unless _ _ (Starts k r (ok ∷ unheld form ∷ off form ∷ [])) (is_invalid n) e x (λ x. at (not (list_all on_doubleword ps)) x) where
     held : ((MayRelease old (subpool_meant old.owners t n) (map whole ps) → ⊥) × Fails (is_conditional form) old t (not_held (family form)) answered new) ⊎ (MayRelease old (subpool_meant old.owners t n) (map whole ps) × (answered ≡ reply.Rc0) × Frees old (map whole ps) new)
@@ -123,7 +123,7 @@ module _ (names : FinMap name_cmp PlaceValue) (old : State) (t : Name) (new : St
   too_many : List ℕ
   too_many = abend_opening too_many_pools
 
-  built : (k : Written) (r : Request) (P Q : Type 0) (b c d : Bool) → (if b then true else is_user 4008 (answer_of old k r answered)) ≡ false
+  built : (k : SourceRequest) (r : Request) (P Q : Type 0) (b c d : Bool) → (if b then true else is_user 4008 (answer_of old k r answered)) ≡ false
       → MatchBool b (Abends old t (System 0xB78) answered new) (MatchBool c (Abends old t (User 4008) answered new) (MatchBool d (Abends old t too_many_pools answered new) ((P × Abends old t (short Located) answered new) ⊎ (Q × (answered ≡ reply.Rc0)))))
       → Starts k r (ok ∷ full ∷ too_many ∷ [])
   unfolding ok full too_many
@@ -133,7 +133,7 @@ module _ (names : FinMap name_cmp PlaceValue) (old : State) (t : Name) (new : St
   built k r P Q false false false e (inl x) = three k r ok full too_many (inr (inl (abends k r (short Located) x.1)))
   built k r P Q false false false e (inr x) = three k r ok full too_many (inl (rc0 k r x.1))
 
-  a_cell : (k : Written) (r : Request) (p : PlaceValue) → answered ≡ reply.Cell p → In k r (codes "CELL\n")
+  a_cell : (k : SourceRequest) (r : Request) (p : PlaceValue) → answered ≡ reply.Cell p → In k r (codes "CELL\n")
   a_cell k r p e = by k r (codes "CELL\n") (reply.Cell p) e (tt, rest_cell number t)
 
   gets : (pool cell : Name) (conditional : Bool) (o : Option Pool) → is_user 4002 (answer_of old (written.Get pool conditional cell) (request.Get pool conditional) answered) ≡ false → GetStep old t pool conditional o answered new
@@ -150,7 +150,7 @@ module _ (names : FinMap name_cmp PlaceValue) (old : State) (t : Name) (new : St
   not_taken : List ℕ
   not_taken = abend_opening no_such_cell
 
-  frees : (k : Written) (r : Request) (pool : Name) (a : ℕ) (o : Option Pool) → is_user 4002 (answer_of old k r answered) ≡ false → FreeStep old t pool a o answered new → Starts k r (ok ∷ not_taken ∷ [])
+  frees : (k : SourceRequest) (r : Request) (pool : Name) (a : ℕ) (o : Option Pool) → is_user 4002 (answer_of old k r answered) ≡ false → FreeStep old t pool a o answered new → Starts k r (ok ∷ not_taken ∷ [])
   unfolding ok not_taken
   frees k r pool a None e x = true_false (sym (ap (λ c. is_user 4002 (answer_of old k r c)) x.1) ∙ e)
   frees k r pool a (Some p) e x = at _ (not (set.contains p.taken a)) x where
@@ -161,32 +161,32 @@ module _ (names : FinMap name_cmp PlaceValue) (old : State) (t : Name) (new : St
   denied : List ℕ
   denied = abend_opening no_access
 
-  accessed : (k : Written) (r : Request) (Q : Type 0) (b : Bool) (front : List ℕ) → (answered ≡ reply.Done → In k r front) → MatchBool b (Abends old t no_access answered new) ((answered ≡ reply.Done) × Q) → Starts k r (front ∷ denied ∷ [])
+  accessed : (k : SourceRequest) (r : Request) (Q : Type 0) (b : Bool) (front : List ℕ) → (answered ≡ reply.Done → In k r front) → MatchBool b (Abends old t no_access answered new) ((answered ≡ reply.Done) × Q) → Starts k r (front ∷ denied ∷ [])
   unfolding denied
   accessed k r Q true front f x = two k r front denied (inr (abends k r no_access x))
   accessed k r Q false front f x = two k r front denied (inl (f x.0))
 
-  data_of : (k : Written) (a n : ℕ) → shown (statement.Request k) ≡ n → 0 < n → answered ≡ reply.Done → In k (request.Show a n) (codes "DATA +0000 ")
+  data_of : (k : SourceRequest) (a n : ℕ) → shown (statement.Request k) ≡ n → 0 < n → answered ≡ reply.Done → In k (request.Show a n) (codes "DATA +0000 ")
   data_of k a n is some e = by k (request.Show a n) (codes "DATA +0000 ") reply.Done e ((length_shown old a n ∙ sym is, (let s = is in omega (arith, s, some))), rest_data number t (bytes_at old a n) (let l = length_shown old a n in omega (arith, l, some)))
 
   short_of : Form → List ℕ
   short_of form = failed form (short (family form))
 
-  obtained : (k : Written) (r : Request) (b : Bool) (form : Form) (P S : Type 0) (Q : PlaceValue → Type 0) (front : List ℕ) → ((p : PlaceValue) → answered ≡ reply.Obtained p → In k r front) → b ≡ false
+  obtained : (k : SourceRequest) (r : Request) (b : Bool) (form : Form) (P S : Type 0) (Q : PlaceValue → Type 0) (front : List ℕ) → ((p : PlaceValue) → answered ≡ reply.Obtained p → In k r front) → b ≡ false
       → MatchBool b P ((S × Fails (is_conditional form) old t (short (family form)) answered new) ⊎ ((p : PlaceValue) × (answered ≡ reply.Obtained p) × Q p)) → Starts k r (front ∷ short_of form ∷ [])
   unfolding short_of
   obtained k r true form P S Q front f e x = true_false e
   obtained k r false form P S Q front f e (inl x) = two k r front (short_of form) (inr (fails k r (is_conditional form) (short (family form)) x.1))
   obtained k r false form P S Q front f e (inr x) = two k r front (short_of form) (inl (f x.0 x.1))
 
-  listed : (k : Written) (r : Request) (b : Bool) (form : Form) (P S : Type 0) (Q : List PlaceValue → Type 0) → b ≡ false
+  listed : (k : SourceRequest) (r : Request) (b : Bool) (form : Form) (P S : Type 0) (Q : List PlaceValue → Type 0) → b ≡ false
       → MatchBool b P ((S × Fails (is_conditional form) old t (short (family form)) answered new) ⊎ ((ps : List PlaceValue) × (answered ≡ reply.Listed ps) × Q ps)) → Starts k r (ok ∷ short_of form ∷ [])
   unfolding ok short_of
   listed k r true form P S Q e x = true_false e
   listed k r false form P S Q e (inl x) = two k r ok (short_of form) (inr (fails k r (is_conditional form) (short (family form)) x.1))
   listed k r false form P S Q e (inr x) = two k r ok (short_of form) (inl (by k r ok (reply.Listed x.0) x.1 (tt, rest_rc0 number t)))
 
-  pub opened : (k : Written) (r : Request) → resolved names k ≡ Some r → OpenedBy k r
+  pub opened : (k : SourceRequest) (r : Request) → resolved names k ≡ Some r → OpenedBy k r
   unfolding ok unheld off full too_many not_taken denied short_of
   opened (written.Obtain form n ask true area) r e = subst (OpenedBy (written.Obtain form n ask true area)) (some_one _ r e)
       (λ some s x. obtained (written.Obtain form n ask true area) (request.Obtain form n ask) (is_invalid n) form _ _ _ (codes "RC 0 LENGTH ") (λ p e. by (written.Obtain form n ask true area) (request.Obtain form n ask) (codes "RC 0 LENGTH ") (reply.Obtained p) e (tt, rest_granted number t p.len)) s x)

@@ -11,7 +11,7 @@ use Rattle.mvs_model.specs.declared.line.Line.{Line}
 use Rattle.mvs_model.specs.declared.line.Line.TheVariants as line
 use Rattle.mvs_model.specs.declared.line.Statement.{Statement}
 use Rattle.mvs_model.specs.declared.line.Statement.TheVariants as says
-use Rattle.mvs_model.specs.declared.line.Written.{Written}
+use Rattle.mvs_model.specs.declared.line.SourceRequest.{SourceRequest}
 use Rattle.mvs_model.specs.declared.code.Code.{Code}
 use Rattle.mvs_model.specs.declared.code.Code.TheVariants.{User}
 use Rattle.mvs_model.specs.declared.code.Form.{Form}
@@ -62,7 +62,7 @@ map_opens o f r h1 h2 = grind (arith, nat_tests, made_opens, none_some)
 two_opens : {A B : Type 0} (o : Option A) (p : Option B) (f : A → B → Request) (r : Request) → option_and_then (λ a. option_map (f a) p) o ≡ Some r → ((a : A) (b : B) → opens (f a b) ≡ false) → opens r ≡ false
 two_opens o p f r h1 h2 = grind (arith, nat_tests, map_opens, none_some)
 
-asked_opens : (names : FinMap name_cmp PlaceValue) (a : Written) (r : Request) → may_grant a ≡ false → resolved names a ≡ Some r → opens r ≡ false
+asked_opens : (names : FinMap name_cmp PlaceValue) (a : SourceRequest) (r : Request) → may_grant a ≡ false → resolved names a ≡ Some r → opens r ≡ false
 asked_opens names a r h1 h2 = grind (arith, nat_tests, made_opens, map_opens, two_opens)
 
 module _ (old : State) (t : Name) (reply : Reply) (new : State) where
@@ -114,14 +114,14 @@ closed_same old t r one other a b closed x y = by_two (not (is_active old.owners
 -- ---- what two steps alike leave
 
 module _ (P : Condition) (old : JobValue) (t : Name) (answer other : Answer) (a b : JobValue) where
-  pub made_same : (k : Written) (r : Request) (x : Makes P old t k r answer a) (y : Makes Any old t k r other b) → x.reply ≡ y.reply → a.state ≡ b.state → (answer ≡ other) × (a ≡ b)
+  pub made_same : (k : SourceRequest) (r : Request) (x : Makes P old t k r answer a) (y : Makes Any old t k r other b) → x.reply ≡ y.reply → a.state ≡ b.state → (answer ≡ other) × (a ≡ b)
   made_same k r x y reply state =
       let names : a.names ≡ b.names = x.names ∙ ap (λ reply. all_set old.names (names_set k) (places_in reply)) reply ∙ sym y.names in
       let abended : a.abended ≡ b.abended = x.abended ∙ ap (λ reply. old.abended || is_abend reply) reply ∙ sym y.abended in
       let former : a.former ≡ b.former = x.former ∙ sym y.former in
       (x.told ∙ ap (answer_of old.state k r) reply ∙ sym y.told, λ i. record { state = state i; names = names i; abended = abended i; former = former i })
 
-  asks_same : (k : Written) (o : Option Request) → ((r : Request) → o ≡ Some r → opens r ≡ false) → Asks P old t k o answer a → Asks Any old t k o other b → (answer ≡ other) × (a ≡ b)
+  asks_same : (k : SourceRequest) (o : Option Request) → ((r : Request) → o ≡ Some r → opens r ≡ false) → Asks P old t k o answer a → Asks Any old t k o other b → (answer ≡ other) × (a ≡ b)
   asks_same k None closed x y = (x.0 ∙ sym y.0, x.1 ∙ sym y.1)
   asks_same k (Some r) closed x y =
       let s = closed_same old.state t r x.reply y.reply a.state b.state (closed r refl) x.step y.step in

@@ -4,9 +4,9 @@ use Rattle.std.specs.Prelude.{not, ◌==◌, is_some, if◌then◌else◌}
 use Rattle.std.specs.Bool.{MatchBool}
 use Rattle.std.specs.Option.{option_map}
 use Rattle.std.specs.FinMap.{FinMap, get, contains_key}
-use Rattle.mvs_laws.proofs.Types.{Name, Code, User, System, Form, Written, Request, Reply, Statement}
+use Rattle.mvs_laws.proofs.Types.{Name, Code, User, System, Form, SourceRequest, Request, Reply, Statement}
 use Rattle.mvs_model.specs.declared.code.Family.TheVariants.{Located}
-use Rattle.mvs_model.specs.declared.line.Written.TheVariants as written
+use Rattle.mvs_model.specs.declared.line.SourceRequest.TheVariants as written
 use Rattle.mvs_model.specs.declared.line.Statement.TheVariants as statement
 use Rattle.mvs_model.specs.declared.request.Reply.TheVariants as reply
 use Rattle.mvs_model.specs.declared.request.Request.TheVariants as request
@@ -40,7 +40,7 @@ use Rattle.judge.proofs.Alike.{mapped, resolved_alike}
 use Rattle.judge.specs.Outline.{AreAlike, IsSettledAlike, Stays, Goes, way, is_settled, request_settled, pool_at, is_user}
 
 -- whether tasks, subpools and the names of pools decide what a request is answered
-abbrev pub settled_in : Written → Pools → Bool
+abbrev pub settled_in : SourceRequest → Pools → Bool
 settled_in (written.Obtain form n ask variable area) p = is_invalid n
 settled_in (written.ObtainList form n lengths start areas) p = is_invalid n
 settled_in (written.Release form n location len) p = is_invalid n
@@ -59,7 +59,7 @@ settled_in (written.Put location bytes) p = false
 settled_in (written.Move to from n) p = false
 
 -- the code of the abend then, if it is one
-abbrev pub code_in : Written → Name → Owners → Pools → Option Code
+abbrev pub code_in : SourceRequest → Name → Owners → Pools → Option Code
 code_in (written.Obtain form n ask variable area) t o p = Some (bad_subpool (family form) true)
 code_in (written.ObtainList form n lengths start areas) t o p = Some (bad_subpool (family form) true)
 code_in (written.Release form n location len) t o p = Some (bad_subpool (family form) false)
@@ -74,7 +74,7 @@ code_in (written.Abend n) t o p = Some (User n)
 code_in _ t o p = Some no_such_pool
 
 -- the reply to it otherwise
-abbrev pub done_in : Written → Reply
+abbrev pub done_in : SourceRequest → Reply
 done_in (written.Attach name gifts residence) = reply.Attached
 done_in written.Return = reply.Ended
 done_in _ = reply.Rc0
@@ -124,10 +124,10 @@ module _ (names : FinMap name_cmp PlaceValue) (old : State) (t : Name) (new : St
   there : (name : Name) → is_some (pool_at old name) ≡ is_some (get old.pools name)
   there name = mapped _ (get old.pools name)
 
-  abbrev pub AddressHints : Written → Request → Type 0
+  abbrev pub AddressHints : SourceRequest → Request → Type 0
   AddressHints k r = settled_in k (pool_at old) ≡ true → Acts old t r answered new → PrintedAnswer (code_in k t old.owners (pool_at old)) (done_in k)
 
-  pub said_by : (k : Written) (r : Request) → resolved names k ≡ Some r → AddressHints k r
+  pub said_by : (k : SourceRequest) (r : Request) → resolved names k ≡ Some r → AddressHints k r
   said_by (written.Obtain form n ask variable area) r e = subst (AddressHints (written.Obtain form n ask variable area)) (some_one _ r e) (λ s x. invalid _ (is_invalid n) _ reply.Rc0 s x)
   said_by (written.ObtainList form n lengths start areas) r e = subst (AddressHints (written.ObtainList form n lengths start areas)) (some_one _ r e) (λ s x. invalid _ (is_invalid n) _ reply.Rc0 s x)
   said_by (written.Release form n location len) r e = map_is (address_of names location) _ r (AddressHints (written.Release form n location len)) e (λ a s x. invalid _ (is_invalid n) _ reply.Rc0 s x)
@@ -147,27 +147,27 @@ module _ (names : FinMap name_cmp PlaceValue) (old : State) (t : Name) (new : St
   said_by (written.Move to from n) r e = λ s x. false_true s
 
   -- what an answer shows of this
-  abbrev pub Shown : Written → Request → Type 0
+  abbrev pub Shown : SourceRequest → Request → Type 0
   Shown k r = request_settled k (answer_of old k r answered) ≡ true → Acts old t r answered new → settled_in k (pool_at old) ≡ true
 
-  by_reply : {P : Type 0} (k : Written) (r : Request) (n : ℕ) (c : Reply) → answered ≡ c → is_user n (answer_of old k r c) ≡ false → is_user n (answer_of old k r answered) ≡ true → P
+  by_reply : {P : Type 0} (k : SourceRequest) (r : Request) (n : ℕ) (c : Reply) → answered ≡ c → is_user n (answer_of old k r c) ≡ false → is_user n (answer_of old k r answered) ≡ true → P
   by_reply k r n c e f s = true_false (sym s ∙ ap (λ c. is_user n (answer_of old k r c)) e ∙ f)
 
-  get_shown : (k : Written) (r : Request) (name : Name) (conditional : Bool) (o : Option Pool) → is_user 4002 (answer_of old k r answered) ≡ true → GetStep old t name conditional o answered new → not (is_some o) ≡ true
+  get_shown : (k : SourceRequest) (r : Request) (name : Name) (conditional : Bool) (o : Option Pool) → is_user 4002 (answer_of old k r answered) ≡ true → GetStep old t name conditional o answered new → not (is_some o) ≡ true
   get_shown k r name conditional None s x = refl
   get_shown k r name conditional (Some pool) s (inl x) = by_reply k r 4002 _ x.2.1 refl s
   get_shown k r name true (Some pool) s (inr x) = by_reply k r 4002 reply.NoCell x.1.0 refl s
   get_shown k r name false (Some pool) s (inr (n, inl x)) = by_reply k r 4002 _ x.1.1 refl s
   get_shown k r name false (Some pool) s (inr (n, inr x)) = by_reply k r 4002 _ x.3.2.1 refl s
 
-  free_shown : (k : Written) (r : Request) (name : Name) (c : ℕ) (o : Option Pool) → is_user 4002 (answer_of old k r answered) ≡ true → FreeStep old t name c o answered new → not (is_some o) ≡ true
+  free_shown : (k : SourceRequest) (r : Request) (name : Name) (c : ℕ) (o : Option Pool) → is_user 4002 (answer_of old k r answered) ≡ true → FreeStep old t name c o answered new → not (is_some o) ≡ true
   free_shown k r name c None s x = refl
   free_shown k r name c (Some pool) s x = by _ _ x where
     by : (Q : Type 0) (b : Bool) → MatchBool b (Abends old t (User 4001) answered new) ((answered ≡ reply.Rc0) × Q) → not (is_some (Some pool)) ≡ true
     by Q true x = by_reply k r 4002 _ x.1 refl s
     by Q false x = by_reply k r 4002 _ x.0 refl s
 
-  build_shown : (Q R : Type 0) (k : Written) (r : Request) (b c d : Bool) → (if b then true else is_user 4008 (answer_of old k r answered)) ≡ true
+  build_shown : (Q R : Type 0) (k : SourceRequest) (r : Request) (b c d : Bool) → (if b then true else is_user 4008 (answer_of old k r answered)) ≡ true
       → MatchBool b (Abends old t (System 0xB78) answered new) (MatchBool c (Abends old t pool_in_use answered new) (MatchBool d (Abends old t (User 4007) answered new) ((Q × Abends old t (System 0x878) answered new) ⊎ (R × (answered ≡ reply.Rc0)))))
       → (if b then true else c) ≡ true
   build_shown Q R k r true c d s x = refl
@@ -176,7 +176,7 @@ module _ (names : FinMap name_cmp PlaceValue) (old : State) (t : Name) (new : St
   build_shown Q R k r false false false s (inl x) = by_reply k r 4008 _ x.1.1 refl s
   build_shown Q R k r false false false s (inr x) = by_reply k r 4008 _ x.1 refl s
 
-  pub shown_by : (k : Written) (r : Request) → resolved names k ≡ Some r → Shown k r
+  pub shown_by : (k : SourceRequest) (r : Request) → resolved names k ≡ Some r → Shown k r
   shown_by (written.Build pool n size primary secondary loc) r e = subst (Shown (written.Build pool n size primary secondary loc)) (some_one _ r e)
       (λ s x. ap (λ c. if is_invalid n then true else c) (there pool) ∙ build_shown _ _ (written.Build pool n size primary secondary loc) (request.Build pool n size primary secondary loc) (is_invalid n) (contains_key old.pools pool) _ s x)
   shown_by (written.Get pool conditional cell) r e = subst (Shown (written.Get pool conditional cell)) (some_one _ r e) (λ s x. ap not (there pool) ∙ get_shown (written.Get pool conditional cell) (request.Get pool conditional) pool conditional (get old.pools pool) s x)
@@ -221,7 +221,7 @@ only_inactive form obtaining refusals.NotHeld e = absurd (failure_runs form _ e)
 only_inactive form obtaining refusals.Overlap e = absurd (failure_runs form _ e)
 only_inactive form obtaining _ e = absurd cc
 
-pub request_runs : (names : FinMap name_cmp PlaceValue) (old : State) (t : Name) (k : Written) (r : Request) (answered : Reply) (new : State) → resolved names k ≡ Some r → is_active old.owners t ≡ true → Step old t r answered new → answered ≡ reply.NotRun → ⊥
+pub request_runs : (names : FinMap name_cmp PlaceValue) (old : State) (t : Name) (k : SourceRequest) (r : Request) (answered : Reply) (new : State) → resolved names k ≡ Some r → is_active old.owners t ≡ true → Step old t r answered new → answered ≡ reply.NotRun → ⊥
 request_runs names old t k r answered new e active (inl x) is = at (reply_to r x.0) refl x.2 where
   at : (c : Consequence) → reply_to r x.0 ≡ c → Settles old t c answered new → ⊥
   at consequence.NotRun f s = true_false (sym active ∙ concerns old t r refusals.NotActive (subst (IsRefused old t r) (only_inactive (form_of r) (obtains r) x.0 f) x.1))
@@ -233,12 +233,12 @@ request_runs names old t k r answered new e active (inr x) is =
     let f : Stays ≡ Goes = ap (λ c. way (answer_of old k r c)) (sym is) ∙ d.goes in cc
 
 -- its answer is one of a request
-settled_of : (k : Written) (old : State) (r : Request) (answered : Reply) → (answered ≡ reply.NotRun → ⊥) → is_settled (statement.Request k) (answer_of old k r answered) ≡ true → request_settled k (answer_of old k r answered) ≡ true
+settled_of : (k : SourceRequest) (old : State) (r : Request) (answered : Reply) → (answered ≡ reply.NotRun → ⊥) → is_settled (statement.Request k) (answer_of old k r answered) ≡ true → request_settled k (answer_of old k r answered) ≡ true
 settled_of k old r reply.NotRun runs e = absurd (runs refl)
 settled_of k old r reply.Rc0 runs e = e
 settled_of k old r reply.Rc4 runs e = e
 settled_of k old r (reply.Obtained p) runs e = granted k e where
-  granted : (j : Written) → is_settled (statement.Request k) (grant_answer j p) ≡ true → request_settled k (grant_answer j p) ≡ true
+  granted : (j : SourceRequest) → is_settled (statement.Request k) (grant_answer j p) ≡ true → request_settled k (grant_answer j p) ≡ true
   granted (written.Obtain form n ask true area) e = e
   granted (written.Obtain form n ask false area) e = e
   granted _ e = e
@@ -253,24 +253,24 @@ settled_of k old r reply.Done runs e = done r e where
   done _ e = e
 settled_of k old r (reply.Abended code fallen) runs e = e
 
-settled_alike : (k : Written) (p q : Pools) → SamePools p q → settled_in k p ≡ settled_in k q
+settled_alike : (k : SourceRequest) (p q : Pools) → SamePools p q → settled_in k p ≡ settled_in k q
 settled_alike (written.Build pool n size primary secondary loc) p q e = ap (λ o. if is_invalid n then true else is_some o) (e pool)
 settled_alike (written.Get pool conditional cell) p q e = ap (λ o. not (is_some o)) (e pool)
 settled_alike (written.Free pool cell) p q e = ap (λ o. not (is_some o)) (e pool)
 settled_alike _ p q e = refl
 
-code_alike : (k : Written) (t : Name) (o : Owners) (p q : Pools) → SamePools p q → code_in k t o p ≡ code_in k t o q
+code_alike : (k : SourceRequest) (t : Name) (o : Owners) (p q : Pools) → SamePools p q → code_in k t o p ≡ code_in k t o q
 code_alike (written.Delete pool) t o p q e = ap (λ o. if is_some o then None else Some no_such_pool) (e pool)
 code_alike _ t o p q e = refl
 
 -- the answer for it does not depend on a state
-one_done : (k : Written) (r q : Request) (a b : State) → answer_of a k r (done_in k) ≡ answer_of b k q (done_in k)
+one_done : (k : SourceRequest) (r q : Request) (a b : State) → answer_of a k r (done_in k) ≡ answer_of b k q (done_in k)
 one_done (written.Attach name gifts residence) r q a b = refl
 one_done written.Return r q a b = refl
 one_done _ r q a b = refl
 
 module _ (one other : JobValue) (t : Name) (x y : Answer) (a b : JobValue) (like : AreAlike one other) where
-  said_alike : (k : Written) (r q : Request) (m : Makes Any one t k r x a) (n : Makes Any other t k q y b) (c d : Option Code) → c ≡ d → PrintedAnswer one.names one.state t a.state m.reply c (done_in k) → PrintedAnswer other.names other.state t b.state n.reply d (done_in k) → x ≡ y
+  said_alike : (k : SourceRequest) (r q : Request) (m : Makes Any one t k r x a) (n : Makes Any other t k q y b) (c d : Option Code) → c ≡ d → PrintedAnswer one.names one.state t a.state m.reply c (done_in k) → PrintedAnswer other.names other.state t b.state n.reply d (done_in k) → x ≡ y
   said_alike k r q m n None None e u v = m.told ∙ ap (answer_of one.state k r) u ∙ one_done k r q one.state other.state ∙ sym (n.told ∙ ap (answer_of other.state k q) v)
   said_alike k r q m n None (Some d) e u v = absurd cc
   said_alike k r q m n (Some c) None e u v = absurd cc
@@ -279,7 +279,7 @@ module _ (one other : JobValue) (t : Name) (x y : Answer) (a b : JobValue) (like
       let fallen = one_fallen one.state.owners t u.0 v.0 u.1 (subst (λ o. AreDescendants o t v.0) (sym like.owners) v.1) in
       m.told ∙ ap (answer_of one.state k r) u.2 ∙ (λ i. Abended (code i) (fallen i)) ∙ sym (n.told ∙ ap (answer_of other.state k q) v.2)
 
-  asks_settled : is_active one.state.owners t ≡ true → (k : Written) (o p : Option Request) → resolved one.names k ≡ o → resolved other.names k ≡ p → is_some o ≡ is_some p → Asks Any one t k o x a → Asks Any other t k p y b → is_settled (statement.Request k) x ≡ true → x ≡ y
+  asks_settled : is_active one.state.owners t ≡ true → (k : SourceRequest) (o p : Option Request) → resolved one.names k ≡ o → resolved other.names k ≡ p → is_some o ≡ is_some p → Asks Any one t k o x a → Asks Any other t k p y b → is_settled (statement.Request k) x ≡ true → x ≡ y
   asks_settled active k None None e f s m n w = m.0 ∙ sym n.0
   asks_settled active k None (Some q) e f s m n w = false_true s
   asks_settled active k (Some r) None e f s m n w = true_false s

@@ -13,7 +13,7 @@ use Rattle.mvs_model.specs.Runs.{Any, Does, IsPrinting}
 use Rattle.mvs_model.specs.Texts.{printing}
 use Rattle.mvs_model.specs.declared.line.Line.{Line}
 use Rattle.mvs_model.specs.declared.line.Statement.TheVariants as says
-use Rattle.mvs_model.specs.declared.line.Written.TheVariants as written
+use Rattle.mvs_model.specs.declared.line.SourceRequest.TheVariants as written
 use Rattle.mvs_model.specs.FullAnswers.{full_answer}
 use Rattle.mvs_model.specs.State.{State}
 use Rattle.mvs_job.specs.declared.walk.LineEvent.{LineEvent}

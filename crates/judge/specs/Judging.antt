@@ -5,8 +5,8 @@ use Rattle.mvs_model.specs.declared.code.Form.{Form}
 use Rattle.mvs_model.specs.declared.line.Line.{Line}
 use Rattle.mvs_model.specs.declared.line.Line.TheVariants as line
 use Rattle.mvs_model.specs.declared.line.Statement.TheVariants as says
-use Rattle.mvs_model.specs.declared.line.Written.{Written}
-use Rattle.mvs_model.specs.declared.line.Written.TheVariants as written
+use Rattle.mvs_model.specs.declared.line.SourceRequest.{SourceRequest}
+use Rattle.mvs_model.specs.declared.line.SourceRequest.TheVariants as written
 use Rattle.mvs_model.specs.declared.name.Name.{Name}
 use Rattle.mvs_model.specs.declared.outcome.Outcome.{Outcome}
 use Rattle.mvs_model.specs.Answers.{Abended, Answer, Event, Rc0, Rc4}
@@ -28,7 +28,7 @@ abbrev pub IsNoPrinting : List ℕ → List ℕ → Type 0
 IsNoPrinting script text = (outcome : Outcome) → IsPrinting script text outcome → ⊥
 
 -- whether a request may be granted places: areas, the parts of a pool, or a cell
-abbrev pub may_grant : Written → Bool
+abbrev pub may_grant : SourceRequest → Bool
 may_grant (written.Obtain form number ask variable area) = true
 may_grant (written.ObtainList form number lengths start areas) = true
 may_grant (written.Build pool number size primary secondary loc) = true

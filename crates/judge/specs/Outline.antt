@@ -9,8 +9,8 @@ use Rattle.mvs_model.specs.declared.code.Family.TheVariants.{Located}
 use Rattle.mvs_model.specs.declared.code.Form.{Form}
 use Rattle.mvs_model.specs.declared.line.Statement.{Statement}
 use Rattle.mvs_model.specs.declared.line.Statement.TheVariants as says
-use Rattle.mvs_model.specs.declared.line.Written.{Written}
-use Rattle.mvs_model.specs.declared.line.Written.TheVariants as written
+use Rattle.mvs_model.specs.declared.line.SourceRequest.{SourceRequest}
+use Rattle.mvs_model.specs.declared.line.SourceRequest.TheVariants as written
 use Rattle.mvs_model.specs.Codes.{family, is_conditional, short, bad_address, not_held, no_access, no_such_cell, too_many_pools}
 use Rattle.mvs_model.specs.Name.{trimmed}
 use Rattle.mvs_model.specs.Requests.{is_invalid}
@@ -41,7 +41,7 @@ is_user n _ = false
 
 -- Whether places do not decide that a request has this answer: its number is invalid; it is for tasks; it is for the whole of a subpool;
 -- or it is for a pool that is not there, or for a new one whose name is in use.
-abbrev pub request_settled : Written → Answer → Bool
+abbrev pub request_settled : SourceRequest → Answer → Bool
 request_settled (written.Obtain form n ask variable area) x = is_invalid n
 request_settled (written.ObtainList form n lengths start areas) x = is_invalid n
 request_settled (written.Release form n location len) x = is_invalid n
@@ -75,7 +75,7 @@ abbrev pub failed : Form → Code → List ℕ
 failed form code = if is_conditional form then codes "RC 4\n" else abend_opening code
 
 -- The beginnings of the answers that places decide, after the task.
-abbrev pub request_openings : Written → List (List ℕ)
+abbrev pub request_openings : SourceRequest → List (List ℕ)
 request_openings (written.Obtain form n ask true area) = codes "RC 0 LENGTH " ∷ failed form (short (family form)) ∷ []
 request_openings (written.Obtain form n ask false area) = codes "RC 0\n" ∷ failed form (short (family form)) ∷ []
 request_openings (written.ObtainList form n lengths start areas) = codes "RC 0\n" ∷ failed form (short (family form)) ∷ []

@@ -9,7 +9,7 @@ ghost use Rattle.judge.specs.Outline.{is_settled, is_user, request_settled};
 
 use mvs_model::answer::Answer;
 use mvs_model::code::Code;
-use mvs_model::line::{Statement, Written};
+use mvs_model::line::{SourceRequest, Statement};
 use mvs_model::subpool::SubNo;
 
 // Whether an answer is the abend with a user code.
@@ -45,24 +45,25 @@ fn is_invalid(number: u8) -> bool
 }
 
 // Whether places do not decide that a request has an answer.
-fn request_settled(written: &Written, answer: &Answer) -> bool
+fn request_settled(written: &SourceRequest, answer: &Answer) -> bool
     ensures { (st : State) (fallen : List TaskName) (task : TaskName)
         → result ≡ request_settled written.now (full_answer st fallen task answer.now) }
 {
     match written {
-        Written::Obtain { number, .. }
-        | Written::ObtainList { number, .. }
-        | Written::Release { number, .. }
-        | Written::ReleaseArea { number, .. }
-        | Written::ReleaseList { number, .. } => is_invalid(*number),
-        Written::Build { number, .. } => is_invalid(*number) || is_user(4008, answer),
-        Written::Get { .. } | Written::Free { .. } => is_user(4002, answer),
-        Written::ReleaseWhole { .. }
-        | Written::Delete { .. }
-        | Written::Attach { .. }
-        | Written::Return
-        | Written::Abend(_) => true,
-        Written::Show { .. } | Written::Put { .. } | Written::Move { .. } => false,
+        SourceRequest::Obtain { number, .. }
+        | SourceRequest::ObtainList { number, .. }
+        | SourceRequest::Release { number, .. }
+        | SourceRequest::ReleaseArea { number, .. }
+        | SourceRequest::ReleaseList { number, .. } => is_invalid(*number),
+        SourceRequest::Build { number, .. } => is_invalid(*number) || is_user(4008, answer),
+        SourceRequest::Get { .. } | SourceRequest::Free { .. } => is_user(4002, answer),
+        SourceRequest::ReleaseWhole { .. }
+        | SourceRequest::Delete { .. }
+        | SourceRequest::Attach { .. }
+        | SourceRequest::Return
+        | SourceRequest::Abend(_) => true,
+        SourceRequest::Show { .. } | SourceRequest::Put { .. } | SourceRequest::Move { .. } =>
+            false,
     }
 }
 

@@ -18,7 +18,7 @@ use crate::openings::{Continued, begins_open};
 use job_script::read_line;
 use mvs_job::{AddressHints, LineEvent, Walk, line_end};
 use mvs_model::error::OutOfMemory;
-use mvs_model::line::{Line, Statement, Written};
+use mvs_model::line::{Line, SourceRequest, Statement};
 use mvs_model::outcome::Outcome;
 use mvs_model::place::Addr;
 use mvs_model::want::Placement;
@@ -69,7 +69,7 @@ fn is_shown(read: &Line) -> bool
     ensures some { LineShowsSome read.now }
 {
     match read {
-        Line::Statement(_, Statement::Request(Written::Show { len, .. })) => len.get() > 0,
+        Line::Statement(_, Statement::Request(SourceRequest::Show { len, .. })) => len.get() > 0,
         Line::Statement(
             _,
             Statement::Request(_) | Statement::Where(_) | Statement::ReportSubpools,

@@ -6,7 +6,7 @@ use crate::parts::Parts;
 use job_script::read_line;
 use mvs_job::AddressHints;
 use mvs_model::error::OutOfMemory;
-use mvs_model::line::{Line, Statement, Written};
+use mvs_model::line::{Line, SourceRequest, Statement};
 use mvs_model::name::Name;
 use mvs_model::place::Addr;
 use std::alloc::Global;
@@ -61,25 +61,25 @@ impl Hearing {
     }
 
     // Takes a request that was answered 0, or with a cell.
-    fn take_request(&mut self, written: &Written, line: u32) -> Result<(), OutOfMemory> {
+    fn take_request(&mut self, written: &SourceRequest, line: u32) -> Result<(), OutOfMemory> {
         self.parts.take(written, line)?;
         match written {
-            Written::Obtain { area, .. } => self.set(*area, ListMember { line, place: 0 }),
-            Written::ObtainList { areas, .. } => self.set_each(areas.as_slice(), line),
-            Written::Get { cell, .. } => self.set(*cell, ListMember { line, place: 0 }),
-            Written::Release { .. }
-            | Written::ReleaseArea { .. }
-            | Written::ReleaseList { .. }
-            | Written::ReleaseWhole { .. }
-            | Written::Build { .. }
-            | Written::Free { .. }
-            | Written::Delete { .. }
-            | Written::Attach { .. }
-            | Written::Return
-            | Written::Abend(_)
-            | Written::Show { .. }
-            | Written::Put { .. }
-            | Written::Move { .. } => Ok(()),
+            SourceRequest::Obtain { area, .. } => self.set(*area, ListMember { line, place: 0 }),
+            SourceRequest::ObtainList { areas, .. } => self.set_each(areas.as_slice(), line),
+            SourceRequest::Get { cell, .. } => self.set(*cell, ListMember { line, place: 0 }),
+            SourceRequest::Release { .. }
+            | SourceRequest::ReleaseArea { .. }
+            | SourceRequest::ReleaseList { .. }
+            | SourceRequest::ReleaseWhole { .. }
+            | SourceRequest::Build { .. }
+            | SourceRequest::Free { .. }
+            | SourceRequest::Delete { .. }
+            | SourceRequest::Attach { .. }
+            | SourceRequest::Return
+            | SourceRequest::Abend(_)
+            | SourceRequest::Show { .. }
+            | SourceRequest::Put { .. }
+            | SourceRequest::Move { .. } => Ok(()),
         }
     }
 

@@ -9,7 +9,7 @@ ghost use Rattle.judge.specs.Judging.{AreApart, AskEach, IsQuestion, may_grant};
 
 use job_script::read_line;
 use mvs_job::{Walk, line_end};
-use mvs_model::line::{Line, Names, Statement, Written};
+use mvs_model::line::{Line, Names, SourceRequest, Statement};
 use mvs_model::name::Name;
 
 /// What a line can be granted.
@@ -34,15 +34,15 @@ pub struct GrantQuestion {
 }
 
 // Whether a request may be granted places.
-fn may_grant(written: &Written) -> bool
+fn may_grant(written: &SourceRequest) -> bool
     ensures { result ≡ may_grant written.now }
 {
     matches!(
         written,
-        Written::Obtain { .. }
-            | Written::ObtainList { .. }
-            | Written::Build { .. }
-            | Written::Get { .. }
+        SourceRequest::Obtain { .. }
+            | SourceRequest::ObtainList { .. }
+            | SourceRequest::Build { .. }
+            | SourceRequest::Get { .. }
     )
 }
 
@@ -71,10 +71,13 @@ fn kind_of(read: &Line) -> GrantKind
     ensures { IsKindOf read.now result }
 {
     match read {
-        Line::Statement(task, Statement::Request(Written::Obtain { area, variable, .. })) => {
+        Line::Statement(task, Statement::Request(SourceRequest::Obtain { area, variable, .. })) => {
             GrantKind::Area(*task, *area, *variable)
         }
-        Line::Statement(task, Statement::Request(Written::ObtainList { lengths, areas, .. })) => {
+        Line::Statement(
+            task,
+            Statement::Request(SourceRequest::ObtainList { lengths, areas, .. }),
+        ) => {
             if lengths.len() == areas.len() && are_apart(areas.as_slice()) {
                 GrantKind::Areas(*task, areas.copied())
             } else {

@@ -13,7 +13,7 @@ use mvs_model::answer::Answer;
 use mvs_model::code::{Code, Form};
 use mvs_model::codes::{bad_address, is_conditional, not_held, short};
 use mvs_model::error::OutOfMemory;
-use mvs_model::line::{Statement, Written};
+use mvs_model::line::{SourceRequest, Statement};
 use mvs_model::name::Name;
 use std::alloc::Global;
 
@@ -170,45 +170,55 @@ fn begins_cell(alloc: Global, continued: &Continued) -> Result<bool, OutOfMemory
 fn begins_request(
     alloc: Global,
     continued: &Continued,
-    written: &Written,
+    written: &SourceRequest,
 ) -> Result<bool, OutOfMemory>
     ensures { IfOk result
         (IsBegun continued.now.line_number continued.now.task (request_openings written.now)
         continued.now.text.now) }
 {
     match written {
-        Written::Obtain {
+        SourceRequest::Obtain {
             form,
             variable: true,
             ..
         } => begins_obtain(alloc, continued, *form, b"RC 0 LENGTH "),
-        Written::Obtain {
+        SourceRequest::Obtain {
             form,
             variable: false,
             ..
         } => begins_obtain(alloc, continued, *form, b"RC 0\n"),
-        Written::ObtainList { form, .. } => begins_obtain(alloc, continued, *form, b"RC 0\n"),
-        Written::Release { form, .. } => begins_release(alloc, continued, *form),
-        Written::ReleaseArea { form, .. } => begins_release(alloc, continued, *form),
-        Written::ReleaseList { form, .. } => begins_release(alloc, continued, *form),
-        Written::Build { .. } => begins_build(alloc, continued),
-        Written::Get {
+        SourceRequest::ObtainList { form, .. } => begins_obtain(alloc, continued, *form, b"RC 0\n"),
+        SourceRequest::Release { form, .. } => begins_release(alloc, continued, *form),
+        SourceRequest::ReleaseArea { form, .. } => begins_release(alloc, continued, *form),
+        SourceRequest::ReleaseList { form, .. } => begins_release(alloc, continued, *form),
+        SourceRequest::Build { .. } => begins_build(alloc, continued),
+        SourceRequest::Get {
             conditional: true,
             ..
         } => begins_cell(alloc, continued),
-        Written::Get {
+        SourceRequest::Get {
             conditional: false,
             ..
         } => begins_either(alloc, continued, b"CELL\n", Code::SHORTAGE),
-        Written::Free { .. } => begins_either(alloc, continued, b"RC 0\n", Code::NO_SUCH_CELL),
-        Written::Show { .. } => begins_either(alloc, continued, b"DATA +0000 ", Code::NO_ACCESS),
-        Written::Put { .. } => begins_either(alloc, continued, b"OK\n", Code::NO_ACCESS),
-        Written::Move { .. } => begins_either(alloc, continued, b"OK\n", Code::NO_ACCESS),
-        Written::ReleaseWhole { .. }
-        | Written::Delete { .. }
-        | Written::Attach { .. }
-        | Written::Return
-        | Written::Abend(_) => Ok(false),
+        SourceRequest::Free { .. } => begins_either(
+            alloc,
+            continued,
+            b"RC 0\n",
+            Code::NO_SUCH_CELL,
+        ),
+        SourceRequest::Show { .. } => begins_either(
+            alloc,
+            continued,
+            b"DATA +0000 ",
+            Code::NO_ACCESS,
+        ),
+        SourceRequest::Put { .. } => begins_either(alloc, continued, b"OK\n", Code::NO_ACCESS),
+        SourceRequest::Move { .. } => begins_either(alloc, continued, b"OK\n", Code::NO_ACCESS),
+        SourceRequest::ReleaseWhole { .. }
+        | SourceRequest::Delete { .. }
+        | SourceRequest::Attach { .. }
+        | SourceRequest::Return
+        | SourceRequest::Abend(_) => Ok(false),
     }
 }
 

@@ -2,7 +2,7 @@
 
 use mvs_job::AddressHints;
 use mvs_model::error::OutOfMemory;
-use mvs_model::line::Written;
+use mvs_model::line::SourceRequest;
 use mvs_model::name::Name;
 use mvs_model::place::Addr;
 use std::alloc::Global;
@@ -213,33 +213,33 @@ impl Parts {
     }
 
     /// Takes a request that was granted.
-    pub fn take(&mut self, written: &Written, line: u32) -> Result<(), OutOfMemory> {
+    pub fn take(&mut self, written: &SourceRequest, line: u32) -> Result<(), OutOfMemory> {
         match written {
-            Written::Build {
+            SourceRequest::Build {
                 pool,
                 size,
                 primary,
                 secondary,
                 ..
             } => self.build(pool, line, size.get(), primary.get(), secondary.get()),
-            Written::Get { pool, .. } => self.get(pool, line),
-            Written::Free { pool, .. } => self.free(pool),
-            Written::Delete { pool } => {
+            SourceRequest::Get { pool, .. } => self.get(pool, line),
+            SourceRequest::Free { pool, .. } => self.free(pool),
+            SourceRequest::Delete { pool } => {
                 self.pools.remove(pool);
                 Ok(())
             }
-            Written::Obtain { .. }
-            | Written::ObtainList { .. }
-            | Written::Release { .. }
-            | Written::ReleaseArea { .. }
-            | Written::ReleaseList { .. }
-            | Written::ReleaseWhole { .. }
-            | Written::Attach { .. }
-            | Written::Return
-            | Written::Abend(_)
-            | Written::Show { .. }
-            | Written::Put { .. }
-            | Written::Move { .. } => Ok(()),
+            SourceRequest::Obtain { .. }
+            | SourceRequest::ObtainList { .. }
+            | SourceRequest::Release { .. }
+            | SourceRequest::ReleaseArea { .. }
+            | SourceRequest::ReleaseList { .. }
+            | SourceRequest::ReleaseWhole { .. }
+            | SourceRequest::Attach { .. }
+            | SourceRequest::Return
+            | SourceRequest::Abend(_)
+            | SourceRequest::Show { .. }
+            | SourceRequest::Put { .. }
+            | SourceRequest::Move { .. } => Ok(()),
         }
     }
 

@@ -11,7 +11,7 @@ use Rattle.mvs_model.specs.declared.line.Line.{Line}
 use Rattle.mvs_model.specs.declared.line.Line.TheVariants as line
 use Rattle.mvs_model.specs.declared.line.Statement.{Statement}
 use Rattle.mvs_model.specs.declared.line.Statement.TheVariants as says
-use Rattle.mvs_model.specs.declared.line.Written.{Written}
+use Rattle.mvs_model.specs.declared.line.SourceRequest.{SourceRequest}
 use Rattle.mvs_model.specs.declared.reason.Reason.{Reason}
 use Rattle.mvs_model.specs.declared.reason.Reason.TheVariants.{NotActive}
 use Rattle.mvs_model.specs.declared.reason.LineReason.{LineReason}
@@ -182,7 +182,7 @@ module _ (number : ℕ) (job later : JobValue) (set : NameOrigins) (bytes : List
   silent s after r y of same why text none owned =
       subst (λ a. Stands a r y) (sym same) (unheard job set bytes (line.Statement t s) of mid look (AnswerTo number t y ∷ []) (Some later) r lines why text none (of_answer job t y mid.why.subpools owned))
 
-  module _ (q : Written) (of : LineOf false bytes (line.Statement t (says.Request q))) where
+  module _ (q : SourceRequest) (of : LineOf false bytes (line.Statement t (says.Request q))) where
     read_request : mid.why.read ≡ line.Statement t (says.Request q)
     read_request = read_is job set bytes (line.Statement t (says.Request q)) of mid look
 

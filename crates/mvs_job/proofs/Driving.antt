@@ -12,7 +12,7 @@ use Rattle.mvs_job.specs.declared.printing.Stop.{Stop}
 use Rattle.mvs_job.specs.declared.printing.Stop.TheVariants as stop
 use Rattle.mvs_job.specs.LineEvents.{WalkValue, new_walk}
 use Rattle.mvs_job.specs.Trace.{Arrives, Ending, Ends, Entry, Exhausts, IsExecuted, IsTrace, Traces}
-use Rattle.mvs_job.specs.Consuming.{HasRun, IsAny, IsBegun, IsFront, IsWritten, Known, Leaves, Piece, RunsEnd, RunsEntry, WritesFront, WritesPiece, Written, WrittenAfter}
+use Rattle.mvs_job.specs.Consuming.{HasRun, IsAny, IsBegun, IsFront, IsWritten, Known, Leaves, Piece, RunsEnd, RunsEntry, WritesFront, WritesPiece, WritesPieces, WrittenAfter}
 use Rattle.mvs_job.proofs.Tracing.{trace_of, trace_sized, traces_then}
 
 -- ---- what is written
@@ -27,7 +27,7 @@ written_then piece history (e ∷ entries) more text other (one, rest, first, is
   ap (λ x. x ++ other) cut ∙ append_assoc one rest other,
 )
 
-pub written_next : (piece : Piece) (history : List Entry) (e : Entry) (text one : List ℕ) → Written piece history text → piece.may history e one → Written piece (history ++ e ∷ []) (text ++ one)
+pub written_next : (piece : Piece) (history : List Entry) (e : Entry) (text one : List ℕ) → WritesPieces piece history text → piece.may history e one → WritesPieces piece (history ++ e ∷ []) (text ++ one)
 written_next piece history e text one is may = written_then piece [] history (e ∷ []) text one is (one, [], may, refl, sym (append-nil one))
 
 -- ---- from a step there is a trace of all the lines

@@ -8,8 +8,8 @@ use Rattle.mvs_model.specs.declared.code.Form.{Form}
 use Rattle.mvs_model.specs.declared.line.Line.{Line}
 use Rattle.mvs_model.specs.declared.line.Line.TheVariants as line
 use Rattle.mvs_model.specs.declared.line.Statement.TheVariants as says
-use Rattle.mvs_model.specs.declared.line.Written.{Written}
-use Rattle.mvs_model.specs.declared.line.Written.TheVariants as written
+use Rattle.mvs_model.specs.declared.line.SourceRequest.{SourceRequest}
+use Rattle.mvs_model.specs.declared.line.SourceRequest.TheVariants as written
 use Rattle.mvs_model.specs.declared.request.Request.{Request}
 use Rattle.mvs_model.specs.declared.request.Request.TheVariants as request
 use Rattle.mvs_model.specs.declared.request.Reply.{Reply}
@@ -21,7 +21,7 @@ use Rattle.mvs_model.specs.Codes.{is_conditional}
 use Rattle.mvs_model.specs.Job.{JobValue}
 use Rattle.mvs_model.specs.Memory.{SetsName, StopsForMemory}
 use Rattle.mvs_model.specs.Name.{name_cmp}
-use Rattle.mvs_model.specs.Owners.{is_active, keeper}
+use Rattle.mvs_model.specs.Owners.{is_active, effective_task}
 use Rattle.mvs_model.specs.Place.{PlaceValue}
 use Rattle.mvs_model.specs.Pools.{Pool, cell_at}
 use Rattle.mvs_model.specs.Replies.{answer_of}
@@ -45,7 +45,7 @@ use Rattle.mvs_job.specs.LineEvents.{ServesAs, WalkValue, events_of_line}
 
 -- ---- a granted request that sets names gives them places
 
-module _ (st : State) (a : Written) (r : Request) where
+module _ (st : State) (a : SourceRequest) (r : Request) where
   abbrev Gives : Reply → Type 0
   Gives reply = is_grant (answer_of st a r reply) ≡ true → places_in reply ≢ []
 
@@ -77,7 +77,7 @@ module _ (st : State) (a : Written) (r : Request) where
   list_gives : (t : Name) (form : Form) (number : ℕ) (wants : List WantValue) (reply : Reply) (new : State) → wants ≢ [] → ObtainListStep st t form number wants reply new → Gives reply
   list_gives t form number wants reply new some h =
       by_test (is_invalid number) h (λ _ a. abend_gives t _ reply new a)
-      (λ _ k. elim k [ inl f ↦ fail_gives (is_conditional form) t _ reply new f.1 | inr g ↦ places reply (Listed g.0) g.1 (each_place st (keeper st.owners t number) number wants g.0 new some g.2) ])
+      (λ _ k. elim k [ inl f ↦ fail_gives (is_conditional form) t _ reply new f.1 | inr g ↦ places reply (Listed g.0) g.1 (each_place st (effective_task st.owners t number) number wants g.0 new some g.2) ])
 
   cell_gives : (mid : State) (name : Name) (pool : Pool) (c : ℕ) (reply : Reply) (new : State) → Gets mid name pool c reply new → Gives reply
   cell_gives mid name pool c reply new g = places reply (Cell (cell_at pool c)) g.1 (one_place (cell_at pool c))
@@ -99,7 +99,7 @@ each_wanted f (n ∷ lengths) some e = cc
 some_same : (x y : Request) → Some x ≡ Some y → x ≡ y
 some_same x y e = cc
 
-gives : (names : FinMap name_cmp PlaceValue) (a : Written) (r : Request) (old : State) (t : Name) (reply : Reply) (new : State) → resolved names a ≡ Some r → names_set a ≢ [] → HasLengths a → Step old t r reply new → Gives old a r reply
+gives : (names : FinMap name_cmp PlaceValue) (a : SourceRequest) (r : Request) (old : State) (t : Name) (reply : Reply) (new : State) → resolved names a ≡ Some r → names_set a ≢ [] → HasLengths a → Step old t r reply new → Gives old a r reply
 gives names (written.Obtain form number ask variable area) r old t reply new e some long step =
     let a = written.Obtain form number ask variable area in
     by_test (not (is_active old.owners t)) (step_cases old t (request.Obtain form number ask) reply new (subst (λ r. Step old t r reply new) (sym (some_same _ r e)) step)) (λ _ k. no_grant old a r reply NotRun k.0 refl) (λ _ k. obtain_gives old a r t form number (want_of ask (side_for old t form ask.loc)) reply new k)
@@ -112,7 +112,7 @@ gives names (written.Get pool conditional cell) r old t reply new e some long st
     by_test (not (is_active old.owners t)) (step_cases old t (request.Get pool conditional) reply new (subst (λ r. Step old t r reply new) (sym (some_same _ r e)) step)) (λ _ k. no_grant old a r reply NotRun k.0 refl) (λ _ k. get_gives old a r t pool conditional (get old.pools pool) reply new k)
 gives names a r old t reply new e some long step = absurd (some refl)
 
-module _ (job : JobValue) (t : Name) (a : Written) (some : names_set a ≢ []) (long : HasLengths a) (ans : Answer) (new : JobValue) (grant : is_grant ans ≡ true) where
+module _ (job : JobValue) (t : Name) (a : SourceRequest) (some : names_set a ≢ []) (long : HasLengths a) (ans : Answer) (new : JobValue) (grant : is_grant ans ≡ true) where
   not_granted : (other : Answer) → ans ≡ other → is_grant other ≡ false → ⊥
   not_granted other is e = let f : true ≡ false = sym grant ∙ ap is_grant is ∙ e in cc
 

@@ -10,8 +10,8 @@ use Rattle.mvs_model.specs.declared.code.Form.{Form}
 use Rattle.mvs_model.specs.declared.name.Name.{Name}
 use Rattle.mvs_model.specs.declared.line.Location.{Location}
 use Rattle.mvs_model.specs.declared.line.Location.TheVariants.{Absolute, Named}
-use Rattle.mvs_model.specs.declared.line.Written.{Written}
-use Rattle.mvs_model.specs.declared.line.Written.TheVariants as written
+use Rattle.mvs_model.specs.declared.line.SourceRequest.{SourceRequest}
+use Rattle.mvs_model.specs.declared.line.SourceRequest.TheVariants as written
 use Rattle.mvs_model.specs.declared.request.Request.{Request}
 use Rattle.mvs_model.specs.declared.request.Request.TheVariants as request
 use Rattle.mvs_model.specs.declared.request.Reply.{Reply}
@@ -77,7 +77,7 @@ module _ (names : FinMap name_cmp PlaceValue) where
   ]
 
   -- where no request is made, some name that it looks up is not set
-  pub some_unset : (a : Written) → resolved names a ≡ None → is_some (first_unset names (looked_up a)) ≡ true
+  pub some_unset : (a : SourceRequest) → resolved names a ≡ None → is_some (first_unset names (looked_up a)) ≡ true
   some_unset (written.Obtain form number ask variable area) e = some_none e
   some_unset (written.ObtainList form number lengths start areas) e = some_none e
   some_unset (written.Release form number location n) e = address_unset location (map_none (λ a. request.Release form number (place_at a n)) (address_of names location) e)
@@ -115,7 +115,7 @@ two_returned : {A B P : Type 0} (f : A → B → Request) (u : Option A) (v : Op
 two_returned f None v other e = none_some e
 two_returned f (Some x) v other e = map_returned (f x) v (other x) e
 
-pub is_return : (names : FinMap name_cmp PlaceValue) (a : Written) → resolved names a ≡ Some request.Return → a ≡ written.Return
+pub is_return : (names : FinMap name_cmp PlaceValue) (a : SourceRequest) → resolved names a ≡ Some request.Return → a ≡ written.Return
 is_return names (written.Obtain form number ask variable area) e = returned _ refl e
 is_return names (written.ObtainList form number lengths start areas) e = returned _ refl e
 is_return names (written.Release form number location n) e = map_returned (λ a. request.Release form number (place_at a n)) (address_of names location) (λ x. refl) e
@@ -139,13 +139,13 @@ is_return names (written.Move to from n) e = two_returned (λ x y. request.Move 
 abbrev Granted : Request → Answer → Type 0
 Granted r answer = (is_refusal answer ≡ false) × (is_end answer ≡ true → r ≡ request.Return)
 
-module _ (st : State) (a : Written) (r : Request) where
+module _ (st : State) (a : SourceRequest) (r : Request) where
   abbrev Says : Reply → Type 0
   Says x = Granted r (answer_of st a r x)
 
   of_grant : (p : PlaceValue) → Granted r (grant_answer a p)
   of_grant p = at a where
-    at : (a : Written) → Granted r (grant_answer a p)
+    at : (a : SourceRequest) → Granted r (grant_answer a p)
     at (written.Obtain form number ask true area) = (refl, λ e. false_true e)
     at (written.Obtain form number ask false area) = (refl, λ e. false_true e)
     at _ = (refl, λ e. false_true e)
@@ -167,7 +167,7 @@ module _ (st : State) (a : Written) (r : Request) where
   taken old new name (Some pool) x (inl g) = given x _ g.2.1 (refl, λ e. false_true e)
   taken old new name (Some pool) x (inr g) = given x _ g.1.3.2.1 (refl, λ e. false_true e)
 
-done_said : (st old new : State) (t : Name) (a : Written) (r : Request) (x : Reply) → Does old t r x new → Granted r (answer_of st a r x)
+done_said : (st old new : State) (t : Name) (a : SourceRequest) (r : Request) (x : Reply) → Does old t r x new → Granted r (answer_of st a r x)
 done_said st old new t a (request.Obtain form number ask) x d = given st a (request.Obtain form number ask) x _ d.1 (of_grant st a (request.Obtain form number ask) d.0)
 done_said st old new t a (request.ObtainList form number lengths start) x d = given st a (request.ObtainList form number lengths start) x _ d.1 (refl, λ e. false_true e)
 done_said st old new t a (request.Release form number p) x d = given st a (request.Release form number p) x _ d.0 (refl, λ e. false_true e)
@@ -195,7 +195,7 @@ abbrev is_made : Consequence → Bool
 is_made consequence.NotRun = false
 is_made _ = true
 
-settled_said : (st old new : State) (t : Name) (a : Written) (r : Request) (c : Consequence) (x : Reply) → is_made c ≡ true → Settles old t c x new → Refused c (answer_of st a r x)
+settled_said : (st old new : State) (t : Name) (a : SourceRequest) (r : Request) (c : Consequence) (x : Reply) → is_made c ≡ true → Settles old t c x new → Refused c (answer_of st a r x)
 settled_said st old new t a r consequence.NotRun x made s = false_true made
 settled_said st old new t a r consequence.Rc4 x made s = subst (λ y. Refused consequence.Rc4 (answer_of st a r y)) (sym s.0) (refl, λ e. false_true e)
 settled_said st old new t a r consequence.NoCell x made s = subst (λ y. Refused consequence.NoCell (answer_of st a r y)) (sym s.0) (refl, λ e. false_true e)
@@ -221,7 +221,7 @@ not_inactive : (st : State) (t : Name) (r : Request) (x : Refusal) → is_active
 not_inactive st t r x active h e = true_false (sym active ∙ concerns st t r refusals.NotActive (subst (IsRefused st t r) e h))
 
 -- what an observer hears of a request that is answered so
-pub heard_said : {O : Type 0} (heard : Hearing O) (before after : O) (job : JobValue) (t : Name) (a : Written) (r : Request) (x : Reply) (new : State) (st : State) → is_active job.state.owners t ≡ true → ObservesRequest heard before job t r x new after
+pub heard_said : {O : Type 0} (heard : Hearing O) (before after : O) (job : JobValue) (t : Name) (a : SourceRequest) (r : Request) (x : Reply) (new : State) (st : State) → is_active job.state.owners t ≡ true → ObservesRequest heard before job t r x new after
     → Passes before job t r (answer_of st a r x) after ⊎ Fails heard before job t r (answer_of st a r x) after
 heard_said heard before after job t a r x new st active (inl h) = let said = done_said st job.state new t a r x h.2 in inl (h.0, h.1, said.0, said.1)
 heard_said heard before after job t a r x new st active (inr h) =

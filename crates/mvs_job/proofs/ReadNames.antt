@@ -5,10 +5,10 @@ use Rattle.std.proofs.lemmas.Bool.{and_parts, not-false}
 use Rattle.std.proofs.lemmas.Bool.Decides.{nat_tests}
 use Rattle.mvs_model.specs.declared.line.Line.{Line}
 use Rattle.mvs_model.specs.declared.line.Statement.{Statement}
-use Rattle.mvs_model.specs.declared.line.Written.{Written}
+use Rattle.mvs_model.specs.declared.line.SourceRequest.{SourceRequest}
 use Rattle.mvs_model.specs.declared.line.Line.TheVariants as line
 use Rattle.mvs_model.specs.declared.line.Statement.TheVariants as says
-use Rattle.mvs_model.specs.declared.line.Written.TheVariants as written
+use Rattle.mvs_model.specs.declared.line.SourceRequest.TheVariants as written
 use Rattle.mvs_model.specs.Grammar.{Meaning, Row}
 use Rattle.mvs_model.specs.Lines.{IsUnended}
 use Rattle.mvs_model.specs.Name.{padded}
@@ -115,7 +115,7 @@ under_unended os h key text e = at (find (is_for key) os) refl e where
 -- ---- the names
 
 -- The name of the subtask has none, where the request is ATTACH.
-abbrev pub AttachesUnended : Written → Type 0
+abbrev pub AttachesUnended : SourceRequest → Type 0
 AttachesUnended (written.Attach name gifts residence) = IsUnended name
 AttachesUnended _ = Unit {0}
 

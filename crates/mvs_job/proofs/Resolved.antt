@@ -9,8 +9,8 @@ use Rattle.mvs_model.proofs.StepCases.{step_cases}
 use Rattle.mvs_model.specs.declared.name.Name.{Name}
 use Rattle.mvs_model.specs.declared.code.Form.{Form}
 use Rattle.mvs_model.specs.declared.code.Code.{Code}
-use Rattle.mvs_model.specs.declared.line.Written.{Written}
-use Rattle.mvs_model.specs.declared.line.Written.TheVariants as written
+use Rattle.mvs_model.specs.declared.line.SourceRequest.{SourceRequest}
+use Rattle.mvs_model.specs.declared.line.SourceRequest.TheVariants as written
 use Rattle.mvs_model.specs.declared.request.Request.{Request}
 use Rattle.mvs_model.specs.declared.request.Request.TheVariants as request
 use Rattle.mvs_model.specs.declared.request.Reply.{Reply}
@@ -28,7 +28,7 @@ use Rattle.mvs_model.specs.Consequences.{Abends}
 use Rattle.mvs_model.proofs.ByCase.{Fails, ObtainStep, ObtainListStep, GetsNone, GetStep, Accesses}
 use Rattle.mvs_model.specs.Requests.{Gets, all_granted, is_invalid, side_for}
 use Rattle.mvs_model.specs.Codes.{is_conditional}
-use Rattle.mvs_model.specs.Owners.{is_active, keeper}
+use Rattle.mvs_model.specs.Owners.{is_active, effective_task}
 use Rattle.mvs_model.specs.declared.answer.Answer.{Answer as Short}
 use Rattle.mvs_model.specs.declared.answer.Answer.TheVariants as short
 use Rattle.mvs_model.specs.Answers.{Data}
@@ -83,7 +83,7 @@ obtain_areas old t form number want reply new b h =
     by_test (is_invalid number) h (λ a. abend_areas old t _ reply new a)
     (λ k. elim k [
       | inl f ↦ fail_areas (is_conditional form) old t _ reply new f.1
-      | inr g ↦ subst Areas (sym g.1) (one_area g.0 (area_in old.regions g.0 b (grant_inside old (keeper old.owners t number) number want g.0 new g.2)))
+      | inr g ↦ subst Areas (sym g.1) (one_area g.0 (area_in old.regions g.0 b (grant_inside old (effective_task old.owners t number) number want g.0 new g.2)))
     ])
 
 obtain_list_areas : (old : State) (t : Name) (form : Form) (number : ℕ) (wants : List WantValue) (reply : Reply) (new : State) → IsBounded old.regions → ObtainListStep old t form number wants reply new → Areas reply
@@ -91,7 +91,7 @@ obtain_list_areas old t form number wants reply new b h =
     by_test (is_invalid number) h (λ a. abend_areas old t _ reply new a)
     (λ k. elim k [
       | inl f ↦ fail_areas (is_conditional form) old t _ reply new f.1
-      | inr g ↦ subst Areas (sym g.1) (all_in old.regions g.0 b (list_inside old.regions (keeper old.owners t number) number wants g.0 old new refl g.2))
+      | inr g ↦ subst Areas (sym g.1) (all_in old.regions g.0 b (list_inside old.regions (effective_task old.owners t number) number wants g.0 old new refl g.2))
     ])
 
 -- so does one that gets a cell
@@ -108,7 +108,7 @@ get_areas old t name conditional (Some pool) reply new s (inr none) = none_free 
   none_free false (inr more) = cell_areas old new more.1 name _ more.3.0 reply s more.3.2
 
 -- the names that a request sets fit the places that its reply gives
-pub areas_fit : (names : FinMap name_cmp PlaceValue) (a : Written) (r : Request) (old : State) (t : Name) (reply : Reply) (new : State) → resolved names a ≡ Some r → IsBounded old.regions → IsSteady new → Step old t r reply new → Fit (names_set a) (places_in reply)
+pub areas_fit : (names : FinMap name_cmp PlaceValue) (a : SourceRequest) (r : Request) (old : State) (t : Name) (reply : Reply) (new : State) → resolved names a ≡ Some r → IsBounded old.regions → IsSteady new → Step old t r reply new → Fit (names_set a) (places_in reply)
 areas_fit names (written.Obtain form number ask variable area) r old t reply new e limits steady step =
     by_test (not (is_active old.owners t)) (step_cases old t (request.Obtain form number ask) reply new (subst (λ r. Step old t r reply new) (sym (some_same _ r e)) step)) (λ k. no_areas reply NotRun k.0 refl) (λ k. obtain_areas old t form number (want_of ask (side_for old t form ask.loc)) reply new limits k)
 areas_fit names (written.ObtainList form number lengths start areas) r old t reply new e limits steady step =
@@ -147,7 +147,7 @@ shown_granted old t p new step =
       read_all true e h = (subst (λ st. changes.Granted st p) (sym h.1) (each_granted old p e), h.1)
 
 -- what a reply tells is the same before and after its step
-pub answer_same : (old : State) (t : Name) (a : Written) (r : Request) (reply : Reply) (new : State) → Step old t r reply new → answer_of new a r reply ≡ answer_of old a r reply
+pub answer_same : (old : State) (t : Name) (a : SourceRequest) (r : Request) (reply : Reply) (new : State) → Step old t r reply new → answer_of new a r reply ≡ answer_of old a r reply
 answer_same old t a (request.Show from n) Done new step = ap (λ st. Data (bytes_at st from n)) (shown_granted old t (place_at from n) new step).1
 answer_same old t a r reply new step = refl
 
@@ -162,5 +162,5 @@ answer_lent old t r reply new a step h = lent_by new a (λ p e.
     ((shown_granted old t p new (subst (λ q. Step old t (request.Show p.addr p.len) q new) is.1 (subst (λ q. Step old t q reply new) is.0 step))).0, is.2))
 
 -- what is asked keeps what the state of a job keeps
-pub steady_after : (names : FinMap name_cmp PlaceValue) (a : Written) (r : Request) (old : State) (t : Name) (reply : Reply) (new : State) → IsWritten a → resolved names a ≡ Some r → IsSteady old → Step old t r reply new → IsSteady new
+pub steady_after : (names : FinMap name_cmp PlaceValue) (a : SourceRequest) (r : Request) (old : State) (t : Name) (reply : Reply) (new : State) → IsWritten a → resolved names a ≡ Some r → IsSteady old → Step old t r reply new → IsSteady new
 steady_after names a r old t reply new b is steady step = steady_step old t r reply new (is_request names a r b is) step steady

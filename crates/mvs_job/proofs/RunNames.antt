@@ -15,7 +15,7 @@ use Rattle.mvs_model.specs.declared.request.Request.{Request}
 use Rattle.mvs_model.specs.declared.request.Request.TheVariants as request
 use Rattle.mvs_model.specs.Changes.{End, ListGrant, with_part}
 use Rattle.mvs_model.specs.Lines.{IsUnended, card_of, lines_of}
-use Rattle.mvs_model.specs.Owners.{Task, Descends, Enters, subpool_meant, has_subtask, is_active, keeper, subtask, further}
+use Rattle.mvs_model.specs.Owners.{Task, Descends, Enters, subpool_meant, has_subtask, is_active, effective_task, subtask, further}
 use Rattle.mvs_model.proofs.ByCase.{attach_refusal}
 use Rattle.mvs_model.specs.Gifts.{GiftsValue}
 use Rattle.mvs_model.specs.declared.want.Residence.{Residence}
@@ -33,7 +33,7 @@ use Rattle.mvs_model.specs.declared.line.Line.{Line}
 use Rattle.mvs_model.specs.declared.line.Line.TheVariants as line
 use Rattle.mvs_model.specs.declared.line.Statement.{Statement}
 use Rattle.mvs_model.specs.declared.line.Statement.TheVariants as says
-use Rattle.mvs_model.specs.declared.line.Written.{Written}
+use Rattle.mvs_model.specs.declared.line.SourceRequest.{SourceRequest}
 use Rattle.std.specs.Option.{option_map, option_and_then}
 use Rattle.mvs_model.specs.Answers.{Answer, NoName, NotRun, Event}
 use Rattle.mvs_laws.specs.Laws.{StaysWellFormed}
@@ -122,12 +122,12 @@ module _ (old : State) (fine : TasksUnended old) where
 
   obtain : (t : Name) (form : Form) (number : ℕ) (want : WantValue) (answer : Reply) (new : State) → ObtainStep old t form number want answer new → Fine answer new
   obtain t form number want answer new h =
-      by_test (is_invalid number) h (λ _ a. abends t _ answer new a) (λ _ k. elim k [ inl f ↦ fails _ t _ answer new f.1 | inr g ↦ entered (reply.Obtained g.0) answer (keeper old.owners t number) number g.2.subpool new tt g.1 g.2.owners ])
+      by_test (is_invalid number) h (λ _ a. abends t _ answer new a) (λ _ k. elim k [ inl f ↦ fails _ t _ answer new f.1 | inr g ↦ entered (reply.Obtained g.0) answer (effective_task old.owners t number) number g.2.subpool new tt g.1 g.2.owners ])
 
   obtain_list : (t : Name) (form : Form) (number : ℕ) (wants : List WantValue) (answer : Reply) (new : State) → ObtainListStep old t form number wants answer new → Fine answer new
   obtain_list t form number wants answer new h =
       by_test (is_invalid number) h (λ _ a. abends t _ answer new a)
-      (λ _ k. elim k [ inl f ↦ fails _ t _ answer new f.1 | inr g ↦ stays answer new (subst ReplyUnended (sym g.1) (tt {0})) (list_tasks (keeper old.owners t number) number wants g.0 old new g.2) ])
+      (λ _ k. elim k [ inl f ↦ fails _ t _ answer new f.1 | inr g ↦ stays answer new (subst ReplyUnended (sym g.1) (tt {0})) (list_tasks (effective_task old.owners t number) number wants g.0 old new g.2) ])
 
   release : (t : Name) (form : Form) (number : ℕ) (ps : List PlaceValue) (answer : Reply) (new : State) → ReleaseStep old t form number ps answer new → Fine answer new
   release t form number ps answer new h =
@@ -149,7 +149,7 @@ module _ (old : State) (fine : TasksUnended old) where
       (λ _ k. by_test (contains_key old.pools name) k (λ _ a. abends t _ answer new a)
       (λ _ l. by_test (nat_le 64 (len old.pools)) l (λ _ a. abends t _ answer new a) (λ _ m. elim m [
         | inl f ↦ abends t _ answer new f.1
-        | inr g ↦ entered reply.Rc0 answer (keeper old.owners t number) number g.0.0 new tt g.1 (subst (Enters old.owners (keeper old.owners t number) number g.0.0) (sym g.0.2.3.owners_are) g.0.2.2)
+        | inr g ↦ entered reply.Rc0 answer (effective_task old.owners t number) number g.0.0 new tt g.1 (subst (Enters old.owners (effective_task old.owners t number) number g.0.0) (sym g.0.2.3.owners_are) g.0.2.2)
       ])))
 
   gets_none : (t name : Name) (conditional : Bool) (pool : Pool) (answer : Reply) (new : State) → GetsNone old t name conditional pool answer new → Fine answer new
@@ -202,10 +202,10 @@ module _ (old : State) (fine : TasksUnended old) where
 
 -- ---- what a line tells
 
-resolved_fine : (names : FinMap name_cmp PlaceValue) (a : Written) (r : Request) → AttachesUnended a → resolved names a ≡ Some r → RequestUnended r
+resolved_fine : (names : FinMap name_cmp PlaceValue) (a : SourceRequest) (r : Request) → AttachesUnended a → resolved names a ≡ Some r → RequestUnended r
 resolved_fine names a r h1 h2 = grind (arith, nat_tests)
 
-answered_fine : (st : State) (a : Written) (r : Request) (answer : Reply) → ReplyUnended answer → AnswerUnended (answer_of st a r answer)
+answered_fine : (st : State) (a : SourceRequest) (r : Request) (answer : Reply) → ReplyUnended answer → AnswerUnended (answer_of st a r answer)
 answered_fine st a r answer h1 = grind (arith, nat_tests)
 
 where_fine : (p : Option PlaceValue) → AnswerUnended (where_answer p)
@@ -243,7 +243,7 @@ ContinuesRun answer new = AnswerUnended answer × TasksUnended new.state
 tells_fine : (old : JobValue) (told answer : Answer) (new : JobValue) → TasksUnended old.state → AnswerUnended told → OnlyAnswers old told answer new → ContinuesRun answer new
 tells_fine old told answer new fine h e = (subst AnswerUnended (sym e.0) h, subst (λ j. TasksUnended j.state) (sym e.1) fine)
 
-asks_fine : (old : JobValue) (t : Name) (a : Written) (o : Option Request) (answer : Answer) (new : JobValue) → TasksUnended old.state → ((r : Request) → o ≡ Some r → RequestUnended r) → Asks Any old t a o answer new → ContinuesRun answer new
+asks_fine : (old : JobValue) (t : Name) (a : SourceRequest) (o : Option Request) (answer : Answer) (new : JobValue) → TasksUnended old.state → ((r : Request) → o ≡ Some r → RequestUnended r) → Asks Any old t a o answer new → ContinuesRun answer new
 asks_fine old t a None answer new fine f h = tells_fine old NoName answer new fine (tt {0}) h
 asks_fine old t a (Some r) answer new fine f h =
     let s = step_fine old.state fine t r h.reply new.state (f r refl) h.step in

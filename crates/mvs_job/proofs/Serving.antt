@@ -10,7 +10,7 @@ use Rattle.mvs_model.specs.declared.line.Line.TheVariants as line
 use Rattle.mvs_model.specs.declared.line.Fault.{Fault}
 use Rattle.mvs_model.specs.declared.line.Statement.{Statement}
 use Rattle.mvs_model.specs.declared.line.Statement.TheVariants as says
-use Rattle.mvs_model.specs.declared.line.Written.{Written}
+use Rattle.mvs_model.specs.declared.line.SourceRequest.{SourceRequest}
 use Rattle.mvs_model.specs.declared.request.Request.{Request}
 use Rattle.mvs_model.specs.declared.request.Reply.{Reply}
 use Rattle.mvs_model.specs.declared.answer.Answer.{Answer as Short}
@@ -38,11 +38,11 @@ use Rattle.mvs_job.specs.declared.walk.LineEvent.TheVariants as told
 use Rattle.mvs_job.specs.LineEvents.{WalkValue, ServesAs, ServesAsUnder, IsAvailableIn, KeepsReply, region_card, ended, events_of_line, full_answer_in}
 
 -- A request that is made, and whose names are set.
-pub made_by : (P : Condition) (old : JobValue) (t : Name) (a : Written) (r : Request) (reply : Reply) (new : JobValue) → Step old.state t r reply new.state → P old.state t r reply new.state
+pub made_by : (P : Condition) (old : JobValue) (t : Name) (a : SourceRequest) (r : Request) (reply : Reply) (new : JobValue) → Step old.state t r reply new.state → P old.state t r reply new.state
     → new.names ≡ all_set old.names (names_set a) (places_in reply) → new.abended ≡ (old.abended || is_abend reply) → new.former ≡ old.former → Makes P old t a r (answer_of old.state a r reply) new
 made_by P old t a r reply new step meets names abended former = record { reply = reply; step = step; meets = meets; names = names; abended = abended; former = former; told = refl }
 
-pub made : (P : Condition) (old : JobValue) (t : Name) (a : Written) (r : Request) (reply : Reply) (new : JobValue) → resolved old.names a ≡ Some r → Step old.state t r reply new.state → P old.state t r reply new.state
+pub made : (P : Condition) (old : JobValue) (t : Name) (a : SourceRequest) (r : Request) (reply : Reply) (new : JobValue) → resolved old.names a ≡ Some r → Step old.state t r reply new.state → P old.state t r reply new.state
     → new.names ≡ all_set old.names (names_set a) (places_in reply) → new.abended ≡ (old.abended || is_abend reply) → new.former ≡ old.former
     → Asks P old t a (resolved old.names a) (answer_of old.state a r reply) new
 made P old t a r reply new is step meets names abended former =

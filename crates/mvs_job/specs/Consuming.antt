@@ -86,22 +86,22 @@ WrittenAfter piece history [] text = text ≡ []
 WrittenAfter piece history (e ∷ entries) text = (one : List ℕ) × (rest : List ℕ) × piece.may history e one × WrittenAfter piece (history ++ e ∷ []) entries rest × (text ≡ one ++ rest)
 
 -- It may write it for a trace.
-abbrev pub Written : Piece → List Entry → List ℕ → Type 0
-Written piece entries text = WrittenAfter piece [] entries text
+abbrev pub WritesPieces : Piece → List Entry → List ℕ → Type 0
+WritesPieces piece entries text = WrittenAfter piece [] entries text
 
 -- The text is what a consumer writes for a trace of the script that stops so, and the consumer has its entries.
 pub record IsWritten {S : Type 0} (piece : Piece) (knows : Known S) (script text : List ℕ) (how : Ending) (s : S) : Type 0 where
   pub entries : List Entry
   pub trace : IsTrace script entries how
   pub known : knows.has s entries
-  pub is : Written piece entries text
+  pub is : WritesPieces piece entries text
 
 -- The text is what a consumer writes for these entries, which are the first of a trace of the script, before this one.
 pub record IsBegun (piece : Piece) (script text : List ℕ) (entries : List Entry) (next : Entry) : Type 0 where
   pub how : Ending
   pub rest : List Entry
   pub trace : IsTrace script (entries ++ next ∷ rest) how
-  pub is : Written piece entries text
+  pub is : WritesPieces piece entries text
 
 -- The text is what a consumer writes for the first entries of a trace of the script, which it has, and a front of a piece for the
 -- next, or nothing.
@@ -147,7 +147,7 @@ pub record HasRun {S : Type 0} (piece : Piece) (knows : Known S) (before now : O
   pub trace : Traces (Arrives w.step) 1 None lines entries
   pub counted : w.number ≡ 1 + length lines
   pub text : List ℕ
-  pub is : Written piece entries text
+  pub is : WritesPieces piece entries text
   pub appended : Appends before now text
   pub known : knows.has s entries
 

@@ -8,8 +8,8 @@ use Rattle.mvs_model.specs.declared.line.Fault.{Fault}
 use Rattle.mvs_model.specs.declared.line.Line.{Line}
 use Rattle.mvs_model.specs.declared.line.Line.TheVariants as line
 use Rattle.mvs_model.specs.declared.line.Statement.TheVariants as says
-use Rattle.mvs_model.specs.declared.line.Written.{Written}
-use Rattle.mvs_model.specs.declared.line.Written.TheVariants.{Obtain, ObtainList, Release, ReleaseArea, ReleaseList, ReleaseWhole, Build, Get, Free, Delete, Attach, Return, Abend, Show, Put, Move}
+use Rattle.mvs_model.specs.declared.line.SourceRequest.{SourceRequest}
+use Rattle.mvs_model.specs.declared.line.SourceRequest.TheVariants.{Obtain, ObtainList, Release, ReleaseArea, ReleaseList, ReleaseWhole, Build, Get, Free, Delete, Attach, Return, Abend, Show, Put, Move}
 use Rattle.mvs_model.specs.declared.name.Name.{Name}
 use Rattle.mvs_model.specs.Answers.{Answer, Event, AnswerTo}
 use Rattle.mvs_model.specs.Answers as answer
@@ -42,7 +42,7 @@ abbrev pub means : JobValue → Name → ℕ → Bool
 means job t number = is_some (resolved_owner job.state.owners t number)
 
 -- what is looked up before the request of a task; nothing, if its changes are not reported
-abbrev pub before_request : JobValue → Name → Written → Option Baseline
+abbrev pub before_request : JobValue → Name → SourceRequest → Option Baseline
 before_request job t (Obtain form number ask variable area) = Some (looked_at job (means job t number) 0)
 before_request job t (ObtainList form number lengths start areas) = Some (looked_at job (means job t number) 0)
 before_request job t (Release form number location n) = Some (looked_at job true 0)
@@ -127,7 +127,7 @@ abbrev pub subtask_fact : JobValue → Name → Name → ℕ → Option Fact
 subtask_fact new mother name n = option_map (λ l. if same_name l.1 name then Given name l.0 mother else Shared name l.0 l.1) (entry_owner new.state.owners name n)
 
 -- what a task's request did that was granted
-abbrev pub facts_of : Baseline → Name → Written → JobValue → List Fact
+abbrev pub facts_of : Baseline → Name → SourceRequest → JobValue → List Fact
 facts_of b t (Obtain form number ask variable area) new =
     listed (area_fact new t number area ask.least ask.most) ++ listed (greater_fact b new area ask.most) ++ listed (subpool_fact b new t number) ++ taken_fact b new ∷ []
 facts_of b t (ObtainList form number lengths start areas) new = area_facts new t number areas lengths ++ listed (subpool_fact b new t number) ++ taken_fact b new ∷ []

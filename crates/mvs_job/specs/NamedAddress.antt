@@ -6,8 +6,8 @@ use Rattle.mvs_model.specs.declared.line.Fault.{Fault}
 use Rattle.mvs_model.specs.declared.line.Line.{Line}
 use Rattle.mvs_model.specs.declared.line.Line.TheVariants as line
 use Rattle.mvs_model.specs.declared.line.Statement.TheVariants as says
-use Rattle.mvs_model.specs.declared.line.Written.{Written}
-use Rattle.mvs_model.specs.declared.line.Written.TheVariants as written
+use Rattle.mvs_model.specs.declared.line.SourceRequest.{SourceRequest}
+use Rattle.mvs_model.specs.declared.line.SourceRequest.TheVariants as written
 use Rattle.mvs_model.specs.declared.name.Name.{Name}
 use Rattle.mvs_model.specs.declared.reason.Reason.{Reason}
 use Rattle.mvs_model.specs.declared.reason.LineReason.{LineReason}
@@ -70,7 +70,7 @@ reason_address request InvalidNumber = None
 reason_address request (Shortage room) = None
 reason_address request (NoMember k short) = None
 reason_address request (NoPart cells size room) = None
-reason_address request (NoSubpool keeper) = None
+reason_address request (NoSubpool effective_task) = None
 reason_address request WholeOfZero = None
 reason_address request PoolInUse = None
 reason_address request TooManyPools = None
@@ -140,7 +140,7 @@ RecordsOrigins w set bytes new (told.Faulted fault) later = Unit {0}
 RecordsOrigins w set bytes new t later = AreNamesAfter w.number w.step set bytes (events_of_line w.number new t) later
 
 -- A list has a length.
-abbrev pub HasLengths : Written → Type 0
+abbrev pub HasLengths : SourceRequest → Type 0
 HasLengths (written.ObtainList form number lengths start areas) = lengths ≢ []
 HasLengths (written.Obtain form number ask variable area) = Unit {0}
 HasLengths (written.Release form number location n) = Unit {0}

@@ -15,7 +15,7 @@ use Rattle.mvs_job.specs.declared.run.RunFault.{RunFault}
 use Rattle.mvs_job.specs.declared.run.RunFault.TheVariants.{Read, Write, Memory, ReadTooLong}
 use Rattle.mvs_job.specs.declared.stream.Progress.{Progress}
 use Rattle.mvs_job.specs.declared.stream.Progress.TheVariants.{On, Ended}
-use Rattle.mvs_job.specs.Consuming.{HasRun, IsFront, IsShort, IsWritten, Known, Leaves, Piece, Written, keeps_nothing}
+use Rattle.mvs_job.specs.Consuming.{HasRun, IsFront, IsShort, IsWritten, Known, Leaves, Piece, WritesPieces, keeps_nothing}
 use Rattle.mvs_job.specs.Exchanging.{Exchanges}
 use Rattle.mvs_job.specs.LineEvents.{WalkValue}
 use Rattle.mvs_job.specs.Trace.{Arrives, Ends, Entry, Exhausts, Traces}
@@ -82,7 +82,7 @@ pub record HasAnswered (piece : Piece) {S : Type 0} (knows : Known S) (consumed 
   pub step : Option JobValue
   pub trace : Traces (Arrives step) 1 None lines entries
   pub known : knows.has s entries
-  pub is : Written piece entries text
+  pub is : WritesPieces piece entries text
 
 -- What a run has written that stopped for a fault, after at most a number of bytes was consumed, or one more if the script is too long.
 abbrev pub GivesUp : {S : Type 0} → Piece → Known S → ℕ → List ℕ → List ℕ → List ℕ → S → RunFault → Type 0

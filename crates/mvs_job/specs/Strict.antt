@@ -14,7 +14,7 @@ use Rattle.mvs_model.specs.Runs.{IsRun}
 use Rattle.mvs_model.specs.Texts.{printing}
 use Rattle.mvs_job.specs.declared.strict.SkipReason.{SkipReason}
 use Rattle.mvs_job.specs.declared.strict.SkipReason.TheVariants as why
-use Rattle.mvs_job.specs.Consuming.{Piece, Written}
+use Rattle.mvs_job.specs.Consuming.{Piece, WritesPieces}
 use Rattle.mvs_job.specs.Trace.{Ends, Entry, IsTrace, events_of}
 
 -- why a line that is answered so was not served, if it was not
@@ -105,7 +105,7 @@ PrintsStrictly before after heard heard' script outcome all =
 -- The same of what a consumer writes for a trace of the script.
 abbrev pub RunsObserved : Piece → Option (List ℕ) → Option (List ℕ) → Option (List Skipped) → Option (List Skipped) → List ℕ → Outcome → Bool → Type 0
 RunsObserved piece before after heard heard' script outcome all =
-    (entries : List Entry) × (text : List ℕ) × IsTrace script entries (Ends outcome) × Written piece entries text × Appends before after text
+    (entries : List Entry) × (text : List ℕ) × IsTrace script entries (Ends outcome) × WritesPieces piece entries text × Appends before after text
     × (all ≡ list_all is_of_served (events_of entries)) × Grows heard heard' (all_skipped (line_at script) (events_of entries))
 
 -- Just the lines are heard of that were not served of the first lines of a script, in a run of it.

@@ -9,8 +9,8 @@ use Rattle.mvs_model.specs.declared.line.Line.TheVariants as line
 use Rattle.mvs_model.specs.declared.line.Statement.{Statement}
 use Rattle.mvs_model.specs.declared.line.Statement.TheVariants as says
 use Rattle.mvs_model.specs.declared.line.Fault.{Fault}
-use Rattle.mvs_model.specs.declared.line.Written.{Written}
-use Rattle.mvs_model.specs.declared.line.Written.TheVariants as written
+use Rattle.mvs_model.specs.declared.line.SourceRequest.{SourceRequest}
+use Rattle.mvs_model.specs.declared.line.SourceRequest.TheVariants as written
 use Rattle.mvs_model.specs.declared.refusal.Consequence.TheVariants.{Abend}
 use Rattle.mvs_model.specs.declared.refusal.Refusal.{Refusal}
 use Rattle.mvs_model.specs.declared.code.Code.{Code}
@@ -46,7 +46,7 @@ abbrev pub refused : Option Reason → Option LineReason
 refused = option_map (λ reason. Refused reason)
 
 -- Why a request is refused whose names are looked up: where one is not set, this is the reason.
-abbrev pub OfRequest : JobValue → Name → Written → Option Request → Option LineReason → Type 0
+abbrev pub OfRequest : JobValue → Name → SourceRequest → Option Request → Option LineReason → Type 0
 OfRequest job t a None r = r ≡ option_map (λ name. NotSet name) (first_unset job.names (looked_up a))
 OfRequest job t a (Some request) r = (reason : Option Reason) × IsReason job.state t request reason × (r ≡ refused reason)
 

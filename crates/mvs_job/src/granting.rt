@@ -17,7 +17,7 @@ use job_script::print_fact;
 use mvs_model::answer::Answer;
 use mvs_model::bounded::Length;
 use mvs_model::fact::Fact;
-use mvs_model::line::Written;
+use mvs_model::line::SourceRequest;
 use mvs_model::name::Name;
 use mvs_model::numbers::TASK_NUMBERS;
 use mvs_model::short_list::ShortList;
@@ -73,31 +73,31 @@ fn parts_at(job: &Job, pool: &Name) -> u32
 }
 
 /// Returns what is looked up before the request of a task, or None if its changes are not reported.
-pub(crate) fn before_request(job: &Job, task: &Name, written: &Written) -> Option<Baseline>
+pub(crate) fn before_request(job: &Job, task: &Name, written: &SourceRequest) -> Option<Baseline>
     ensures { result ≡ before_request job.now task.now written.now }
 {
     match written {
-        Written::Obtain { number, .. }
-        | Written::ObtainList { number, .. }
-        | Written::Build { number, .. } => Some(looked_at(job, means(job, task, *number), 0)),
-        Written::Release { .. }
-        | Written::ReleaseArea { .. }
-        | Written::ReleaseList { .. }
-        | Written::ReleaseWhole { .. }
-        | Written::Delete { .. } => Some(looked_at(job, true, 0)),
-        Written::Get { pool, .. } => Some(looked_at(job, true, parts_at(job, pool))),
-        Written::Attach { .. } => Some(Baseline {
+        SourceRequest::Obtain { number, .. }
+        | SourceRequest::ObtainList { number, .. }
+        | SourceRequest::Build { number, .. } => Some(looked_at(job, means(job, task, *number), 0)),
+        SourceRequest::Release { .. }
+        | SourceRequest::ReleaseArea { .. }
+        | SourceRequest::ReleaseList { .. }
+        | SourceRequest::ReleaseWhole { .. }
+        | SourceRequest::Delete { .. } => Some(looked_at(job, true, 0)),
+        SourceRequest::Get { pool, .. } => Some(looked_at(job, true, parts_at(job, pool))),
+        SourceRequest::Attach { .. } => Some(Baseline {
             below: 0,
             above: 0,
             had: true,
             parts: 0,
         }),
-        Written::Free { .. }
-        | Written::Return
-        | Written::Abend(_)
-        | Written::Show { .. }
-        | Written::Put { .. }
-        | Written::Move { .. } => None,
+        SourceRequest::Free { .. }
+        | SourceRequest::Return
+        | SourceRequest::Abend(_)
+        | SourceRequest::Show { .. }
+        | SourceRequest::Put { .. }
+        | SourceRequest::Move { .. } => None,
     }
 }
 
@@ -317,14 +317,14 @@ pub(crate) fn put_facts(
     facts: &mut Facts,
     before: &Baseline,
     task: &Name,
-    written: &Written,
+    written: &SourceRequest,
     job: &Job,
 )
     ensures { facts.new ≡ facts_of before.now task.now written.now job.now }
 {
     facts.clear();
     match written {
-        Written::Obtain {
+        SourceRequest::Obtain {
             number,
             ask,
             area,
@@ -336,7 +336,7 @@ pub(crate) fn put_facts(
             push_some(facts, subpool_fact(before, job, task, *number));
             facts.push(taken_fact(before, job));
         }
-        Written::ObtainList {
+        SourceRequest::ObtainList {
             number,
             lengths,
             areas,
@@ -347,31 +347,31 @@ pub(crate) fn put_facts(
             push_some(facts, subpool_fact(before, job, task, *number));
             facts.push(taken_fact(before, job));
         }
-        Written::ReleaseWhole { number, .. } => {
+        SourceRequest::ReleaseWhole { number, .. } => {
             push_some(facts, emptied_fact(job, task, *number));
             push_some(facts, freed_fact(before, job));
         }
-        Written::Build { pool, number, .. } => {
+        SourceRequest::Build { pool, number, .. } => {
             push_some(facts, part_fact(before, job, pool));
             push_some(facts, subpool_fact(before, job, task, *number));
             push_some(facts, part_pages(before, job, pool));
         }
-        Written::Get { pool, cell, .. } => {
+        SourceRequest::Get { pool, cell, .. } => {
             push_some(facts, cell_fact(job, pool, cell));
             push_some(facts, part_fact(before, job, pool));
             push_some(facts, part_pages(before, job, pool));
         }
-        Written::Attach { name, .. } => put_subtask(facts, job, task, name),
-        Written::Release { .. }
-        | Written::ReleaseArea { .. }
-        | Written::ReleaseList { .. }
-        | Written::Delete { .. } => push_some(facts, freed_fact(before, job)),
-        Written::Free { .. }
-        | Written::Return
-        | Written::Abend(_)
-        | Written::Show { .. }
-        | Written::Put { .. }
-        | Written::Move { .. } => {}
+        SourceRequest::Attach { name, .. } => put_subtask(facts, job, task, name),
+        SourceRequest::Release { .. }
+        | SourceRequest::ReleaseArea { .. }
+        | SourceRequest::ReleaseList { .. }
+        | SourceRequest::Delete { .. } => push_some(facts, freed_fact(before, job)),
+        SourceRequest::Free { .. }
+        | SourceRequest::Return
+        | SourceRequest::Abend(_)
+        | SourceRequest::Show { .. }
+        | SourceRequest::Put { .. }
+        | SourceRequest::Move { .. } => {}
     }
 }
 

@@ -29,7 +29,7 @@ use job_step::Step;
 use mvs_model::answer::Answer;
 use mvs_model::card::Card;
 use mvs_model::error::OutOfMemory;
-use mvs_model::line::{Statement, Written};
+use mvs_model::line::{SourceRequest, Statement};
 use mvs_model::name::Name;
 use mvs_model::place::{Addr, Place};
 use mvs_model::refusal::Refusal;
@@ -77,32 +77,32 @@ fn builds_in_range(request: &Request)
 }
 
 // Returns the answer of a grant: its length, if the request is variable.
-fn grant_answer(written: &Written, place: &Place) -> Answer
+fn grant_answer(written: &SourceRequest, place: &Place) -> Answer
     ensures answer { (st : State) (fallen : List TaskName) (t : TaskName)
         → full_answer st fallen t result ≡ replies.grant_answer written.now place.now }
     ensures quiet { (p : PlaceValue) → result ≢ Answer.Data p }
 {
     match written {
-        Written::Obtain { variable: true, .. } => Answer::Granted(place.len()),
-        Written::Obtain {
+        SourceRequest::Obtain { variable: true, .. } => Answer::Granted(place.len()),
+        SourceRequest::Obtain {
             variable: false,
             ..
         }
-        | Written::ObtainList { .. }
-        | Written::Release { .. }
-        | Written::ReleaseArea { .. }
-        | Written::ReleaseList { .. }
-        | Written::ReleaseWhole { .. }
-        | Written::Build { .. }
-        | Written::Get { .. }
-        | Written::Free { .. }
-        | Written::Delete { .. }
-        | Written::Attach { .. }
-        | Written::Return
-        | Written::Abend(_)
-        | Written::Show { .. }
-        | Written::Put { .. }
-        | Written::Move { .. } => Answer::Rc0,
+        | SourceRequest::ObtainList { .. }
+        | SourceRequest::Release { .. }
+        | SourceRequest::ReleaseArea { .. }
+        | SourceRequest::ReleaseList { .. }
+        | SourceRequest::ReleaseWhole { .. }
+        | SourceRequest::Build { .. }
+        | SourceRequest::Get { .. }
+        | SourceRequest::Free { .. }
+        | SourceRequest::Delete { .. }
+        | SourceRequest::Attach { .. }
+        | SourceRequest::Return
+        | SourceRequest::Abend(_)
+        | SourceRequest::Show { .. }
+        | SourceRequest::Put { .. }
+        | SourceRequest::Move { .. } => Answer::Rc0,
     }
 }
 
@@ -120,7 +120,7 @@ fn done_answer(request: &Request) -> Answer
 }
 
 // Returns the answer for the reply to a request.
-fn answer_of(written: &Written, request: &Request, reply: &Reply) -> Answer
+fn answer_of(written: &SourceRequest, request: &Request, reply: &Reply) -> Answer
     ensures answer { (st : State) (t : TaskName)
         → full_answer st (ended_with_in reply.now) t result
         ≡ replies.answer_of st written.now request.now reply.now }
@@ -197,7 +197,7 @@ impl Job {
     }
 
     /// Whether each name that a request looks up is set: then `request` is what is asked for, written over another.
-    pub fn request_of(&self, written: &Written, request: &mut Request) -> Option<()>
+    pub fn request_of(&self, written: &SourceRequest, request: &mut Request) -> Option<()>
         ensures { MatchOption result (resolved self.now.names written.now ≡ None)
             (λ _. resolved self.now.names written.now ≡ Some request.new) }
     {
@@ -205,7 +205,7 @@ impl Job {
     }
 
     /// The first name that a request looks up and that is not set, from the left.
-    pub fn unset(&self, written: &Written) -> Option<Name>
+    pub fn unset(&self, written: &SourceRequest) -> Option<Name>
         ensures { result ≡ first_unset self.now.names (looked_up written.now) }
     {
         unset(&self.names, written)
@@ -257,7 +257,7 @@ impl Job {
     fn ask<O: Observer>(
         &mut self,
         task: &Name,
-        written: &Written,
+        written: &SourceRequest,
         told: &[Addr],
         request: &mut Request,
         reply: &mut Reply,

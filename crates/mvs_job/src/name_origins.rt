@@ -16,7 +16,7 @@ use crate::walk::{LineEvent, Walk};
 use crate::why::reports_grant;
 use job_script::{names_set, print_naming};
 use mvs_model::error::OutOfMemory;
-use mvs_model::line::{Line, Statement, Written};
+use mvs_model::line::{Line, SourceRequest, Statement};
 use mvs_model::name::Name;
 use mvs_model::place::{Addr, Place};
 use mvs_model::reason::Reason;
@@ -150,10 +150,10 @@ fn later(
 }
 
 // A requested list has a length, as its type says.
-fn has_lengths(written: &Written)
+fn has_lengths(written: &SourceRequest)
     ensures { HasLengths written.now }
 {
-    if let Written::ObtainList { lengths, .. } = written {
+    if let SourceRequest::ObtainList { lengths, .. } = written {
         let _ = lengths.as_slice();
     }
 }

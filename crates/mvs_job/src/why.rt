@@ -16,7 +16,7 @@ use crate::observer::Observer;
 use crate::walk::{LineEvent, Walk};
 use job_script::{print_reason, read_line};
 use mvs_model::answer::Answer;
-use mvs_model::line::{Line, Statement, Written};
+use mvs_model::line::{Line, SourceRequest, Statement};
 use mvs_model::name::Name;
 use mvs_model::reason::{LineReason, Reason, Shortfall};
 use mvs_model::refusal::{Consequence, Refusal};
@@ -137,7 +137,7 @@ impl Why {
             return;
         };
         self.before = before_line(job, &self.read);
-        if let Line::Statement(task, Statement::Request(Written::Return)) = &self.read {
+        if let Line::Statement(task, Statement::Request(SourceRequest::Return)) = &self.read {
             collect_owned_subpools(job, task, &mut self.subpools);
         }
     }

@@ -3,7 +3,7 @@ use Rattle.std.proofs.Common.{◌≡◌, ◌≤◌, ℕ, ◌+◌, inl, inr, Bool
 use Rattle.std.specs.Prelude.{not, ◌||◌, ◌==◌}
 use Rattle.std.specs.Bool.{MatchBool}
 use Rattle.std.proofs.lemmas.Bool.Decides.{nat_tests}
-use Rattle.mvs_laws.proofs.Types.{Name, Statement, Written, Line, Outcome}
+use Rattle.mvs_laws.proofs.Types.{Name, Statement, SourceRequest, Line, Outcome}
 use Rattle.mvs_model.specs.declared.line.Line.TheVariants as line
 use Rattle.mvs_model.specs.declared.line.Statement.TheVariants as says
 use Rattle.mvs_model.specs.declared.request.Request.{Request}
@@ -31,7 +31,7 @@ Decide P Q =
     → Step old t r one a → Step old t r other b → P at old t r one a → Q at old t r other b → (one ≡ other) × (a ≡ b)
 
 module _ (P Q : Entered) (decide : Decide P Q) (entries : ℕ → List ℕ) (number : ℕ) (old : JobValue) (t : Name) (answer other : Answer) (a b : JobValue) where
-  asks_one : (k : Written) (r : Option Request) → Asks (P (entries number)) old t k r answer a → Asks (Q (entries number)) old t k r other b → (answer ≡ other) × (a ≡ b)
+  asks_one : (k : SourceRequest) (r : Option Request) → Asks (P (entries number)) old t k r answer a → Asks (Q (entries number)) old t k r other b → (answer ≡ other) × (a ≡ b)
   asks_one k None x y = (x.0 ∙ sym y.0, x.1 ∙ sym y.1)
   asks_one k (Some r) x y =
       let s = decide (entries number) old.state t r x.reply y.reply a.state b.state x.step y.step x.meets y.meets in
@@ -73,7 +73,7 @@ Meets C D = (old : State) (t : Name) (r : Request) (reply : Reply) (new : State)
 
 -- a statement that meets one condition meets another one
 module _ (C D : Condition) (meets : Meets C D) where
-  asks_other : (old : JobValue) (t : Name) (k : Written) (r : Option Request) (answer : Answer) (new : JobValue) → Asks C old t k r answer new → Asks D old t k r answer new
+  asks_other : (old : JobValue) (t : Name) (k : SourceRequest) (r : Option Request) (answer : Answer) (new : JobValue) → Asks C old t k r answer new → Asks D old t k r answer new
   asks_other old t k None answer new x = x
   asks_other old t k (Some r) answer new x = record { reply = x.reply; step = x.step; meets = meets old.state t r x.reply new.state x.meets; names = x.names; abended = x.abended; former = x.former; hints = x.hints }
 
@@ -110,7 +110,7 @@ module _ (C D : ℕ → Condition) where
       inr (x.0, x.1, x.2, (x.3.0, x.3.1, line_other number (meets number (omega arith)) old x.3.0 x.1 x.0 x.3.2), x.4, walks_other outcome lines (number + 1) x.0 x.2 (λ k l. meets k (omega (arith, l))) x.5)
 
 -- each statement picks some addresses
-asks_at : (old : JobValue) (t : Name) (k : Written) (r : Option Request) (answer : Answer) (new : JobValue) → Asks Any old t k r answer new → (at : List ℕ) × Asks (Picks at) old t k r answer new
+asks_at : (old : JobValue) (t : Name) (k : SourceRequest) (r : Option Request) (answer : Answer) (new : JobValue) → Asks Any old t k r answer new → (at : List ℕ) × Asks (Picks at) old t k r answer new
 asks_at old t k None answer new x = ([], x)
 asks_at old t k (Some r) answer new x = (picked r x.reply new.state, record { reply = x.reply; step = x.step; meets = refl; names = x.names; abended = x.abended; former = x.former; hints = x.hints })
 

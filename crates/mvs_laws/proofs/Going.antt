@@ -3,7 +3,7 @@ use Rattle.std.proofs.Common.{◌≡◌, ℕ, ◌+◌, inl, inr, Bool, true, fal
 use Rattle.std.specs.FinMap.{get, empty, gets}
 use Rattle.std.proofs.lemmas.Bool.Decides.{nat_tests}
 use Rattle.std.proofs.lemmas.Grind.{common_steps}
-use Rattle.mvs_laws.proofs.Types.{Name, Line, Statement, Written, Outcome, ScriptFault, Request}
+use Rattle.mvs_laws.proofs.Types.{Name, Line, Statement, SourceRequest, Outcome, ScriptFault, Request}
 use Rattle.mvs_model.specs.declared.line.Line.TheVariants as line
 use Rattle.mvs_model.specs.declared.line.Statement.TheVariants as says
 use Rattle.mvs_model.specs.Card.{CardValue, IsCard}
@@ -38,7 +38,7 @@ use Rattle.mvs_laws.proofs.Walking.{IsOfStep, served_first, served_in, steps_ser
 use Rattle.mvs_model.proofs.Tests.{by_case, none_some, true_false}
 
 module _ (P : State → Type 0) (closed : Closed P) (at_start : (card : CardValue) → IsCard card → P (start card)) (C : Condition) where
-  asks_keeps : (old : JobValue) (t : Name) (a : Written) (o : Option Request) (answer : Answer) (new : JobValue) → ((r : Request) → o ≡ Some r → IsRequest r) → Asks C old t a o answer new → P old.state → P new.state
+  asks_keeps : (old : JobValue) (t : Name) (a : SourceRequest) (o : Option Request) (answer : Answer) (new : JobValue) → ((r : Request) → o ≡ Some r → IsRequest r) → Asks C old t a o answer new → P old.state → P new.state
   asks_keeps old t a None answer new h1 h2 h3 = subst (λ job. P job.state) (sym h2.1) h3
   asks_keeps old t a (Some r) answer new h1 h2 h3 = step_keeps P closed old.state t r h2.reply new.state (plan_in_range r (h1 r refl)) h2.step h3
 
@@ -96,7 +96,7 @@ pub line_keeps_sized : (number : ℕ) (old : Option JobValue) (l : List ℕ) (ev
 line_keeps_sized = line_keeps PoolsSized sized_closed (λ card is. start_sized card) Any
 
 -- a line has an answer and a step after it
-asks_some : (old : JobValue) (t : Name) (a : Written) (o : Option Request) → ((r : Request) → o ≡ Some r → IsRequest r) → PoolsSized old.state → (answer : Answer) × (new : JobValue) × Asks Any old t a o answer new
+asks_some : (old : JobValue) (t : Name) (a : SourceRequest) (o : Option Request) → ((r : Request) → o ≡ Some r → IsRequest r) → PoolsSized old.state → (answer : Answer) × (new : JobValue) × Asks Any old t a o answer new
 asks_some old t a None r all = (_, old, (refl, refl))
 asks_some old t a (Some q) r all =
     let s = step_some old.state t q all (r q refl) in (

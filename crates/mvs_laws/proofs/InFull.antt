@@ -2,12 +2,12 @@
 use Rattle.std.proofs.Common.{◌≡◌, ℕ, ◌+◌, ◌≤◌, ◌⊎◌, inl, inr, Bool, true, false, List, [], ◌∷◌, ◌++◌, Option, Some, None, refl, ap, arith, ◌||◌, not, MatchBool, nat_cmp}
 use Rattle.std.specs.FinMap.{FinMap, get-empty}
 use Rattle.std.proofs.lemmas.Bool.Decides.{nat_tests}
-use Rattle.mvs_laws.proofs.Types.{Name, Code, Statement, Written, Outcome, Request, Reply, NotRun, Done, Obtained, Abended}
+use Rattle.mvs_laws.proofs.Types.{Name, Code, Statement, SourceRequest, Outcome, Request, Reply, NotRun, Done, Obtained, Abended}
 use Rattle.mvs_model.proofs.StepCases.{step_cases}
 use Rattle.mvs_model.specs.declared.code.Form.TheVariants as form
 use Rattle.mvs_model.specs.declared.line.Line.TheVariants as line
 use Rattle.mvs_model.specs.declared.line.Statement.TheVariants as says
-use Rattle.mvs_model.specs.declared.line.Written.TheVariants as written
+use Rattle.mvs_model.specs.declared.line.SourceRequest.TheVariants as written
 use Rattle.mvs_model.specs.declared.request.Request.TheVariants as request
 use Rattle.mvs_model.specs.declared.want.Loc.TheVariants as loc
 use Rattle.mvs_model.specs.declared.want.Residence.TheVariants.{Below}
@@ -51,13 +51,13 @@ Touches (request.Move to from n) = Unit {0}
 Touches (request.Show a n) = Unit {0}
 Touches _ = ⊥
 
-abbrev AsksTouch : Written → Type 0
+abbrev AsksTouch : SourceRequest → Type 0
 AsksTouch (written.Put location bytes) = Unit {0}
 AsksTouch (written.Move to from n) = Unit {0}
 AsksTouch (written.Show location n) = Unit {0}
 AsksTouch _ = ⊥
 
-touch : (names : FinMap name_cmp PlaceValue) (a : Written) (r : Request) → AsksTouch a → resolved names a ≡ Some r → Touches r
+touch : (names : FinMap name_cmp PlaceValue) (a : SourceRequest) (r : Request) → AsksTouch a → resolved names a ≡ Some r → Touches r
 touch names a r h1 h2 = grind (arith, nat_tests)
 
 -- the code of a refused access is none of shortage
@@ -77,7 +77,7 @@ touch_full r reply h1 h2 = grind (arith, nat_tests)
 -- ---- lines that make such requests
 
 -- the request has a reply, granted in full
-asks_full : (old : JobValue) (t : Name) (a : Written) (o : Option Request) → AsksTouch a → ((r : Request) → o ≡ Some r → Touches r × IsRequest r) → PoolsSized old.state → (answer : Answer) × (new : JobValue) × Asks InFull old t a o answer new
+asks_full : (old : JobValue) (t : Name) (a : SourceRequest) (o : Option Request) → AsksTouch a → ((r : Request) → o ≡ Some r → Touches r × IsRequest r) → PoolsSized old.state → (answer : Answer) × (new : JobValue) × Asks InFull old t a o answer new
 asks_full old t a None h r sized = (_, old, (refl, refl))
 asks_full old t a (Some q) h r sized =
     let touches = (r q refl).0 in
@@ -87,7 +87,7 @@ asks_full old t a (Some q) h r sized =
       record { reply = s.0; step = s.1.1; meets = touch_full q s.0 touches (touch_reply old.state t q s.0 s.1.0 touches (step_cases old.state t q s.0 s.1.0 s.1.1)); names = refl; abended = refl; former = refl; hints = refl },
     )
 
-does_full : (old : JobValue) (t : Name) (a : Written) → AsksTouch a → IsWritten a → PoolsSized old.state → (answer : Answer) × (new : JobValue) × Does InFull old t (says.Request a) answer new
+does_full : (old : JobValue) (t : Name) (a : SourceRequest) → AsksTouch a → IsWritten a → PoolsSized old.state → (answer : Answer) × (new : JobValue) × Does InFull old t (says.Request a) answer new
 does_full old t a h r sized = at (not (is_active old.state.owners t)) where
   asked : (answer : Answer) × (new : JobValue) × Asks InFull old t a (resolved old.names a) answer new
   asked = asks_full old t a (resolved old.names a) h (λ q e. (touch old.names a q h e, is_request old.names a q r e)) sized
@@ -159,7 +159,7 @@ obtain_full reply p e long = grind (arith, nat_tests)
 
 -- ---- the script
 
-abbrev obtain_x : Written
+abbrev obtain_x : SourceRequest
 obtain_x = written.Obtain form.Ru 0 (fixed 8) false area_x
 
 is_ask : IsAsk (fixed 8)

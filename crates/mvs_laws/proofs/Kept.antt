@@ -12,7 +12,7 @@ use Rattle.mvs_model.specs.Place.{PlaceValue, place_at}
 use Rattle.mvs_model.specs.Want.{WantValue, want_of, fixed_want, side_of}
 use Rattle.mvs_model.specs.Gifts.{GiftsValue}
 use Rattle.mvs_model.specs.Storage.{NoPlace, IsWhole}
-use Rattle.mvs_model.specs.Owners.{Owners, is_active, job_step_task, keeper, subpool_meant, SubpoolOf, Enters, has_subtask}
+use Rattle.mvs_model.specs.Owners.{Owners, is_active, job_step_task, effective_task, subpool_meant, SubpoolOf, Enters, has_subtask}
 use Rattle.mvs_model.proofs.ByCase.{attach_refusal}
 use Rattle.mvs_model.specs.Pools.{Pool, part_want, IsCellOf, IsFreeCell}
 use Rattle.mvs_model.specs.State.{State, holder}
@@ -60,14 +60,14 @@ pub record Closed (P : State → Type 0) : Type 0 where
   pub written : (old : State) (p : PlaceValue) (value : ℕ → Option ℕ) (new : State) → all_granted old p ≡ true → HasBytes old p value → Writes old p value new → P old → P new
 
 -- the task whose subpools are meant by a number is active where the one that asks is
-keeper_active : (o : Owners) (t : Name) (number : ℕ) → is_active o t ≡ true → is_active o (keeper o t number) ≡ true
+keeper_active : (o : Owners) (t : Name) (number : ℕ) → is_active o t ≡ true → is_active o (effective_task o t number) ≡ true
 keeper_active o t number active = at (is_step_number number) (job_step_task o) refl where
   at : (b : Bool) (first : Option Name) → job_step_task o ≡ first → is_active o (cond b (unwrap_or first t) t) ≡ true
   at false first e = active
   at true None e = active
   at true (Some q) e = let is = first_of o q e in ap is_some is.1
 
-asker : (o : Owners) (t : Name) (number : ℕ) → is_active o t ≡ true → is_invalid number ≡ false → IsAsker o (keeper o t number) number
+asker : (o : Owners) (t : Name) (number : ℕ) → is_active o t ≡ true → is_invalid number ≡ false → IsAsker o (effective_task o t number) number
 asker o t number active valid = record { active = keeper_active o t number active; valid = not-false (is_subpool_number number) valid }
 
 -- a grant leaves the tasks
@@ -87,7 +87,7 @@ module _ (P : State → Type 0) (closed : Closed P) where
 
   obtains : (old : State) (t : Name) (form : Form) (number : ℕ) (want : WantValue) (reply : Reply) (new : State) → is_active old.owners t ≡ true → ObtainStep old t form number want reply new → P old → P new
   obtains old t form number want reply new active h p =
-      by_test (is_invalid number) h (λ _ a. abends old t _ reply new a p) (λ v k. elim k [ inl f ↦ fails _ old t _ reply new f.1 p | inr g ↦ closed.granted old (keeper old.owners t number) number want g.0 new (asker old.owners t number active v) g.2 p ])
+      by_test (is_invalid number) h (λ _ a. abends old t _ reply new a p) (λ v k. elim k [ inl f ↦ fails _ old t _ reply new f.1 p | inr g ↦ closed.granted old (effective_task old.owners t number) number want g.0 new (asker old.owners t number active v) g.2 p ])
 
   lists : (t : Name) (number : ℕ) (wants : List WantValue) (ps : List PlaceValue) (old new : State) → IsAsker old.owners t number → ListGrant old t number wants ps new → P old → P new
   lists t number [] [] old new asks h p = subst P (sym h) p
@@ -98,7 +98,7 @@ module _ (P : State → Type 0) (closed : Closed P) where
 
   obtains_list : (old : State) (t : Name) (form : Form) (number : ℕ) (wants : List WantValue) (reply : Reply) (new : State) → is_active old.owners t ≡ true → ObtainListStep old t form number wants reply new → P old → P new
   obtains_list old t form number wants reply new active h p =
-      by_test (is_invalid number) h (λ _ a. abends old t _ reply new a p) (λ v k. elim k [ inl f ↦ fails _ old t _ reply new f.1 p | inr g ↦ lists (keeper old.owners t number) number wants g.0 old new (asker old.owners t number active v) g.2 p ])
+      by_test (is_invalid number) h (λ _ a. abends old t _ reply new a p) (λ v k. elim k [ inl f ↦ fails _ old t _ reply new f.1 p | inr g ↦ lists (effective_task old.owners t number) number wants g.0 old new (asker old.owners t number active v) g.2 p ])
 
   frees : (o : Option ℕ) (old : State) (ps : List PlaceValue) (new : State) → AllByRecursion IsWhole ps → MayRelease old o ps → Frees old ps new → P old → P new
   frees o old ps new h1 h2 h3 h4 = grind (arith, common_steps)
@@ -123,9 +123,9 @@ module _ (P : State → Type 0) (closed : Closed P) where
       by_test (is_invalid number) h (λ _ a. abends old t _ reply new a p)
       (λ v k. by_test (contains_key old.pools name) k (λ _ a. abends old t _ reply new a p)
       (λ fresh l. by_test (nat_le 64 (len old.pools)) l (λ _ a. abends old t _ reply new a p) (λ _ m. choice v fresh m))) where
-        choice : is_invalid number ≡ false → contains_key old.pools name ≡ false → ((ShortOf old (keeper old.owners t number) number (part_want plan.cell_size plan.primary plan.side) × Abends old t (short Located) reply new) ⊎ (Builds old (keeper old.owners t number) name number plan new × (reply ≡ Rc0))) → P new
+        choice : is_invalid number ≡ false → contains_key old.pools name ≡ false → ((ShortOf old (effective_task old.owners t number) number (part_want plan.cell_size plan.primary plan.side) × Abends old t (short Located) reply new) ⊎ (Builds old (effective_task old.owners t number) name number plan new × (reply ≡ Rc0))) → P new
         choice v fresh (inl f) = abends old t _ reply new f.1 p
-        choice v fresh (inr g) = let b = g.0 in closed.built old (keeper old.owners t number) name number b.0 plan b.2.0 b.2.1 new fresh r (asker old.owners t number active v) b.1 b.2.2 b.2.3 p
+        choice v fresh (inr g) = let b = g.0 in closed.built old (effective_task old.owners t number) name number b.0 plan b.2.0 b.2.1 new fresh r (asker old.owners t number active v) b.1 b.2.2 b.2.3 p
 
   frees_cell : (o : Option Pool) (old : State) (t name : Name) (c : ℕ) (reply : Reply) (new : State) → get old.pools name ≡ o → FreeStep old t name c o reply new → P old → P new
   frees_cell None old t name c reply new e h p = abends old t _ reply new h p

@@ -19,12 +19,12 @@ use Rattle.mvs_model.specs.declared.code.Form.{Form}
 use Rattle.mvs_model.specs.declared.code.Code.{Code}
 use Rattle.mvs_model.specs.declared.code.Code.TheVariants.{User}
 use Rattle.mvs_model.specs.declared.want.Residence.{Residence}
-use Rattle.mvs_model.specs.declared.line.Written.{Written}
-use Rattle.mvs_model.specs.declared.line.Written.TheVariants as written
+use Rattle.mvs_model.specs.declared.line.SourceRequest.{SourceRequest}
+use Rattle.mvs_model.specs.declared.line.SourceRequest.TheVariants as written
 use Rattle.mvs_model.specs.Place.{place_at, round8}
 use Rattle.mvs_model.specs.Gifts.{GiftsValue}
 use Rattle.mvs_model.specs.Finite.{has}
-use Rattle.mvs_model.specs.Owners.{Owners, keeper, subpool_meant, Attach, has_subtask}
+use Rattle.mvs_model.specs.Owners.{Owners, effective_task, subpool_meant, Attach, has_subtask}
 use Rattle.mvs_model.proofs.ByCase.{attach_refusal}
 use Rattle.mvs_model.specs.Codes.{family, is_conditional, bad_subpool, bad_address, not_held, whole_of_zero, active_subtask, no_access}
 use Rattle.mvs_model.specs.Requests.{is_invalid, on_doubleword}
@@ -43,7 +43,7 @@ abbrev pub Obtains : Labels → Name → Form → ℕ → List ℕ → List Name
 Obtains old t form n lengths areas hints answer new =
     MatchBool (is_invalid n)
     (Abends old t (bad_subpool (family form) true) answer new)
-    ((mid : Labels) × GrantsEach old (keeper old.owners t n) n lengths mid
+    ((mid : Labels) × GrantsEach old (effective_task old.owners t n) n lengths mid
     × AnswersWith hints (record mid { names = all_named mid.names areas lengths old.count }) answer new)
 
 -- whether the places may be released from what the task has under a number
@@ -88,7 +88,7 @@ abbrev pub Accesses : Labels → Name → Bool → Type 0 → Answer → Labels 
 Accesses old t allowed done answer new = MatchBool (not allowed) (Abends old t no_access answer new) done
 
 -- what a request may do: where a name in it is not set, it says so
-abbrev pub Asks : Labels → Name → Written → Answer → Labels → Type 0
+abbrev pub Asks : Labels → Name → SourceRequest → Answer → Labels → Type 0
 Asks old t (written.Obtain form n ask variable area) answer new =
     Obtains old t form n (ask.most ∷ []) (area ∷ []) (grant_answer (written.Obtain form n ask variable area) (place_at 0 (round8 ask.most))) answer new
 Asks old t (written.ObtainList form n lengths start areas) answer new = Obtains old t form n lengths areas Rc0 answer new
@@ -272,7 +272,7 @@ module _ (old new : Labels) (t : Name) (answer : Answer) where
   named None P Q R f h = h
   named (Some x) P Q R f h = f x h
 
-  pub ask_cases : (a : Written) → now.Asks old t a answer new → Asks old t a answer new
+  pub ask_cases : (a : SourceRequest) → now.Asks old t a answer new → Asks old t a answer new
   ask_cases (written.Obtain form n ask variable area) h = obtain_cases form n (ask.most ∷ []) (area ∷ []) (grant_answer (written.Obtain form n ask variable area) (place_at 0 (round8 ask.most))) h
   ask_cases (written.ObtainList form n lengths start areas) h = obtain_cases form n lengths areas Rc0 h
   ask_cases (written.Release form n location len) h = named (spots_of old (location ∷ []) (len ∷ [])) _ _ _ (λ qs. release_cases form n qs) h
@@ -290,7 +290,7 @@ module _ (old new : Labels) (t : Name) (answer : Answer) where
   ask_cases (written.Put location bytes) h = named (spot_of old location (length bytes)) _ _ _ (λ q. access_cases _ _) h
   ask_cases (written.Move to from n) h = named (spot_of old to n) _ _ _ (λ q. named (spot_of old from n) _ _ _ (λ r. access_cases _ _)) h
 
-  pub cases_ask : (a : Written) → Asks old t a answer new → now.Asks old t a answer new
+  pub cases_ask : (a : SourceRequest) → Asks old t a answer new → now.Asks old t a answer new
   cases_ask (written.Obtain form n ask variable area) h = cases_obtain form n (ask.most ∷ []) (area ∷ []) (grant_answer (written.Obtain form n ask variable area) (place_at 0 (round8 ask.most))) h
   cases_ask (written.ObtainList form n lengths start areas) h = cases_obtain form n lengths areas Rc0 h
   cases_ask (written.Release form n location len) h = named (spots_of old (location ∷ []) (len ∷ [])) _ _ _ (λ qs. cases_release form n qs) h

@@ -3,11 +3,11 @@ use Rattle.std.proofs.Common.{◌≡◌, ℕ, Bool, true, false, List, [], ◌�
 use Rattle.std.specs.List.{list_all}
 use Rattle.std.proofs.lemmas.Bool.Decides.{nat_tests}
 use Rattle.std.proofs.lemmas.Grind.{common_steps}
-use Rattle.mvs_laws.proofs.Types.{Name, Residence, Form, Code, System, User, Statement, Written}
-use Rattle.mvs_model.specs.declared.line.Written.TheVariants as written
+use Rattle.mvs_laws.proofs.Types.{Name, Residence, Form, Code, System, User, Statement, SourceRequest}
+use Rattle.mvs_model.specs.declared.line.SourceRequest.TheVariants as written
 use Rattle.mvs_model.specs.Gifts.{GiftsValue}
 use Rattle.mvs_model.specs.Place.{round8}
-use Rattle.mvs_model.specs.Owners.{Owners, is_active, keeper, subpool_meant, has_subtask, Ends, ends_with}
+use Rattle.mvs_model.specs.Owners.{Owners, is_active, effective_task, subpool_meant, has_subtask, Ends, ends_with}
 use Rattle.mvs_model.proofs.ByCase.{attach_refusal}
 use Rattle.mvs_model.specs.Codes.{is_conditional}
 use Rattle.mvs_model.specs.Requests.{is_invalid, on_doubleword}
@@ -63,7 +63,7 @@ module _ (old : Labels) (t : Name) (answer other : Answer) (a b : Labels) where
 
   obtains_one : (form : Form) (n : ℕ) (ns : List ℕ) (areas : List Name) (hints : Answer) → Obtains old t form n ns areas hints answer a → Obtains old t form n ns areas hints other b → One
   obtains_one form n ns areas hints x y = by_two (is_invalid n) x y (λ p q. abends_one _ p q) (λ p q.
-      tells_two hints _ _ (ap named (grants_each_one (keeper old.owners t n) n ns old p.0 q.0 p.1 q.1)) p.2 q.2) where
+      tells_two hints _ _ (ap named (grants_each_one (effective_task old.owners t n) n ns old p.0 q.0 p.1 q.1)) p.2 q.2) where
         named : Labels → Labels
         named m = record m { names = all_named m.names areas ns old.count }
 
@@ -88,7 +88,7 @@ module _ (old : Labels) (t : Name) (answer other : Answer) (a b : Labels) where
   set_one : {X : Type 0} (v : Option X) (P Q : X → Type 0) → ((x : X) → P x → Q x → One) → MatchOption v (AnswersWith tells.NoName old answer a) P → MatchOption v (AnswersWith tells.NoName old other b) Q → One
   set_one v P Q h1 h2 h3 = grind (arith, nat_tests, tells_one)
 
-  cases_one : (k : Written) → Asks old t k answer a → Asks old t k other b → One
+  cases_one : (k : SourceRequest) → Asks old t k answer a → Asks old t k other b → One
   cases_one (written.Obtain form n ask variable area) x y = obtains_one form n (ask.most ∷ []) (area ∷ []) _ x y
   cases_one (written.ObtainList form n lengths start areas) x y = obtains_one form n lengths areas tells.Rc0 x y
   cases_one (written.Release form n location len) x y = set_one (spots_of old (location ∷ []) (len ∷ [])) _ _ (λ qs p q. releases_one form n qs p q) x y
@@ -106,7 +106,7 @@ module _ (old : Labels) (t : Name) (answer other : Answer) (a b : Labels) where
   cases_one (written.Put location bytes) x y = set_one (spot_of old location (length bytes)) _ _ (λ q p r. by_two (not (is_there old q)) p r (λ u v. abends_one (System 0x0C4) u v) (λ u v. tells_one tells.Done _ u v)) x y
   cases_one (written.Move to from n) x y = set_one (spot_of old to n) _ _ (λ q p r. set_one (spot_of old from n) _ _ (λ s u v. by_two (not (is_there old q && is_there old s)) u v (λ u v. abends_one (System 0x0C4) u v) (λ u v. tells_one tells.Done _ u v)) p r) x y
 
-  asks_one : (k : Written) → labels.Asks old t k answer a → labels.Asks old t k other b → One
+  asks_one : (k : SourceRequest) → labels.Asks old t k answer a → labels.Asks old t k other b → One
   asks_one k x y = cases_one k (ask_cases old a t answer k x) (ask_cases old b t other k y)
 
   says_one : (s : Statement) → AnswersTo old t s answer a → AnswersTo old t s other b → One

@@ -11,7 +11,7 @@ use Rattle.mvs_model.specs.Card.{CardValue}
 use Rattle.mvs_model.specs.Finite.{Changes, has}
 use Rattle.mvs_model.specs.Gifts.{GiftsValue, gives, has_bit, shares}
 use Rattle.mvs_model.specs.Name.{name_cmp, same_name}
-use Rattle.mvs_model.specs.Owners.{Binds, Ends, Enters, EntersBelow, IsSpare, Owners, SubpoolOf, Task, ends_with, entered, entry, entry_cmp, handed, is_active, is_given, keeper, none, passed}
+use Rattle.mvs_model.specs.Owners.{Binds, Ends, Enters, EntersBelow, IsSpare, Owners, SubpoolOf, Task, ends_with, entered, entry, entry_cmp, handed, is_active, is_given, effective_task, none, passed}
 use Rattle.mvs_model.proofs.ByCase.{attach_refusal}
 use Rattle.mvs_model.specs.Changes.{Drops, Extends, GrantTo, ShortOf, with_part}
 use Rattle.mvs_model.specs.Codes.{bad_subpool, family, is_conditional, short}
@@ -306,21 +306,21 @@ grants_spare job is a t form number ask p new step = at (is_active job.state.own
   owners : HasOwners job.state
   owners = (well_formed job is).owners
 
-  spared : GrantTo job.state (keeper job.state.owners t number) number (want_of ask (side_for job.state t form ask.loc)) p new → OwnerStays job.state a new
+  spared : GrantTo job.state (effective_task job.state.owners t number) number (want_of ask (side_for job.state t form ask.loc)) p new → OwnerStays job.state a new
   spared g s u held owner =
       let n = owners.owned.owned u s owner in
-      ap (λ m. contains_key m u) (enters_tasks job.state.owners (keeper job.state.owners t number) number g.subpool new.owners g.owners) ∙ owners.owned.active u n.0 s n.1
+      ap (λ m. contains_key m u) (enters_tasks job.state.owners (effective_task job.state.owners t number) number g.subpool new.owners g.owners) ∙ owners.owned.active u n.0 s n.1
 
   no_refusal : (c : Bool) (code : Code) → Fails c job.state t code (Obtained p) new → ⊥
   no_refusal true code h = let e : Obtained p ≡ Rc4 = h.0 in absurd (cc)
   no_refusal false code h = let e : Obtained p ≡ Abended code h.0.fallen = h.1 in absurd (cc)
 
   obtained : (c : Bool) → MatchBool c (Abends job.state t (bad_subpool (family form) true) (Obtained p) new)
-      ((ShortOf job.state (keeper job.state.owners t number) number (want_of ask (side_for job.state t form ask.loc)) × Fails (is_conditional form) job.state t (short (family form)) (Obtained p) new)
-      ⊎ ((q : PlaceValue) × (Obtained p ≡ Obtained q) × GrantTo job.state (keeper job.state.owners t number) number (want_of ask (side_for job.state t form ask.loc)) q new)) → OwnerStays job.state a new
+      ((ShortOf job.state (effective_task job.state.owners t number) number (want_of ask (side_for job.state t form ask.loc)) × Fails (is_conditional form) job.state t (short (family form)) (Obtained p) new)
+      ⊎ ((q : PlaceValue) × (Obtained p ≡ Obtained q) × GrantTo job.state (effective_task job.state.owners t number) number (want_of ask (side_for job.state t form ask.loc)) q new)) → OwnerStays job.state a new
   obtained true h = let e : Obtained p ≡ Abended (bad_subpool (family form) true) h.0.fallen = h.1 in absurd (cc)
   obtained false (inl f) = absurd (no_refusal (is_conditional form) _ f.1)
-  obtained false (inr g) = let same : g.0 ≡ p = (let e : Obtained p ≡ Obtained g.0 = g.1 in cc) in spared (subst (λ q. GrantTo job.state (keeper job.state.owners t number) number (want_of ask (side_for job.state t form ask.loc)) q new) same g.2)
+  obtained false (inr g) = let same : g.0 ≡ p = (let e : Obtained p ≡ Obtained g.0 = g.1 in cc) in spared (subst (λ q. GrantTo job.state (effective_task job.state.owners t number) number (want_of ask (side_for job.state t form ask.loc)) q new) same g.2)
 
   at : (c : Bool) → MatchBool (not c) (Refuses job.state NotRun (Obtained p) new) (Acts job.state t (Obtain form number ask) (Obtained p) new) → LeavesUntouched job.state t a (Obtain form number ask) × OwnerStays job.state a new
   at true h = (tt, obtained (is_invalid number) h)

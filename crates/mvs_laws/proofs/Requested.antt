@@ -2,7 +2,7 @@
 use Rattle.std.proofs.Common.{◌≡◌, Option, Some, subst, option_map, option_and_then, arith}
 use Rattle.std.specs.FinMap.{FinMap}
 use Rattle.std.proofs.lemmas.Bool.Decides.{nat_tests}
-use Rattle.mvs_laws.proofs.Types.{Written, Request}
+use Rattle.mvs_laws.proofs.Types.{SourceRequest, Request}
 use Rattle.mvs_model.specs.Place.{PlaceValue}
 use Rattle.mvs_model.specs.Name.{name_cmp}
 use Rattle.mvs_model.specs.Requests.{IsRequest}
@@ -20,5 +20,5 @@ from_map o f r h1 h2 = grind (arith, nat_tests, plain_request, none_some)
 from_two : {A B : Type 0} (o : Option A) (p : Option B) (f : A → B → Request) (r : Request) → option_and_then (λ a. option_map (f a) p) o ≡ Some r → ((a : A) (b : B) → IsRequest (f a b)) → IsRequest r
 from_two o p f r h1 h2 = grind (arith, nat_tests, from_map, none_some)
 
-pub is_request : (names : FinMap name_cmp PlaceValue) (a : Written) (r : Request) → IsWritten a → resolved names a ≡ Some r → IsRequest r
+pub is_request : (names : FinMap name_cmp PlaceValue) (a : SourceRequest) (r : Request) → IsWritten a → resolved names a ≡ Some r → IsRequest r
 is_request names a r h1 h2 = grind (arith, nat_tests, plain_request, from_map, from_two)

@@ -6,7 +6,7 @@ use Rattle.std.specs.FinMap.{get, contains_key, len}
 use Rattle.std.specs.FinSet as set
 use Rattle.std.proofs.lemmas.Bool.{or_right, false_from_ne_true, or_cases, both_ways}
 use Rattle.std.proofs.lemmas.Grind.{common_steps}
-use Rattle.mvs_laws.proofs.Types.{Name, Code, Form, Line, Statement, Written, Request, Obtain, ObtainList, Release, ReleaseList, ReleaseWhole, Build, Get, Free, Delete, Attach, Return, Abend, Show, Put, Move, Reply, Residence, Below}
+use Rattle.mvs_laws.proofs.Types.{Name, Code, Form, Line, Statement, SourceRequest, Request, Obtain, ObtainList, Release, ReleaseList, ReleaseWhole, Build, Get, Free, Delete, Attach, Return, Abend, Show, Put, Move, Reply, Residence, Below}
 use Rattle.mvs_model.proofs.StepCases.{step_cases}
 use Rattle.mvs_model.specs.declared.line.Line.TheVariants as line
 use Rattle.mvs_model.specs.declared.line.Statement.TheVariants as says
@@ -15,7 +15,7 @@ use Rattle.mvs_model.specs.Finite.{has, filtered}
 use Rattle.mvs_model.specs.Place.{PlaceValue, place_at}
 use Rattle.mvs_model.specs.Want.{WantValue, want_of, fixed_want, side_of}
 use Rattle.mvs_model.specs.Storage.{Chosen, Covers, has_address}
-use Rattle.mvs_model.specs.Owners.{Task, is_active, keeper, subpool_meant, is_among_ended, ends_with, has_subtask}
+use Rattle.mvs_model.specs.Owners.{Task, is_active, effective_task, subpool_meant, is_among_ended, ends_with, has_subtask}
 use Rattle.mvs_model.proofs.ByCase.{attach_refusal}
 use Rattle.mvs_model.specs.Pools.{Pool, Part, IsCell, IsCellOf, cell_at, in_taken, part_length}
 use Rattle.mvs_model.specs.State.{State, Holding, pooled, holder, is_plain, in_cell, granted, subpool_in}
@@ -155,7 +155,7 @@ module _ (old : State) (apart : Apart old) (a b : ℕ) (is : get old.bytes a ≡
   obtains : (t : Name) (form : Form) (number : ℕ) (want : WantValue) (reply : Reply) (new : State) → ObtainStep old t form number want reply new → OwnerStays old a new → get new.bytes a ≡ Some b
   obtains t form number want reply new h stays =
       by_test (is_invalid number) h (λ _ k. abends t _ reply new k stays)
-      (λ _ k. elim k [ inl f ↦ fails _ t _ reply new f.1 stays | inr g ↦ grant_spares (keeper old.owners t number) number want g.0 new g.2 ])
+      (λ _ k. elim k [ inl f ↦ fails _ t _ reply new f.1 stays | inr g ↦ grant_spares (effective_task old.owners t number) number want g.0 new g.2 ])
 
   frees : (o : Option ℕ) (ps : List PlaceValue) (new : State) → any_has ps a ≡ false → MayRelease old o ps → Frees old ps new → get new.bytes a ≡ Some b
   frees o ps new out m f = elsewhere new (any_has ps a) None (f.bytes a) (both_ways (any_has ps a) out)
@@ -223,7 +223,7 @@ acts old t (ObtainList form number lengths start) reply new a b apart is out sta
     by_test (is_invalid number) h (λ _ k. abends old apart a b is t _ reply new k stays)
     (λ _ k. elim k [
       | inl f ↦ fails old apart a b is _ t _ reply new f.1 stays
-      | inr g ↦ list_spares (keeper old.owners t number) number (map (λ n. fixed_want n start Below) lengths) g.0 old new a b apart is g.2
+      | inr g ↦ list_spares (effective_task old.owners t number) number (map (λ n. fixed_want n start Below) lengths) g.0 old new a b apart is g.2
     ])
 acts old t (Release form number p) reply new a b apart is out stays h = releases old apart a b is t form number (p ∷ []) reply new (ap (λ c. c || false) out) h stays
 acts old t (ReleaseList form number ps) reply new a b apart is out stays h = releases old apart a b is t form number ps reply new out h stays
@@ -247,7 +247,7 @@ active_or_not : {P Q R : Type 0} (c : Bool) → MatchBool (not c) P Q → (P →
 active_or_not c h1 h2 h3 = grind (arith, common_steps)
 
 module _ (a b : ℕ) where
-  asks_spare : (old : JobValue) (t : Name) (w : Written) (o : Option Request) (answer : Answer) (new : JobValue) → Apart old.state → get old.state.bytes a ≡ Some b
+  asks_spare : (old : JobValue) (t : Name) (w : SourceRequest) (o : Option Request) (answer : Answer) (new : JobValue) → Apart old.state → get old.state.bytes a ≡ Some b
       → is_active old.state.owners t ≡ true → ((request : Request) → o ≡ Some request → LeavesUntouched old.state t a request × OwnerStays old.state a new.state) → Asks Any old t w o answer new → get new.state.bytes a ≡ Some b
   asks_spare old t w None answer new apart is active out h = ap (λ job. get job.state.bytes a) h.1 ∙ is
   asks_spare old t w (Some request) answer new apart is active out h =

@@ -12,7 +12,7 @@ use Rattle.mvs_model.specs.declared.request.Reply.{Reply}
 use Rattle.mvs_model.specs.declared.request.Reply.TheVariants.{Obtained, Listed}
 use Rattle.mvs_model.specs.Place.{PlaceValue, round8}
 use Rattle.mvs_model.specs.Want.{AskValue, WantValue, want_of, fixed_want}
-use Rattle.mvs_model.specs.Owners.{is_active, keeper}
+use Rattle.mvs_model.specs.Owners.{is_active, effective_task}
 use Rattle.mvs_model.specs.State.{State}
 use Rattle.mvs_model.specs.Codes.{family, is_conditional, short}
 use Rattle.mvs_model.specs.Changes.{GrantTo, ShortOf, ListGrant}
@@ -29,19 +29,19 @@ abbrev pub Granting : State → Name → ℕ → WantValue → List ℕ → Type
 Granting old t number want hints = (q : PlaceValue) × (later : State) × GrantTo old t number want q later × (q.addr ∷ [] ≡ hints)
 
 granting : (old : State) (t : Name) (form : Form) (number : ℕ) (ask : AskValue) (hints : List ℕ) (reply : Reply) (new : State) → hints ≢ [] → Step old t (Obtain form number ask) reply new → granted_at reply ≡ hints
-    → Granting old (keeper old.owners t number) number (want_of ask (side_for old t form ask.loc)) hints
+    → Granting old (effective_task old.owners t number) number (want_of ask (side_for old t form ask.loc)) hints
 granting old t form number ask hints reply new some step e =
     let x = step_cases old t (Obtain form number ask) reply new step in
     by_two (not (is_active old.owners t)) x x (λ p q. absurd (some (sym e ∙ ap granted_at q.0)))
     (λ p q. by_two (is_invalid number) q q (λ u v. absurd (some (sym e ∙ ap granted_at v.1))) (λ u v. at v)) where
-      at : (ShortOf old (keeper old.owners t number) number (want_of ask (side_for old t form ask.loc)) × Fails (is_conditional form) old t (short (family form)) reply new)
-          ⊎ ((p : PlaceValue) × (reply ≡ Obtained p) × GrantTo old (keeper old.owners t number) number (want_of ask (side_for old t form ask.loc)) p new)
-          → Granting old (keeper old.owners t number) number (want_of ask (side_for old t form ask.loc)) hints
+      at : (ShortOf old (effective_task old.owners t number) number (want_of ask (side_for old t form ask.loc)) × Fails (is_conditional form) old t (short (family form)) reply new)
+          ⊎ ((p : PlaceValue) × (reply ≡ Obtained p) × GrantTo old (effective_task old.owners t number) number (want_of ask (side_for old t form ask.loc)) p new)
+          → Granting old (effective_task old.owners t number) number (want_of ask (side_for old t form ask.loc)) hints
       at (inl y) = absurd (some (sym e ∙ none_granted (is_conditional form) old t _ reply new y.1))
       at (inr y) = (y.0, new, y.2, sym (ap granted_at y.1) ∙ e)
 
 area : (old : State) (t : Name) (form : Form) (number : ℕ) (ask : AskValue) (a : ℕ) (p : PlaceValue) (new : State)
-    → FollowsHint old (keeper old.owners t number) number (want_of ask (side_for old t form ask.loc)) a p → Obeys (a ∷ []) old t (Obtain form number ask) (Obtained p) new
+    → FollowsHint old (effective_task old.owners t number) number (want_of ask (side_for old t form ask.loc)) a p → Obeys (a ∷ []) old t (Obtain form number ask) (Obtained p) new
 area old t form number ask a p new takes some other later x e =
     let g = granting old t form number ask (a ∷ []) other later some x e in
     ap (λ n. n ∷ []) (takes g.0 g.1 g.2 (ap head_of g.3))
@@ -51,14 +51,14 @@ abbrev pub ListGranting : State → Name → ℕ → List WantValue → List ℕ
 ListGranting old t number wants hints = (qs : List PlaceValue) × (later : State) × ListGrant old t number wants qs later × (map (λ q. q.addr) qs ≡ hints)
 
 list_granting : (old : State) (t : Name) (form : Form) (number : ℕ) (lengths : List ℕ) (start : ℕ) (hints : List ℕ) (reply : Reply) (new : State) → hints ≢ [] → Step old t (ObtainList form number lengths start) reply new → granted_at reply ≡ hints
-    → ListGranting old (keeper old.owners t number) number (map (λ n. fixed_want n start Below) lengths) hints
+    → ListGranting old (effective_task old.owners t number) number (map (λ n. fixed_want n start Below) lengths) hints
 list_granting old t form number lengths start hints reply new some step e =
     let x = step_cases old t (ObtainList form number lengths start) reply new step in
     by_two (not (is_active old.owners t)) x x (λ p q. absurd (some (sym e ∙ ap granted_at q.0)))
     (λ p q. by_two (is_invalid number) q q (λ u v. absurd (some (sym e ∙ ap granted_at v.1))) (λ u v. at v)) where
-      at : (ListShort old (keeper old.owners t number) number (map (λ n. fixed_want n start Below) lengths) × Fails (is_conditional form) old t (short (family form)) reply new)
-          ⊎ ((ps : List PlaceValue) × (reply ≡ Listed ps) × ListGrant old (keeper old.owners t number) number (map (λ n. fixed_want n start Below) lengths) ps new)
-          → ListGranting old (keeper old.owners t number) number (map (λ n. fixed_want n start Below) lengths) hints
+      at : (ListShort old (effective_task old.owners t number) number (map (λ n. fixed_want n start Below) lengths) × Fails (is_conditional form) old t (short (family form)) reply new)
+          ⊎ ((ps : List PlaceValue) × (reply ≡ Listed ps) × ListGrant old (effective_task old.owners t number) number (map (λ n. fixed_want n start Below) lengths) ps new)
+          → ListGranting old (effective_task old.owners t number) number (map (λ n. fixed_want n start Below) lengths) hints
       at (inl y) = absurd (some (sym e ∙ none_granted (is_conditional form) old t _ reply new y.1))
       at (inr y) = (y.0, new, y.2, sym (ap granted_at y.1) ∙ e)
 
@@ -77,10 +77,10 @@ list_takes t number (want ∷ wants) (n ∷ hints) (p ∷ ps) (q ∷ qs) old a b
     λ i. here i ∷ rest i
 
 areas : (old : State) (t : Name) (form : Form) (number : ℕ) (lengths : List ℕ) (start : ℕ) (hints : List ℕ) (ps : List PlaceValue) (new : State)
-    → ListFollowsHints old (keeper old.owners t number) number (map (λ n. fixed_want n start Below) lengths) hints ps new → Obeys hints old t (ObtainList form number lengths start) (Listed ps) new
+    → ListFollowsHints old (effective_task old.owners t number) number (map (λ n. fixed_want n start Below) lengths) hints ps new → Obeys hints old t (ObtainList form number lengths start) (Listed ps) new
 areas old t form number lengths start hints ps new takes some other later x e =
     let g = list_granting old t form number lengths start hints other later some x e in
-    list_takes (keeper old.owners t number) number (map (λ n. fixed_want n start Below) lengths) hints ps g.0 old new g.1 takes g.2 g.3
+    list_takes (effective_task old.owners t number) number (map (λ n. fixed_want n start Below) lengths) hints ps g.0 old new g.1 takes g.2 g.3
 
 -- and stops nowhere
 some_length : (n : ℕ) → nat_le 1 n ≡ true → 1 ≤ round8 n
@@ -103,5 +103,5 @@ taking_obeys = record {
   areas = areas;
   stops = λ old t form number lengths start hints reply new each stop some other later x e.
       let g = list_granting old t form number lengths start hints other later some x e in
-      absurd (list_goes_on (keeper old.owners t number) number start lengths hints g.0 old g.1 each stop g.2 g.3);
+      absurd (list_goes_on (effective_task old.owners t number) number start lengths hints g.0 old g.1 each stop g.2 g.3);
 }

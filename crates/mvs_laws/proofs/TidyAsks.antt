@@ -7,9 +7,9 @@ use Rattle.std.proofs.lemmas.Bool.{and_from, not-true}
 use Rattle.std.specs.Cmp.{first_so}
 use Rattle.std.proofs.lemmas.Bool.Decides.{nat_tests}
 use Rattle.std.proofs.lemmas.Grind.{common_steps}
-use Rattle.mvs_laws.proofs.Types.{Name, Form, System, User, Written, Location, Request, Reply, Done, Residence, Below}
+use Rattle.mvs_laws.proofs.Types.{Name, Form, System, User, SourceRequest, Location, Request, Reply, Done, Residence, Below}
 use Rattle.mvs_model.proofs.StepCases.{step_cases}
-use Rattle.mvs_model.specs.declared.line.Written.TheVariants as written
+use Rattle.mvs_model.specs.declared.line.SourceRequest.TheVariants as written
 use Rattle.mvs_model.specs.declared.request.Request.TheVariants as request
 use Rattle.mvs_model.specs.Place.{PlaceValue, place_at, round8}
 use Rattle.mvs_model.specs.Want.{AskValue, want_of, fixed_want}
@@ -55,7 +55,7 @@ no_way b h1 h2 = grind (arith, nat_tests, false_true, true_false)
 byte_some : (bytes : List ℕ) (j : ℕ) → j < length bytes → IsSome (slice_get bytes j)
 byte_some bytes j l = ap is_some (slice_get-get_or bytes j 0 l)
 
-module _ (job new : JobValue) (m : Labels) (k : Link job m) (t : Name) (a : Written) (answer : Answer) where
+module _ (job new : JobValue) (m : Labels) (k : Link job m) (t : Name) (a : SourceRequest) (answer : Answer) where
   -- a task that is active acts
   acts : (r : Request) (reply : Reply) → is_active job.state.owners t ≡ true → Step job.state t r reply new.state → Acts job.state t r reply new.state
   acts r reply active h = by_test (not (is_active job.state.owners t)) (step_cases job.state t r reply new.state h) (λ e x. no_way (is_active job.state.owners t) active (not-true (is_active job.state.owners t) e)) (λ e x. x)
@@ -90,7 +90,7 @@ module _ (job new : JobValue) (m : Labels) (k : Link job m) (t : Name) (a : Writ
   done_same r h = same_names job new m k t a r answer Done (refl, refl) h
 
 module _ (job new : JobValue) (m : Labels) (k : Link job m) (t : Name) (active : is_active job.state.owners t ≡ true) (answer : Answer) where
-  abbrev Same : Written → Type 0
+  abbrev Same : SourceRequest → Type 0
   Same a = tidy_written m a ≡ true → Asks InFull job t a (resolved job.names a) answer new → Linked new (cases.Asks m t a answer)
 
   -- what is there may be accessed
@@ -141,7 +141,7 @@ module _ (job new : JobValue) (m : Labels) (k : Link job m) (t : Name) (active :
 
   case_area : (form : Form) (n : ℕ) (area : Name) → Same (written.ReleaseArea form n area)
   case_area form n area tidy h = at (get m.names area) refl where
-    a : Written
+    a : SourceRequest
     a = written.ReleaseArea form n area
 
     place_is : get job.names area ≡ option_map (λ l. place_at (k.base l + 0) (m.len l)) (get m.names area)
@@ -163,7 +163,7 @@ module _ (job new : JobValue) (m : Labels) (k : Link job m) (t : Name) (active :
 
   case_list : (form : Form) (n : ℕ) (ls : List Location) (ns : List ℕ) → Same (written.ReleaseList form n ls ns)
   case_list form n ls ns tidy h = at (look_all job m k ls ns) where
-    a : Written
+    a : SourceRequest
     a = written.ReleaseList form n ls ns
 
     on : (later : Labels) → Option (List Spot) → Type 0
@@ -182,7 +182,7 @@ module _ (job new : JobValue) (m : Labels) (k : Link job m) (t : Name) (active :
 
   case_move : (to from : Location) (n : ℕ) → Same (written.Move to from n)
   case_move to from n tidy h = at (look job m k to n) (look job m k from n) where
-    a : Written
+    a : SourceRequest
     a = written.Move to from n
 
     Moves : Spot → Spot → Labels → Type 0
@@ -252,7 +252,7 @@ module _ (job new : JobValue) (m : Labels) (k : Link job m) (t : Name) (active :
       attaches job new m k t a (request.Attach name gifts residence) answer name gifts residence (attach_refusal m.owners t name gifts) h.reply (made job new m k t a answer (request.Attach name gifts residence) h)
       (subst (λ o. AttachCase job.state t name gifts residence (attach_refusal o t name gifts) h.reply new.state) k.owners (acts job new m k t a answer (request.Attach name gifts residence) h.reply active h.step))
 
-  pub asks_same : (a : Written) → Same a
+  pub asks_same : (a : SourceRequest) → Same a
   asks_same (written.Obtain form n ask variable area) tidy h = case_obtain form n ask variable area tidy h
   asks_same (written.ObtainList form n lengths start areas) tidy h =
       obtains_list job new m k t (written.ObtainList form n lengths start areas) (request.ObtainList form n lengths start) answer form n lengths (map (λ n. fixed_want n start Below) lengths) areas h.reply refl (fixed_all start lengths) (λ ps. refl) h.meets (h.meets.answered refl)

@@ -2,10 +2,10 @@
 use Rattle.std.proofs.Common.{◌≡◌, ℕ, ◌+◌, inl, inr, Bool, true, false, List, [], ◌∷◌, arith, refl, sym, ap, ◌∙◌, subst, ◌||◌}
 use Rattle.std.proofs.Math.Bool.{or-false, or-true}
 use Rattle.std.proofs.lemmas.Grind.{common_steps}
-use Rattle.mvs_laws.proofs.Types.{Name, Form, Code, Written, Request, Reply, Rc4, Obtained, Listed, Abended}
+use Rattle.mvs_laws.proofs.Types.{Name, Form, Code, SourceRequest, Request, Reply, Rc4, Obtained, Listed, Abended}
 use Rattle.mvs_model.specs.Place.{PlaceValue, round8}
 use Rattle.mvs_model.specs.Want.{WantValue}
-use Rattle.mvs_model.specs.Owners.{keeper, AreDescendants, Ends, ends_with}
+use Rattle.mvs_model.specs.Owners.{effective_task, AreDescendants, Ends, ends_with}
 use Rattle.mvs_model.specs.Codes.{family, is_conditional, short, bad_subpool}
 use Rattle.mvs_model.specs.Changes.{GrantTo, ListGrant, Drops, End}
 use Rattle.mvs_model.specs.Consequences.{Abends, Refuses}
@@ -31,20 +31,20 @@ none_set job [] = refl
 none_set job (name ∷ names) = refl
 
 -- What is answered and what else becomes of the job, for a reply.
-pub record Made (job new : JobValue) (a : Written) (r : Request) (reply : Reply) (answer : Answer) : Type 0 where
+pub record Made (job new : JobValue) (a : SourceRequest) (r : Request) (reply : Reply) (answer : Answer) : Type 0 where
   pub names : new.names ≡ all_set job.names (names_set a) (places_in reply)
   pub abended : new.abended ≡ (job.abended || is_abend reply)
   pub former : new.former ≡ job.former
   pub hints : answer ≡ answer_of job.state a r reply
 
-pub made_of : (job new : JobValue) (t : Name) (a : Written) (r : Request) (answer : Answer) (k : Makes InFull job t a r answer new) → Made job new a r k.reply answer
+pub made_of : (job new : JobValue) (t : Name) (a : SourceRequest) (r : Request) (answer : Answer) (k : Makes InFull job t a r answer new) → Made job new a r k.reply answer
 made_of job new t a r answer k = record { names = k.names; abended = k.abended; former = k.former; hints = k.hints }
 
 -- the labels that a relation allows, linked with the job
 abbrev pub Linked : JobValue → (Labels → Type 0) → Type 0
 Linked new P = (later : Labels) × P later × Link new later
 
-module _ (job new : JobValue) (m : Labels) (k : Link job m) (t : Name) (a : Written) (r : Request) (answer : Answer) where
+module _ (job new : JobValue) (m : Labels) (k : Link job m) (t : Name) (a : SourceRequest) (r : Request) (answer : Answer) where
   abbrev pub Replied : Reply → Type 0
   Replied reply = Made job new a r reply answer
 
@@ -101,10 +101,10 @@ module _ (job new : JobValue) (m : Labels) (k : Link job m) (t : Name) (a : Writ
 
   -- all that is granted is named
   obtained : (number_of : ℕ) (form : Form) (ns : List ℕ) (areas : List Name) (ps : List PlaceValue) (hints : Answer) → is_invalid number_of ≡ false → new.names ≡ all_set job.names areas ps → new.abended ≡ job.abended → new.former ≡ job.former → answer ≡ hints
-      → (mid : Labels) (later : Link (at_state job new.state) mid) → GrantsEach m (keeper m.owners t number_of) number_of ns mid → Placed later.base mid.len mid.count ns ps m.count → Linked new (cases.Obtains m t form number_of ns areas hints answer)
+      → (mid : Labels) (later : Link (at_state job new.state) mid) → GrantsEach m (effective_task m.owners t number_of) number_of ns mid → Placed later.base mid.len mid.count ns ps m.count → Linked new (cases.Obtains m t form number_of ns areas hints answer)
   obtained n form ns areas ps hints valid names abended former said mid later grants placed = (
     record mid { names = all_named mid.names areas ns m.count },
-    match_false _ ((x : Labels) × GrantsEach m (keeper m.owners t n) n ns x × labels.AnswersWith hints (record x { names = all_named x.names areas ns m.count }) answer (record mid { names = all_named mid.names areas ns m.count })) (is_invalid n) valid (mid, grants, (said, refl)),
+    match_false _ ((x : Labels) × GrantsEach m (effective_task m.owners t n) n ns x × labels.AnswersWith hints (record x { names = all_named x.names areas ns m.count }) answer (record mid { names = all_named mid.names areas ns m.count })) (is_invalid n) valid (mid, grants, (said, refl)),
     link_named (at_state job new.state) new mid later (all_named mid.names areas ns m.count) refl abended former
         (subst (λ x. Agrees later.base mid.len mid.count x (all_named mid.names areas ns m.count)) (sym names)
         (agrees_all later.base mid.len mid.count areas ns ps m.count job.names mid.names (record { place = later.names; low = later.labels.named }) placed)),
@@ -124,7 +124,7 @@ module _ (job new : JobValue) (m : Labels) (k : Link job m) (t : Name) (a : Writ
         | inr g ↦
             let now = turned reply (Obtained g.0) g.1 made in
             let size = largest g.0 g.1 in
-            let one = grant_one job m k (keeper m.owners t n) n (round8 most) want g.0 new.state (subst (λ o. GrantTo job.state (keeper o t n) n want g.0 new.state) k.owners g.2) size in
+            let one = grant_one job m k (effective_task m.owners t n) n (round8 most) want g.0 new.state (subst (λ o. GrantTo job.state (effective_task o t n) n want g.0 new.state) k.owners g.2) size in
             obtained n form (most ∷ []) (area ∷ []) (g.0 ∷ []) hints valid (now.names ∙ ap (λ names. all_set job.names names (g.0 ∷ [])) sets) (now.abended ∙ or-false job.abended) now.former (now.hints ∙ said g.0 size)
             one.0 one.1 (one.0, one.2, refl) (one.4, (let c : one.0.count ≡ m.count + 1 = one.5 in omega (arith, c)), tt)
       ])
@@ -139,7 +139,7 @@ module _ (job new : JobValue) (m : Labels) (k : Link job m) (t : Name) (a : Writ
         | inl s ↦ absurd (not_short (is_conditional form) form reply full answered s.1)
         | inr g ↦
             let now = turned reply (Listed g.0) g.1 made in
-            let all = grant_each (keeper m.owners t n) n ns wants g.0 new.state job m k fixed (subst (λ o. ListGrant job.state (keeper o t n) n wants g.0 new.state) k.owners g.2) in
+            let all = grant_each (effective_task m.owners t n) n ns wants g.0 new.state job m k fixed (subst (λ o. ListGrant job.state (effective_task o t n) n wants g.0 new.state) k.owners g.2) in
             obtained n form ns areas g.0 tells.Rc0 valid (now.names ∙ ap (λ names. all_set job.names names g.0) sets) (now.abended ∙ or-false job.abended) now.former (now.hints ∙ said g.0)
             all.0 all.1 all.2 all.4
       ])

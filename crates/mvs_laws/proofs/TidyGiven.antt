@@ -32,7 +32,7 @@ use Rattle.mvs_laws.proofs.TidyMoves.{shows, ask_does, active_does, alone, moves
 use Rattle.mvs_model.proofs.Tests.{match_false, false_true}
 use Rattle.mvs_model.proofs.SeenStart.{all_names}
 use Rattle.mvs_model.specs.declared.line.Statement.TheVariants as says
-use Rattle.mvs_model.specs.declared.line.Written.TheVariants as written
+use Rattle.mvs_model.specs.declared.line.SourceRequest.TheVariants as written
 use Rattle.mvs_laws.proofs.TidyBusy.{no_bit, never, guarded}
 
 -- bit 5 alone is set in 32

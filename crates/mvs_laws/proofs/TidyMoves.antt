@@ -5,11 +5,11 @@ use Rattle.std.specs.FinMap.{FinMap, get, empty, insert, get-insert, get-empty}
 use Rattle.std.specs.Cmp.{nat_cmp_total}
 use Rattle.std.proofs.lemmas.Bool.Decides.{nat_tests}
 use Rattle.mvs_laws.proofs.LabelCases as cases
-use Rattle.mvs_laws.proofs.Types.{Written, Name, Statement, Named, Outcome, Clean, SomeAbend}
+use Rattle.mvs_laws.proofs.Types.{SourceRequest, Name, Statement, Named, Outcome, Clean, SomeAbend}
 use Rattle.mvs_model.specs.declared.want.Residence.TheVariants.{Below}
 use Rattle.mvs_model.specs.declared.line.Line.TheVariants as line
 use Rattle.mvs_model.specs.declared.line.Statement.TheVariants as says
-use Rattle.mvs_model.specs.declared.line.Written.TheVariants as written
+use Rattle.mvs_model.specs.declared.line.SourceRequest.TheVariants as written
 use Rattle.mvs_model.specs.declared.code.Form.TheVariants as form
 use Rattle.mvs_model.specs.Answers as tells
 use Rattle.mvs_model.specs.Answers.{Answer, Region, Event, AnswerTo, StepEnded}
@@ -90,7 +90,7 @@ pub active_does : (m later : Labels) (t : Name) (s : Statement) (answer : Answer
 active_does m later t s answer active h = match_false (AnswersWith tells.NotRun m answer later) (AnswersTo m t s answer later) (not (is_active m.owners t)) (ap not active) h
 
 -- a request that is made, by the cases of what it does
-pub ask_does : (m later : Labels) (t : Name) (a : Written) (answer : Answer) → is_active m.owners t ≡ true → cases.Asks m t a answer later → Does m t (says.Request a) answer later
+pub ask_does : (m later : Labels) (t : Name) (a : SourceRequest) (answer : Answer) → is_active m.owners t ≡ true → cases.Asks m t a answer later → Does m t (says.Request a) answer later
 ask_does m later t a answer active h = active_does m later t (says.Request a) answer active (cases.cases_ask m later t answer a h)
 
 at_set : {X : Type 0} (v : Option X) (x : X) (N : Type 0) (P : X → Type 0) → v ≡ Some x → P x → MatchOption v N P

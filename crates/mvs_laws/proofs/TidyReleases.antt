@@ -2,7 +2,7 @@
 use Rattle.std.proofs.Common.{◌≡◌, ℕ, ◌+◌, ◌%◌, ◌⊎◌, inl, inr, Bool, true, false, List, [], ◌∷◌, map, Option, Some, None, arith, refl, sym, ap, ◌∙◌, subst, not, ◌&&◌, ◌==◌, MatchBool}
 use Rattle.std.specs.List.{list_any, list_all, AllByRecursion}
 use Rattle.std.proofs.lemmas.Bool.{not-false}
-use Rattle.mvs_laws.proofs.Types.{Name, Residence, Form, Code, System, User, Written, Reply, Rc0, Attached, Ended, Request}
+use Rattle.mvs_laws.proofs.Types.{Name, Residence, Form, Code, System, User, SourceRequest, Reply, Rc0, Attached, Ended, Request}
 use Rattle.mvs_model.specs.Place.{PlaceValue, place_at, round8}
 use Rattle.mvs_model.specs.Gifts.{GiftsValue}
 use Rattle.mvs_model.specs.Finite.{has}
@@ -29,7 +29,7 @@ use Rattle.mvs_laws.proofs.Spots.{span_of}
 use Rattle.mvs_laws.proofs.TidyCases.{Linked, Replied, turned, abends, fails, same_names, ends}
 use Rattle.mvs_model.proofs.Tests.{match_true, match_false, by_test}
 
-module _ (job new : JobValue) (m : Labels) (k : Link job m) (t : Name) (a : Written) (r : Request) (answer : Answer) where
+module _ (job new : JobValue) (m : Labels) (k : Link job m) (t : Name) (a : SourceRequest) (r : Request) (answer : Answer) where
   rounded_all : (qs : List Spot) → map whole (map (span_of job m k) qs) ≡ map (span_of job m k) (map rounded qs)
   rounded_all [] = refl
   rounded_all (q ∷ qs) = ap (λ ps. place_at (k.base q.label + q.place.addr) (round8 q.place.len) ∷ ps) (rounded_all qs)

@@ -19,8 +19,8 @@ use Rattle.mvs_model.specs.declared.line.Statement.{Statement}
 use Rattle.mvs_model.specs.declared.line.Statement.TheVariants as says
 use Rattle.mvs_model.specs.declared.line.Location.{Location}
 use Rattle.mvs_model.specs.declared.line.Location.TheVariants.{Absolute, Named}
-use Rattle.mvs_model.specs.declared.line.Written.{Written}
-use Rattle.mvs_model.specs.declared.line.Written.TheVariants as written
+use Rattle.mvs_model.specs.declared.line.SourceRequest.{SourceRequest}
+use Rattle.mvs_model.specs.declared.line.SourceRequest.TheVariants as written
 use Rattle.mvs_model.specs.declared.outcome.Outcome.{Outcome}
 use Rattle.mvs_model.specs.Place.{PlaceValue, place_at, round8}
 use Rattle.mvs_model.specs.Gifts.{GiftsValue}
@@ -28,7 +28,7 @@ use Rattle.mvs_model.specs.Card.{CardValue}
 use Rattle.mvs_model.specs.Name.{name_cmp}
 use Rattle.mvs_model.specs.Finite.{has, all_below, any_below, count_below, total_below}
 use Rattle.mvs_model.specs.Storage.{has_address}
-use Rattle.mvs_model.specs.Owners.{Owners, is_active, keeper, subpool_meant, SubpoolOf, Enters, Attach, AreDescendants, Ends, ends_with}
+use Rattle.mvs_model.specs.Owners.{Owners, is_active, effective_task, subpool_meant, SubpoolOf, Enters, Attach, AreDescendants, Ends, ends_with}
 use Rattle.mvs_model.specs.Start.{first_owners}
 use Rattle.mvs_model.specs.Requests.{on_doubleword, whole}
 use Rattle.mvs_model.specs.Answers.{NoCell, Answer, NotRun, NoName, Rc0, Rc4, Attached, Ended, Done, Data, Abended, Subpools, Event}
@@ -167,7 +167,7 @@ all_named names (name ∷ more) (n ∷ lengths) l = all_named (insert names name
 abbrev pub Obtains : Labels → Name → Form → ℕ → List ℕ → List Name → Answer → Answer → Labels → Type 0
 Obtains old t form n lengths areas hints answer new =
     Tries old t form true (number_causes n)
-    ((mid : Labels) × GrantsEach old (keeper old.owners t n) n lengths mid × AnswersWith hints (record mid { names = all_named mid.names areas lengths old.count }) answer new)
+    ((mid : Labels) × GrantsEach old (effective_task old.owners t n) n lengths mid × AnswersWith hints (record mid { names = all_named mid.names areas lengths old.count }) answer new)
     answer new
 
 -- All of the places are gone.
@@ -210,7 +210,7 @@ abbrev pub Accesses : Labels → Name → Bool → Type 0 → Answer → Labels 
 Accesses old t allowed done answer new = Tries old t Storage false (access_causes allowed) done answer new
 
 -- what a request may do: where a name in it is not set, it says so
-abbrev pub Asks : Labels → Name → Written → Answer → Labels → Type 0
+abbrev pub Asks : Labels → Name → SourceRequest → Answer → Labels → Type 0
 Asks old t (written.Obtain form n ask variable area) answer new =
     Obtains old t form n (ask.most ∷ []) (area ∷ []) (grant_answer (written.Obtain form n ask variable area) (place_at 0 (round8 ask.most))) answer new
 Asks old t (written.ObtainList form n lengths start areas) answer new = Obtains old t form n lengths areas Rc0 answer new

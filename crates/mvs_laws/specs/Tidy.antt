@@ -10,8 +10,8 @@ use Rattle.mvs_model.specs.declared.line.Statement.{Statement}
 use Rattle.mvs_model.specs.declared.line.Statement.TheVariants as says
 use Rattle.mvs_model.specs.declared.line.Location.{Location}
 use Rattle.mvs_model.specs.declared.line.Location.TheVariants.{Absolute, Named}
-use Rattle.mvs_model.specs.declared.line.Written.{Written}
-use Rattle.mvs_model.specs.declared.line.Written.TheVariants as written
+use Rattle.mvs_model.specs.declared.line.SourceRequest.{SourceRequest}
+use Rattle.mvs_model.specs.declared.line.SourceRequest.TheVariants as written
 use Rattle.mvs_model.specs.declared.outcome.Outcome.{Outcome}
 use Rattle.mvs_model.specs.declared.request.Request.{Request}
 use Rattle.mvs_model.specs.declared.request.Request.TheVariants as request
@@ -33,7 +33,7 @@ use Rattle.mvs_laws.specs.Labels as labels
 use Rattle.mvs_laws.specs.Labels.{Labels, spot, is_there, label_machine, IsLabelRun, IsLabelText}
 
 -- the addresses that a request uses, with the lengths of their places, a release's rounded
-abbrev pub places_used : Labels → Written → List (Location × ℕ)
+abbrev pub places_used : Labels → SourceRequest → List (Location × ℕ)
 places_used m (written.Release form n location len) = (location, round8 len) ∷ []
 places_used m (written.ReleaseArea form n area) = (Named area 0, unwrap_or (option_map (λ l. round8 (m.len l)) (get m.names area)) 0) ∷ []
 places_used m (written.ReleaseList form n locations lengths) = zip locations (map round8 lengths)
@@ -53,7 +53,7 @@ is_good m (Absolute a) n = false
 is_good m (Named name k) n = has (λ l. is_there m (spot l k n)) (get m.names name)
 
 -- whether a request uses no cell pool, and where its names are all set, only good places
-abbrev pub tidy_written : Labels → Written → Bool
+abbrev pub tidy_written : Labels → SourceRequest → Bool
 tidy_written m (written.Build pool n size primary secondary loc) = false
 tidy_written m (written.Get pool conditional cell) = false
 tidy_written m (written.Free pool cell) = false

@@ -8,7 +8,7 @@ use Rattle.mvs_model.specs.declared.line.Line.TheVariants as line
 use Rattle.mvs_model.specs.declared.line.Statement.{Statement}
 use Rattle.mvs_model.specs.declared.line.Statement.TheVariants.{Region, Request, ReportSubpools}
 use Rattle.mvs_model.specs.declared.line.Location.TheVariants.{Named}
-use Rattle.mvs_model.specs.declared.line.Written.TheVariants.{Obtain, Attach, Return, Show, Put, Move}
+use Rattle.mvs_model.specs.declared.line.SourceRequest.TheVariants.{Obtain, Attach, Return, Show, Put, Move}
 use Rattle.mvs_model.specs.declared.outcome.Outcome.{Outcome}
 use Rattle.mvs_model.specs.Name.{padded}
 use Rattle.mvs_model.specs.Want.{AskValue}

@@ -19,7 +19,7 @@ use Rattle.mvs_model.specs.Place.{PlaceValue, place_at}
 use Rattle.mvs_model.specs.Want.{WantValue, want_of, fixed_want, side_of}
 use Rattle.mvs_model.specs.Gifts.{GiftsValue}
 use Rattle.mvs_model.specs.Storage.{NoPlace}
-use Rattle.mvs_model.specs.Owners.{Owners, is_active, keeper, subpool_meant, has_subtask}
+use Rattle.mvs_model.specs.Owners.{Owners, is_active, effective_task, subpool_meant, has_subtask}
 use Rattle.mvs_model.specs.Pools.{Pool, part_want, IsFreeCell}
 use Rattle.mvs_model.specs.State.{State, holder}
 use Rattle.mvs_model.specs.Codes.{family, is_conditional, short, bad_subpool, bad_address, not_held, whole_of_zero, pool_in_use, too_many_pools, no_such_pool, no_such_cell, active_subtask, no_access}
@@ -59,16 +59,16 @@ abbrev pub ObtainStep : State → Name → Form → ℕ → WantValue → Reply 
 ObtainStep old t form number want reply new =
     MatchBool (is_invalid number)
     (Abends old t (bad_subpool (family form) true) reply new)
-    ((ShortOf old (keeper old.owners t number) number want × Fails (is_conditional form) old t (short (family form)) reply new)
-    ⊎ ((p : PlaceValue) × (reply ≡ Obtained p) × GrantTo old (keeper old.owners t number) number want p new))
+    ((ShortOf old (effective_task old.owners t number) number want × Fails (is_conditional form) old t (short (family form)) reply new)
+    ⊎ ((p : PlaceValue) × (reply ≡ Obtained p) × GrantTo old (effective_task old.owners t number) number want p new))
 
 -- The same for a list: all its places are granted, or none. (Assembler Services Reference, GETMAIN)
 abbrev pub ObtainListStep : State → Name → Form → ℕ → List WantValue → Reply → State → Type 0
 ObtainListStep old t form number wants reply new =
     MatchBool (is_invalid number)
     (Abends old t (bad_subpool (family form) true) reply new)
-    ((ListShort old (keeper old.owners t number) number wants × Fails (is_conditional form) old t (short (family form)) reply new)
-    ⊎ ((ps : List PlaceValue) × (reply ≡ Listed ps) × ListGrant old (keeper old.owners t number) number wants ps new))
+    ((ListShort old (effective_task old.owners t number) number wants × Fails (is_conditional form) old t (short (family form)) reply new)
+    ⊎ ((ps : List PlaceValue) × (reply ≡ Listed ps) × ListGrant old (effective_task old.owners t number) number wants ps new))
 
 -- what the task has under the number may be released in these places
 abbrev pub MayRelease : State → Option ℕ → List PlaceValue → Type 0
@@ -107,8 +107,8 @@ BuildStep old t name number plan reply new =
     (Abends old t pool_in_use reply new)
     (MatchBool (nat_le most_pools (len old.pools))
     (Abends old t too_many_pools reply new)
-    ((ShortOf old (keeper old.owners t number) number (part_want plan.cell_size plan.primary plan.side) × Abends old t (short Located) reply new)
-    ⊎ (Builds old (keeper old.owners t number) name number plan new × (reply ≡ Rc0)))))
+    ((ShortOf old (effective_task old.owners t number) number (part_want plan.cell_size plan.primary plan.side) × Abends old t (short Located) reply new)
+    ⊎ (Builds old (effective_task old.owners t number) name number plan new × (reply ≡ Rc0)))))
 
 -- What becomes of CPOOL GET where no cell is free. (Assembler Services Reference, CPOOL; the code 878 is this project's choice)
 abbrev pub GetsNone : State → Name → Name → Bool → Pool → Reply → State → Type 0

@@ -23,7 +23,7 @@ use Rattle.mvs_model.specs.Gifts.{GiftsValue}
 use Rattle.mvs_model.specs.Name.{same_name}
 use Rattle.mvs_model.specs.Finite.{filtered}
 use Rattle.mvs_model.specs.Storage.{Regions, Chosen, NoPlace, covers, has_address}
-use Rattle.mvs_model.specs.Owners.{Owners, is_active, keeper, subpool_meant, Enters, Ends, ends_with, has_subtask}
+use Rattle.mvs_model.specs.Owners.{Owners, is_active, effective_task, subpool_meant, Enters, Ends, ends_with, has_subtask}
 use Rattle.mvs_model.proofs.ByCase.{attach_refusal}
 use Rattle.mvs_model.specs.Pools.{Pool, Part, part_want, cell_at}
 use Rattle.mvs_model.specs.State.{State, plain, holder, granted}
@@ -172,24 +172,24 @@ module _ (old : State) (t : Name) (one other : Reply) (a b : State) where
 
   obtain_same : (form : Form) (number : ℕ) (want : WantValue) → ObtainStep old t form number want one a → ObtainStep old t form number want other b → granted_at one ≡ granted_at other → Same
   obtain_same form number want x y e = by_two (is_invalid number) x y (λ p q. abends_same _ p q) at where
-    at : (ShortOf old (keeper old.owners t number) number want × Fails (is_conditional form) old t (short (family form)) one a) ⊎ ((p : PlaceValue) × (one ≡ Obtained p) × GrantTo old (keeper old.owners t number) number want p a)
-        → (ShortOf old (keeper old.owners t number) number want × Fails (is_conditional form) old t (short (family form)) other b) ⊎ ((p : PlaceValue) × (other ≡ Obtained p) × GrantTo old (keeper old.owners t number) number want p b) → Same
+    at : (ShortOf old (effective_task old.owners t number) number want × Fails (is_conditional form) old t (short (family form)) one a) ⊎ ((p : PlaceValue) × (one ≡ Obtained p) × GrantTo old (effective_task old.owners t number) number want p a)
+        → (ShortOf old (effective_task old.owners t number) number want × Fails (is_conditional form) old t (short (family form)) other b) ⊎ ((p : PlaceValue) × (other ≡ Obtained p) × GrantTo old (effective_task old.owners t number) number want p b) → Same
     at (inl x) (inl y) = fails_same (is_conditional form) _ x.1 y.1
     at (inl x) (inr y) = absurd (let f : [] ≡ y.0.addr ∷ [] = sym (none_granted (is_conditional form) old t _ one a x.1) ∙ e ∙ ap granted_at y.1 in cc)
     at (inr x) (inl y) = absurd (let f : [] ≡ x.0.addr ∷ [] = sym (none_granted (is_conditional form) old t _ other b y.1) ∙ sym e ∙ ap granted_at x.1 in cc)
     at (inr x) (inr y) =
-        let g = one_grant old (keeper old.owners t number) number want x.0 y.0 a b x.2 y.2 (ap head_of (sym (ap granted_at x.1) ∙ e ∙ ap granted_at y.1)) in
+        let g = one_grant old (effective_task old.owners t number) number want x.0 y.0 a b x.2 y.2 (ap head_of (sym (ap granted_at x.1) ∙ e ∙ ap granted_at y.1)) in
         (x.1 ∙ ap Obtained g.0 ∙ sym y.1, g.1)
 
   list_same : (form : Form) (number : ℕ) (wants : List WantValue) → ObtainListStep old t form number wants one a → ObtainListStep old t form number wants other b → granted_at one ≡ granted_at other → Same
   list_same form number wants x y e = by_two (is_invalid number) x y (λ p q. abends_same _ p q) at where
-    at : (ListShort old (keeper old.owners t number) number wants × Fails (is_conditional form) old t (short (family form)) one a) ⊎ ((ps : List PlaceValue) × (one ≡ Listed ps) × ListGrant old (keeper old.owners t number) number wants ps a)
-        → (ListShort old (keeper old.owners t number) number wants × Fails (is_conditional form) old t (short (family form)) other b) ⊎ ((ps : List PlaceValue) × (other ≡ Listed ps) × ListGrant old (keeper old.owners t number) number wants ps b) → Same
+    at : (ListShort old (effective_task old.owners t number) number wants × Fails (is_conditional form) old t (short (family form)) one a) ⊎ ((ps : List PlaceValue) × (one ≡ Listed ps) × ListGrant old (effective_task old.owners t number) number wants ps a)
+        → (ListShort old (effective_task old.owners t number) number wants × Fails (is_conditional form) old t (short (family form)) other b) ⊎ ((ps : List PlaceValue) × (other ≡ Listed ps) × ListGrant old (effective_task old.owners t number) number wants ps b) → Same
     at (inl x) (inl y) = fails_same (is_conditional form) _ x.1 y.1
     at (inl x) (inr y) = absurd (no_short old _ number wants y.0 b x.0 y.2 (sym (ap granted_at y.1) ∙ sym e ∙ none_granted (is_conditional form) old t _ one a x.1))
     at (inr x) (inl y) = absurd (no_short old _ number wants x.0 a y.0 x.2 (sym (ap granted_at x.1) ∙ e ∙ none_granted (is_conditional form) old t _ other b y.1))
     at (inr x) (inr y) =
-        let g = one_list (keeper old.owners t number) number wants x.0 y.0 old a b x.2 y.2 (sym (ap granted_at x.1) ∙ e ∙ ap granted_at y.1) in
+        let g = one_list (effective_task old.owners t number) number wants x.0 y.0 old a b x.2 y.2 (sym (ap granted_at x.1) ∙ e ∙ ap granted_at y.1) in
         (x.1 ∙ ap Listed g.0 ∙ sym y.1, g.1)
 
   release_same : (form : Form) (number : ℕ) (ps : List PlaceValue) → ReleaseStep old t form number ps one a → ReleaseStep old t form number ps other b → Same
@@ -210,17 +210,17 @@ module _ (old : State) (t : Name) (one other : Reply) (a b : State) where
 
   build_same : (name : Name) (number : ℕ) (plan : Plan) → BuildStep old t name number plan one a → BuildStep old t name number plan other b → parts_at (get a.pools name) ≡ parts_at (get b.pools name) → Same
   build_same name number plan x y e = by_two (is_invalid number) x y (λ p q. abends_same _ p q) (λ p q. by_two (contains_key old.pools name) p q (λ p q. abends_same _ p q) (λ p q. by_two (nat_le most_pools (len old.pools)) p q (λ p q. abends_same _ p q) at)) where
-    built : Builds old (keeper old.owners t number) name number plan a → Builds old (keeper old.owners t number) name number plan b → a ≡ b
+    built : Builds old (effective_task old.owners t number) name number plan a → Builds old (effective_task old.owners t number) name number plan b → a ≡ b
     built x y =
-        let s = one_subpool old.owners (keeper old.owners t number) number x.0 y.0 x.1 y.1 in
-        let o = one_enters old.owners (keeper old.owners t number) number y.0 x.2.1 y.2.1 (subst (λ s. Enters old.owners (keeper old.owners t number) number s x.2.1) s x.2.2) y.2.2 in
+        let s = one_subpool old.owners (effective_task old.owners t number) number x.0 y.0 x.1 y.1 in
+        let o = one_enters old.owners (effective_task old.owners t number) number y.0 x.2.1 y.2.1 (subst (λ s. Enters old.owners (effective_task old.owners t number) number s x.2.1) s x.2.2) y.2.2 in
         let ext : Extends old name (new_pool y.0 plan) plan.primary x.2.0 y.2.1 a = subst (λ o. Extends old name (new_pool y.0 plan) plan.primary x.2.0 o a) o (subst (λ s. Extends old name (new_pool s plan) plan.primary x.2.0 x.2.1 a) s x.2.3) in
         let addr : x.2.0.addr ≡ y.2.0.addr = ap head_of (sym (ap parts_at (ext.pools name ∙ here name _ (get old.pools name))) ∙ e ∙ ap parts_at (y.2.3.pools name ∙ here name _ (get old.pools name))) in
         let p = one_place old.regions (holder old) y.0 (part_want plan.cell_size plan.primary plan.side) x.2.0 y.2.0 ext.chosen y.2.3.chosen addr in
         one_extends old name (new_pool y.0 plan) plan.primary y.2.0 y.2.1 a b (subst (λ p. Extends old name (new_pool y.0 plan) plan.primary p y.2.1 a) p ext) y.2.3
 
-    at : (ShortOf old (keeper old.owners t number) number (part_want plan.cell_size plan.primary plan.side) × Abends old t (short Located) one a) ⊎ (Builds old (keeper old.owners t number) name number plan a × (one ≡ Rc0))
-        → (ShortOf old (keeper old.owners t number) number (part_want plan.cell_size plan.primary plan.side) × Abends old t (short Located) other b) ⊎ (Builds old (keeper old.owners t number) name number plan b × (other ≡ Rc0)) → Same
+    at : (ShortOf old (effective_task old.owners t number) number (part_want plan.cell_size plan.primary plan.side) × Abends old t (short Located) one a) ⊎ (Builds old (effective_task old.owners t number) name number plan a × (one ≡ Rc0))
+        → (ShortOf old (effective_task old.owners t number) number (part_want plan.cell_size plan.primary plan.side) × Abends old t (short Located) other b) ⊎ (Builds old (effective_task old.owners t number) name number plan b × (other ≡ Rc0)) → Same
     at (inl x) (inl y) = abends_same _ x.1 y.1
     at (inl x) (inr y) = absurd (no_build old _ name number plan b x.0 y.0)
     at (inr x) (inl y) = absurd (no_build old _ name number plan a y.0 x.0)
@@ -305,8 +305,8 @@ module _ (old : State) (t : Name) (one other : Reply) (a b : State) where
 
   obtain_none : (form : Form) (number : ℕ) (want : WantValue) → 1 ≤ want.least → ObtainStep old t form number want one a → ObtainStep old t form number want other b → granted_at one ≡ [] → granted_at other ≡ []
   obtain_none form number want some x y e = by_two (is_invalid number) x y (λ p q. abend_none _ q) at where
-    at : (ShortOf old (keeper old.owners t number) number want × Fails (is_conditional form) old t (short (family form)) one a) ⊎ ((p : PlaceValue) × (one ≡ Obtained p) × GrantTo old (keeper old.owners t number) number want p a)
-        → (ShortOf old (keeper old.owners t number) number want × Fails (is_conditional form) old t (short (family form)) other b) ⊎ ((p : PlaceValue) × (other ≡ Obtained p) × GrantTo old (keeper old.owners t number) number want p b) → granted_at other ≡ []
+    at : (ShortOf old (effective_task old.owners t number) number want × Fails (is_conditional form) old t (short (family form)) one a) ⊎ ((p : PlaceValue) × (one ≡ Obtained p) × GrantTo old (effective_task old.owners t number) number want p a)
+        → (ShortOf old (effective_task old.owners t number) number want × Fails (is_conditional form) old t (short (family form)) other b) ⊎ ((p : PlaceValue) × (other ≡ Obtained p) × GrantTo old (effective_task old.owners t number) number want p b) → granted_at other ≡ []
     at (inl x) (inl y) = none_granted (is_conditional form) old t _ other b y.1
     at (inl x) (inr y) = absurd (no_grant old _ number want y.0 b some x.0 y.2)
     at (inr x) y = absurd (let f : [] ≡ x.0.addr ∷ [] = sym e ∙ ap granted_at x.1 in cc)
@@ -341,8 +341,8 @@ module _ (old : State) (t : Name) (one other : Reply) (a b : State) where
     same : Same old t one other a b → parts_at (get b.pools name) ≡ []
     same h = ap (λ st. parts_at (get st.pools name)) (sym h.1) ∙ e
 
-    at : (ShortOf old (keeper old.owners t number) number (part_want plan.cell_size plan.primary plan.side) × Abends old t (short Located) one a) ⊎ (Builds old (keeper old.owners t number) name number plan a × (one ≡ Rc0))
-        → (ShortOf old (keeper old.owners t number) number (part_want plan.cell_size plan.primary plan.side) × Abends old t (short Located) other b) ⊎ (Builds old (keeper old.owners t number) name number plan b × (other ≡ Rc0)) → parts_at (get b.pools name) ≡ []
+    at : (ShortOf old (effective_task old.owners t number) number (part_want plan.cell_size plan.primary plan.side) × Abends old t (short Located) one a) ⊎ (Builds old (effective_task old.owners t number) name number plan a × (one ≡ Rc0))
+        → (ShortOf old (effective_task old.owners t number) number (part_want plan.cell_size plan.primary plan.side) × Abends old t (short Located) other b) ⊎ (Builds old (effective_task old.owners t number) name number plan b × (other ≡ Rc0)) → parts_at (get b.pools name) ≡ []
     at (inl x) (inl y) = same (abends_same old t one other a b _ x.1 y.1)
     at (inl x) (inr y) = absurd (no_build old _ name number plan b x.0 y.0)
     at (inr x) y = absurd (built_some a name number plan _ x.0 e)

@@ -8,7 +8,7 @@ use Rattle.mvs_model.proofs.Types.{Form, TooLong, InvalidByte, UnknownOperation}
 use Rattle.mvs_model.specs.declared.code.Form.TheVariants as form
 use Rattle.mvs_model.specs.declared.line.Line.TheVariants as line
 use Rattle.mvs_model.specs.declared.line.Statement.TheVariants as says
-use Rattle.mvs_model.specs.declared.line.Written.TheVariants as written
+use Rattle.mvs_model.specs.declared.line.SourceRequest.TheVariants as written
 use Rattle.mvs_model.specs.Name.{padded}
 use Rattle.mvs_model.specs.Grammar.{Number, DistinctNumbers, Word, Row, region, getmain_fixed, getmain_fixed_placed, getmain_variable, getmain_variable_placed, getmain_list, storage_obtain, freemain_or_whole, freemain_place, freemain_area, freemain_list, storage_release, cpool_build, cpool_get, cpool_free, cpool_delete, attach, abend, put, show, move, where_row, report}
 use Rattle.mvs_model.specs.Reading.{◌when◌, first_of, form_in, operands_in, operands_of, row_of, rows_of, statement_checks, words, ByKey, form_of, has_key, hex_number, is_conditional, is_digit, is_empty, is_list, is_number, is_one_of, is_text, items, largest, location, number, numbers_in, set_of, smallest}

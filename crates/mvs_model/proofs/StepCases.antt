@@ -23,7 +23,7 @@ use Rattle.mvs_model.specs.Place.{PlaceValue, place_at}
 use Rattle.mvs_model.specs.Want.{AskValue, WantValue, want_of, fixed_want, side_of}
 use Rattle.mvs_model.specs.Gifts.{GiftsValue}
 use Rattle.mvs_model.specs.Storage.{Chosen, NoPlace}
-use Rattle.mvs_model.specs.Owners.{is_active, keeper, subpool_meant, has_subtask, gives_shared}
+use Rattle.mvs_model.specs.Owners.{is_active, effective_task, subpool_meant, has_subtask, gives_shared}
 use Rattle.mvs_model.specs.Pools.{Pool, part_want}
 use Rattle.mvs_model.specs.State.{State, holder}
 use Rattle.mvs_model.specs.Codes.{family, is_conditional, short, not_held, no_such_cell, task_in_use, too_many_tasks, not_owned}
@@ -116,19 +116,19 @@ module _ (old new : State) (t : Name) (reply : Reply) where
 
   new_obtain : (form : Form) (number : ℕ) (ask : AskValue) → Left (Obtain form number ask) (causes_of old t (Obtain form number ask)) → Acts old t (Obtain form number ask) reply new
   new_obtain form number ask = by_when (Obtain form number ask) InvalidNumber (is_invalid number) (λ s. s) at where
-    at : Left (Obtain form number ask) (Shortage whenever ShortOf old (keeper old.owners t number) number (want_of ask (side_for old t form ask.loc)) ∷ [])
-        → (ShortOf old (keeper old.owners t number) number (want_of ask (side_for old t form ask.loc)) × Fails (is_conditional form) old t (short (family form)) reply new)
-        ⊎ ((p : PlaceValue) × (reply ≡ Obtained p) × GrantTo old (keeper old.owners t number) number (want_of ask (side_for old t form ask.loc)) p new)
+    at : Left (Obtain form number ask) (Shortage whenever ShortOf old (effective_task old.owners t number) number (want_of ask (side_for old t form ask.loc)) ∷ [])
+        → (ShortOf old (effective_task old.owners t number) number (want_of ask (side_for old t form ask.loc)) × Fails (is_conditional form) old t (short (family form)) reply new)
+        ⊎ ((p : PlaceValue) × (reply ≡ Obtained p) × GrantTo old (effective_task old.owners t number) number (want_of ask (side_for old t form ask.loc)) p new)
     at (inl (r, inl h, s)) = inl (h.0, fails (is_conditional form) (short (family form)) (one (Obtain form number ask) r Shortage h.1 s))
     at (inl (r, inr h, s)) = absurd h.1
     at (inr h) = inr h.1
 
   new_list : (form : Form) (number : ℕ) (lengths : List ℕ) (start : ℕ) → Left (ObtainList form number lengths start) (causes_of old t (ObtainList form number lengths start)) → Acts old t (ObtainList form number lengths start) reply new
   new_list form number lengths start = by_when (ObtainList form number lengths start) InvalidNumber (is_invalid number) (λ s. s) at where
-    at : Left (ObtainList form number lengths start) ((λ k. Member (k + 1)) may ShortAfter old (keeper old.owners t number) number (map (λ n. fixed_want n start Below) lengths) ∷ [])
-        → (ListShort old (keeper old.owners t number) number (map (λ n. fixed_want n start Below) lengths) × Fails (is_conditional form) old t (short (family form)) reply new)
-        ⊎ ((ps : List PlaceValue) × (reply ≡ Listed ps) × ListGrant old (keeper old.owners t number) number (map (λ n. fixed_want n start Below) lengths) ps new)
-    at (inl (r, inl h, s)) = inl (some_short old (keeper old.owners t number) number _ h.0 h.1, fails (is_conditional form) (short (family form)) (one (ObtainList form number lengths start) r (Member (h.0 + 1)) h.2 s))
+    at : Left (ObtainList form number lengths start) ((λ k. Member (k + 1)) may ShortAfter old (effective_task old.owners t number) number (map (λ n. fixed_want n start Below) lengths) ∷ [])
+        → (ListShort old (effective_task old.owners t number) number (map (λ n. fixed_want n start Below) lengths) × Fails (is_conditional form) old t (short (family form)) reply new)
+        ⊎ ((ps : List PlaceValue) × (reply ≡ Listed ps) × ListGrant old (effective_task old.owners t number) number (map (λ n. fixed_want n start Below) lengths) ps new)
+    at (inl (r, inl h, s)) = inl (some_short old (effective_task old.owners t number) number _ h.0 h.1, fails (is_conditional form) (short (family form)) (one (ObtainList form number lengths start) r (Member (h.0 + 1)) h.2 s))
     at (inl (r, inr h, s)) = absurd h.1
     at (inr h) = inr h.1
 
@@ -190,9 +190,9 @@ module _ (old new : State) (t : Name) (reply : Reply) where
       by_when (Build name number size primary secondary loc) InvalidNumber (is_invalid number) (λ s. s)
       (by_when (Build name number size primary secondary loc) PoolInUse (contains_key old.pools name) (λ s. s)
       (by_when (Build name number size primary secondary loc) TooManyPools (nat_le most_pools (len old.pools)) (λ s. s) at)) where
-        at : Left (Build name number size primary secondary loc) (NoPart whenever ShortOf old (keeper old.owners t number) number (part_want size primary (side_of loc (residence_of old.owners t))) ∷ [])
-            → (ShortOf old (keeper old.owners t number) number (part_want size primary (side_of loc (residence_of old.owners t))) × Abends old t (short Located) reply new)
-            ⊎ (Builds old (keeper old.owners t number) name number (record { cell_size = size; primary = primary; secondary = secondary; side = side_of loc (residence_of old.owners t) }) new × (reply ≡ Rc0))
+        at : Left (Build name number size primary secondary loc) (NoPart whenever ShortOf old (effective_task old.owners t number) number (part_want size primary (side_of loc (residence_of old.owners t))) ∷ [])
+            → (ShortOf old (effective_task old.owners t number) number (part_want size primary (side_of loc (residence_of old.owners t))) × Abends old t (short Located) reply new)
+            ⊎ (Builds old (effective_task old.owners t number) name number (record { cell_size = size; primary = primary; secondary = secondary; side = side_of loc (residence_of old.owners t) }) new × (reply ≡ Rc0))
         at (inl (r, inl h, s)) = inl (h.0, one (Build name number size primary secondary loc) r NoPart h.1 s)
         at (inl (r, inr h, s)) = absurd h.1
         at (inr h) = inr (h.1.1, h.1.0)
@@ -282,18 +282,18 @@ module _ (old new : State) (t : Name) (reply : Reply) where
 
   same_obtain : (form : Form) (number : ℕ) (ask : AskValue) → 1 ≤ ask.least → Acts old t (Obtain form number ask) reply new → Left (Obtain form number ask) (causes_of old t (Obtain form number ask))
   same_obtain form number ask some = when_by (Obtain form number ask) InvalidNumber (is_invalid number) (λ s. s) at where
-    at : (ShortOf old (keeper old.owners t number) number (want_of ask (side_for old t form ask.loc)) × Fails (is_conditional form) old t (short (family form)) reply new)
-        ⊎ ((p : PlaceValue) × (reply ≡ Obtained p) × GrantTo old (keeper old.owners t number) number (want_of ask (side_for old t form ask.loc)) p new)
-        → Left (Obtain form number ask) (Shortage whenever ShortOf old (keeper old.owners t number) number (want_of ask (side_for old t form ask.loc)) ∷ [])
+    at : (ShortOf old (effective_task old.owners t number) number (want_of ask (side_for old t form ask.loc)) × Fails (is_conditional form) old t (short (family form)) reply new)
+        ⊎ ((p : PlaceValue) × (reply ≡ Obtained p) × GrantTo old (effective_task old.owners t number) number (want_of ask (side_for old t form ask.loc)) p new)
+        → Left (Obtain form number ask) (Shortage whenever ShortOf old (effective_task old.owners t number) number (want_of ask (side_for old t form ask.loc)) ∷ [])
     at (inl h) = inl (Shortage, inl (h.0, refl), settled (is_conditional form) (short (family form)) h.1)
-    at (inr h) = inr ((λ s. no_grant old (keeper old.owners t number) number (want_of ask (side_for old t form ask.loc)) h.0 new (round8_some ask.least some) s h.2, tt), h)
+    at (inr h) = inr ((λ s. no_grant old (effective_task old.owners t number) number (want_of ask (side_for old t form ask.loc)) h.0 new (round8_some ask.least some) s h.2, tt), h)
 
   same_list : (form : Form) (number : ℕ) (lengths : List ℕ) (start : ℕ) → Acts old t (ObtainList form number lengths start) reply new → Left (ObtainList form number lengths start) (causes_of old t (ObtainList form number lengths start))
   same_list form number lengths start = when_by (ObtainList form number lengths start) InvalidNumber (is_invalid number) (λ s. s) at where
-    at : (ListShort old (keeper old.owners t number) number (map (λ n. fixed_want n start Below) lengths) × Fails (is_conditional form) old t (short (family form)) reply new)
-        ⊎ ((ps : List PlaceValue) × (reply ≡ Listed ps) × ListGrant old (keeper old.owners t number) number (map (λ n. fixed_want n start Below) lengths) ps new)
-        → Left (ObtainList form number lengths start) ((λ k. Member (k + 1)) may ShortAfter old (keeper old.owners t number) number (map (λ n. fixed_want n start Below) lengths) ∷ [])
-    at (inl h) = let m = short_some old (keeper old.owners t number) number _ h.0 in inl (Member (m.0 + 1), inl (m.0, m.1, refl), settled (is_conditional form) (short (family form)) h.1)
+    at : (ListShort old (effective_task old.owners t number) number (map (λ n. fixed_want n start Below) lengths) × Fails (is_conditional form) old t (short (family form)) reply new)
+        ⊎ ((ps : List PlaceValue) × (reply ≡ Listed ps) × ListGrant old (effective_task old.owners t number) number (map (λ n. fixed_want n start Below) lengths) ps new)
+        → Left (ObtainList form number lengths start) ((λ k. Member (k + 1)) may ShortAfter old (effective_task old.owners t number) number (map (λ n. fixed_want n start Below) lengths) ∷ [])
+    at (inl h) = let m = short_some old (effective_task old.owners t number) number _ h.0 in inl (Member (m.0 + 1), inl (m.0, m.1, refl), settled (is_conditional form) (short (family form)) h.1)
     at (inr h) = inr ((tt, tt), h)
 
   -- a release, of a request that is one
@@ -340,11 +340,11 @@ module _ (old new : State) (t : Name) (reply : Reply) where
       when_by (Build name number size primary secondary loc) InvalidNumber (is_invalid number) (λ s. s)
       (when_by (Build name number size primary secondary loc) PoolInUse (contains_key old.pools name) (λ s. s)
       (when_by (Build name number size primary secondary loc) TooManyPools (nat_le most_pools (len old.pools)) (λ s. s) at)) where
-        at : (ShortOf old (keeper old.owners t number) number (part_want size primary (side_of loc (residence_of old.owners t))) × Abends old t (short Located) reply new)
-            ⊎ (Builds old (keeper old.owners t number) name number (record { cell_size = size; primary = primary; secondary = secondary; side = side_of loc (residence_of old.owners t) }) new × (reply ≡ Rc0))
-            → Left (Build name number size primary secondary loc) (NoPart whenever ShortOf old (keeper old.owners t number) number (part_want size primary (side_of loc (residence_of old.owners t))) ∷ [])
+        at : (ShortOf old (effective_task old.owners t number) number (part_want size primary (side_of loc (residence_of old.owners t))) × Abends old t (short Located) reply new)
+            ⊎ (Builds old (effective_task old.owners t number) name number (record { cell_size = size; primary = primary; secondary = secondary; side = side_of loc (residence_of old.owners t) }) new × (reply ≡ Rc0))
+            → Left (Build name number size primary secondary loc) (NoPart whenever ShortOf old (effective_task old.owners t number) number (part_want size primary (side_of loc (residence_of old.owners t))) ∷ [])
         at (inl h) = inl (NoPart, inl (h.0, refl), h.1)
-        at (inr h) = inr ((built_not_short old new (keeper old.owners t number) name number (plan_of size primary secondary loc) h.0, tt), (h.1, h.0))
+        at (inr h) = inr ((built_not_short old new (effective_task old.owners t number) name number (plan_of size primary secondary loc) h.0, tt), (h.1, h.0))
 
   same_cell : (name : Name) (conditional : Bool) (v : Option Pool) → GetStep old t name conditional v reply new
       → ((refusal : Refusal) × Refused (NoPool when not (is_some v) ∷ cell_causes old conditional v) refusal × Settled (Get name conditional) refusal) ⊎ (Passed (NoPool when not (is_some v) ∷ cell_causes old conditional v) × TakesSome old name v reply new)

@@ -9,7 +9,7 @@ use Rattle.mvs_model.specs.Place.{PlaceValue, place_at, round8}
 use Rattle.mvs_model.specs.Want.{WantValue, want_of, fixed_want}
 use Rattle.mvs_model.specs.Gifts.{GiftsValue}
 use Rattle.mvs_model.specs.Storage.{Chosen, NoPlace, covers, has_address}
-use Rattle.mvs_model.specs.Owners.{Owners, is_active, keeper, subpool_meant, SubpoolOf, Ends, ends_with, has_subtask}
+use Rattle.mvs_model.specs.Owners.{Owners, is_active, effective_task, subpool_meant, SubpoolOf, Ends, ends_with, has_subtask}
 use Rattle.mvs_model.proofs.ByCase.{attach_refusal}
 use Rattle.mvs_model.specs.Pools.{Pool, Part, part_want, part_length, first_cell, IsCellOf, IsFreeCell, cell_at, in_parts, in_taken}
 use Rattle.mvs_model.specs.State.{State, plain, pooled, holder, granted}
@@ -115,8 +115,8 @@ area_some old t number want even ordered =
 
 obtain_some : (old : State) (t : Name) (form : Form) (number : ℕ) (want : WantValue) → want.least % 8 ≡ 0 → want.least ≤ want.most → Some2 (ObtainStep old t form number want)
 obtain_some old t form number want even ordered = either_some (is_invalid number) (λ _. abends_some old t (bad_subpool (family form) true)) (λ _. choice) where
-  choice : Some2 (λ reply new. (ShortOf old (keeper old.owners t number) number want × Fails (is_conditional form) old t (short (family form)) reply new) ⊎ ((p : PlaceValue) × (reply ≡ Obtained p) × GrantTo old (keeper old.owners t number) number want p new))
-  choice = elim (area_some old (keeper old.owners t number) number want even ordered) [
+  choice : Some2 (λ reply new. (ShortOf old (effective_task old.owners t number) number want × Fails (is_conditional form) old t (short (family form)) reply new) ⊎ ((p : PlaceValue) × (reply ≡ Obtained p) × GrantTo old (effective_task old.owners t number) number want p new))
+  choice = elim (area_some old (effective_task old.owners t number) number want even ordered) [
     | inl short_of ↦ let f = fails_some (is_conditional form) old t (short (family form)) in (f.0, (f.1.0, inl (short_of, f.1.1)))
     | inr g ↦ (Obtained g.0, (g.1, inr (g.0, refl, g.2)))
   ]
@@ -134,8 +134,8 @@ list_some t number start (n ∷ ns) old =
 
 obtain_list_some : (old : State) (t : Name) (form : Form) (number start : ℕ) (lengths : List ℕ) → Some2 (ObtainListStep old t form number (map (λ n. fixed_want n start Below) lengths))
 obtain_list_some old t form number start lengths = either_some (is_invalid number) (λ _. abends_some old t (bad_subpool (family form) true)) (λ _. choice) where
-  choice : Some2 (λ reply new. (ListShort old (keeper old.owners t number) number (map (λ n. fixed_want n start Below) lengths) × Fails (is_conditional form) old t (short (family form)) reply new) ⊎ ((ps : List PlaceValue) × (reply ≡ Listed ps) × ListGrant old (keeper old.owners t number) number (map (λ n. fixed_want n start Below) lengths) ps new))
-  choice = elim (list_some (keeper old.owners t number) number start lengths old) [
+  choice : Some2 (λ reply new. (ListShort old (effective_task old.owners t number) number (map (λ n. fixed_want n start Below) lengths) × Fails (is_conditional form) old t (short (family form)) reply new) ⊎ ((ps : List PlaceValue) × (reply ≡ Listed ps) × ListGrant old (effective_task old.owners t number) number (map (λ n. fixed_want n start Below) lengths) ps new))
+  choice = elim (list_some (effective_task old.owners t number) number start lengths old) [
     | inl s ↦ let f = fails_some (is_conditional form) old t (short (family form)) in (f.0, (f.1.0, inl (s, f.1.1)))
     | inr g ↦ (Listed g.0, (g.1, inr (g.0, refl, g.2)))
   ]
@@ -211,11 +211,11 @@ build_some old t name number plan =
     either_some (is_invalid number) (λ _. abends_some old t (bad_subpool Located true))
     (λ _. either_some (contains_key old.pools name) (λ _. abends_some old t (User 4008))
     (λ _. either_some (nat_le 64 (len old.pools)) (λ _. abends_some old t (User 4007)) (λ _. choice))) where
-      choice : Some2 (λ reply new. (ShortOf old (keeper old.owners t number) number (part_want plan.cell_size plan.primary plan.side) × Abends old t (short Located) reply new) ⊎ (Builds old (keeper old.owners t number) name number plan new × (reply ≡ Rc0)))
+      choice : Some2 (λ reply new. (ShortOf old (effective_task old.owners t number) number (part_want plan.cell_size plan.primary plan.side) × Abends old t (short Located) reply new) ⊎ (Builds old (effective_task old.owners t number) name number plan new × (reply ≡ Rc0)))
       choice =
-          let s = subpool_some old.owners (keeper old.owners t number) number in
+          let s = subpool_some old.owners (effective_task old.owners t number) number in
           elim (part_some old s.0 plan.cell_size plan.primary plan.side) [
-            | inl c ↦ let o = enters_some old.owners (keeper old.owners t number) number s.0 in let e = extends_some old name (new_pool s.0 plan) plan.primary c.0 o.0 c.1 in (Rc0, (e.0, inr ((s.0, s.1, (c.0, o.0, o.1, e.1)), refl)))
+            | inl c ↦ let o = enters_some old.owners (effective_task old.owners t number) number s.0 in let e = extends_some old name (new_pool s.0 plan) plan.primary c.0 o.0 c.1 in (Rc0, (e.0, inr ((s.0, s.1, (c.0, o.0, o.1, e.1)), refl)))
             | inr none ↦ let f = abends_some old t (short Located) in (f.0, (f.1.0, inl ((s.0, s.1, none), f.1.1)))
           ]
 

@@ -10,7 +10,7 @@ pub use Rattle.mvs_model.specs.declared.line.Line.{Line}
 pub use Rattle.mvs_model.specs.declared.line.Location.{Location}
 pub use Rattle.mvs_model.specs.declared.line.Location.TheVariants.{Absolute, Named}
 pub use Rattle.mvs_model.specs.declared.line.Statement.{Statement}
-pub use Rattle.mvs_model.specs.declared.line.Written.{Written}
+pub use Rattle.mvs_model.specs.declared.line.SourceRequest.{SourceRequest}
 pub use Rattle.mvs_model.specs.declared.name.Name.{Name}
 pub use Rattle.mvs_model.specs.declared.outcome.Outcome.{Outcome}
 pub use Rattle.mvs_model.specs.declared.outcome.Outcome.TheVariants.{Clean, SomeAbend, ScriptFault}

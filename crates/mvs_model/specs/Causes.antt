@@ -14,7 +14,7 @@ use Rattle.mvs_model.specs.Place.{PlaceValue, place_at}
 use Rattle.mvs_model.specs.Want.{WantValue, want_of, fixed_want, side_of}
 use Rattle.mvs_model.specs.Storage.{NoPlace}
 use Rattle.mvs_model.specs.Gifts.{GiftsValue}
-use Rattle.mvs_model.specs.Owners.{Owners, is_active, keeper, subpool_meant, has_subtask, gives_shared}
+use Rattle.mvs_model.specs.Owners.{Owners, is_active, effective_task, subpool_meant, has_subtask, gives_shared}
 use Rattle.mvs_model.specs.Pools.{Pool, part_want, IsFreeCell}
 use Rattle.mvs_model.specs.State.{State, holder}
 use Rattle.mvs_model.specs.Changes.{GrantTo, ShortOf, HeldPlain, Disjoint}
@@ -148,7 +148,7 @@ places_causes st t number ps =
 abbrev pub build_causes : State → Name → Name → ℕ → WantValue → List Cause
 build_causes st t name number want =
     InvalidNumber when is_invalid number
-    ∷ pool_causes st.pools name (ShortOf st (keeper st.owners t number) number want)
+    ∷ pool_causes st.pools name (ShortOf st (effective_task st.owners t number) number want)
 
 -- A cell of a pool that is there: where none is free, a conditional request is refused, and another one for want of a further part.
 -- (Assembler Services Reference, CPOOL)
@@ -168,11 +168,11 @@ free_causes c (Some pool) = NoTakenCell when not (set.contains pool.taken c) ∷
 abbrev pub causes_of : State → Name → Request → List Cause
 causes_of st t (Obtain form number ask) =
     InvalidNumber when is_invalid number
-    ∷ Shortage whenever ShortOf st (keeper st.owners t number) number (want_of ask (side_for st t form ask.loc))
+    ∷ Shortage whenever ShortOf st (effective_task st.owners t number) number (want_of ask (side_for st t form ask.loc))
     ∷ []
 causes_of st t (ObtainList form number lengths start) =
     InvalidNumber when is_invalid number
-    ∷ (λ k. Member (k + 1)) may ShortAfter st (keeper st.owners t number) number (map (λ n. fixed_want n start Below) lengths)
+    ∷ (λ k. Member (k + 1)) may ShortAfter st (effective_task st.owners t number) number (map (λ n. fixed_want n start Below) lengths)
     ∷ []
 causes_of st t (Release form number p) = places_causes st t number (p ∷ [])
 causes_of st t (ReleaseList form number ps) = places_causes st t number ps

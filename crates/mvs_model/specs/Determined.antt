@@ -15,7 +15,7 @@ use Rattle.mvs_model.specs.declared.request.Reply.TheVariants.{Rc4, Obtained, Li
 use Rattle.mvs_model.specs.Place.{PlaceValue}
 use Rattle.mvs_model.specs.Want.{AskValue, WantValue, want_of, fixed_want}
 use Rattle.mvs_model.specs.Changes.{GrantTo, ShortOf}
-use Rattle.mvs_model.specs.Owners.{keeper}
+use Rattle.mvs_model.specs.Owners.{effective_task}
 use Rattle.mvs_model.specs.Pools.{Pool}
 use Rattle.mvs_model.specs.State.{State}
 use Rattle.mvs_model.specs.Start.{start}
@@ -142,8 +142,8 @@ ListStops old t number (want ∷ wants) (a ∷ hints) =
 -- list can be granted at these addresses.
 pub record TakingObeys : Type 0 where
   pub area : (old : State) (t : Name) (form : Form) (number : ℕ) (ask : AskValue) (a : ℕ) (p : PlaceValue) (new : State)
-      → FollowsHint old (keeper old.owners t number) number (want_of ask (side_for old t form ask.loc)) a p → Obeys (a ∷ []) old t (request.Obtain form number ask) (Obtained p) new
+      → FollowsHint old (effective_task old.owners t number) number (want_of ask (side_for old t form ask.loc)) a p → Obeys (a ∷ []) old t (request.Obtain form number ask) (Obtained p) new
   pub areas : (old : State) (t : Name) (form : Form) (number : ℕ) (lengths : List ℕ) (start : ℕ) (hints : List ℕ) (ps : List PlaceValue) (new : State)
-      → ListFollowsHints old (keeper old.owners t number) number (map (λ n. fixed_want n start Below) lengths) hints ps new → Obeys hints old t (request.ObtainList form number lengths start) (Listed ps) new
+      → ListFollowsHints old (effective_task old.owners t number) number (map (λ n. fixed_want n start Below) lengths) hints ps new → Obeys hints old t (request.ObtainList form number lengths start) (Listed ps) new
   pub stops : (old : State) (t : Name) (form : Form) (number : ℕ) (lengths : List ℕ) (start : ℕ) (hints : List ℕ) (reply : Reply) (new : State)
-      → list_all (λ n. nat_le 1 n) lengths ≡ true → ListStops old (keeper old.owners t number) number (map (λ n. fixed_want n start Below) lengths) hints → Obeys hints old t (request.ObtainList form number lengths start) reply new
+      → list_all (λ n. nat_le 1 n) lengths ≡ true → ListStops old (effective_task old.owners t number) number (map (λ n. fixed_want n start Below) lengths) hints → Obeys hints old t (request.ObtainList form number lengths start) reply new

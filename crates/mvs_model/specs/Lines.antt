@@ -6,8 +6,8 @@ use Rattle.mvs_model.specs.declared.line.Line.{Line}
 use Rattle.mvs_model.specs.declared.line.Line.TheVariants as line
 use Rattle.mvs_model.specs.declared.line.Statement.{Statement}
 use Rattle.mvs_model.specs.declared.line.Statement.TheVariants as says
-use Rattle.mvs_model.specs.declared.line.Written.{Written}
-use Rattle.mvs_model.specs.declared.line.Written.TheVariants as written
+use Rattle.mvs_model.specs.declared.line.SourceRequest.{SourceRequest}
+use Rattle.mvs_model.specs.declared.line.SourceRequest.TheVariants as written
 use Rattle.mvs_model.specs.declared.line.Fault.{Fault}
 use Rattle.mvs_model.specs.declared.want.Residence.{Residence}
 use Rattle.mvs_model.specs.Want.{IsAsk}
@@ -33,7 +33,7 @@ abbrev pub card_of : Name → ℕ → ℕ → ℕ → Residence → CardValue
 card_of t below above fill residence = record { name = t; below = below; above = above; fill = fill; residence = residence }
 
 -- The operands of a statement are in their ranges.
-abbrev pub IsWritten : Written → Type 0
+abbrev pub IsWritten : SourceRequest → Type 0
 IsWritten (written.Obtain form number ask variable area) = IsAsk ask
 IsWritten (written.Build pool number size primary secondary loc) = (4 ≤ size) × (1 ≤ primary) × (1 ≤ secondary)
 IsWritten (written.Attach name gifts residence) = IsGifts gifts

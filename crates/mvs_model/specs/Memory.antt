@@ -4,7 +4,7 @@ use Rattle.mvs_model.specs.declared.name.Name.{Name}
 use Rattle.mvs_model.specs.declared.line.Line.{Line}
 use Rattle.mvs_model.specs.declared.line.Line.TheVariants as line
 use Rattle.mvs_model.specs.declared.line.Statement.TheVariants as says
-use Rattle.mvs_model.specs.declared.line.Written.{Written}
+use Rattle.mvs_model.specs.declared.line.SourceRequest.{SourceRequest}
 use Rattle.mvs_model.specs.declared.request.Request.{Request}
 use Rattle.mvs_model.specs.declared.request.Reply.{Reply}
 use Rattle.mvs_model.specs.State.{State}
@@ -19,7 +19,7 @@ use Rattle.mvs_model.specs.Walk.{Stop, Walks, is_first, ending}
 use Rattle.mvs_model.specs.Runs.{machine}
 
 -- The request may be granted so that a name is set.
-pub record SetsName (job : JobValue) (t : Name) (a : Written) : Type 0 where
+pub record SetsName (job : JobValue) (t : Name) (a : SourceRequest) : Type 0 where
   pub request : Request
   pub reply : Reply
   pub new : State

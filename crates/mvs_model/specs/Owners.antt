@@ -99,12 +99,12 @@ abbrev pub job_step_task : Owners → Option Name
 job_step_task o = find (λ t. has (λ task. not (is_some task.mother)) (get o.tasks t)) (keys o.tasks)
 
 -- whose subpool a task means by a number: the job step task's for 131 and 132, and else its own. (this project's choice)
-abbrev pub keeper : Owners → Name → ℕ → Name
-keeper o t number = if is_step_number number then unwrap_or (job_step_task o) t else t
+abbrev pub effective_task : Owners → Name → ℕ → Name
+effective_task o t number = if is_step_number number then unwrap_or (job_step_task o) t else t
 
 -- the subpool that a task means by a number, where it is there
 abbrev pub subpool_meant : Owners → Name → ℕ → Option ℕ
-subpool_meant o t number = entry o (keeper o t number) number
+subpool_meant o t number = entry o (effective_task o t number) number
 
 -- Nobody owns the subpool, and each lower one has an owner. (that the least is taken is this project's choice)
 pub record IsSpare (o : Owners) (s : ℕ) : Type 0 where

@@ -16,7 +16,7 @@ use Rattle.mvs_model.specs.declared.line.Location.{Location}
 use Rattle.mvs_model.specs.declared.line.Location.TheVariants.{Absolute, Named}
 use Rattle.mvs_model.specs.declared.line.Statement.{Statement}
 use Rattle.mvs_model.specs.declared.line.Statement.TheVariants as says
-use Rattle.mvs_model.specs.declared.line.Written.TheVariants as written
+use Rattle.mvs_model.specs.declared.line.SourceRequest.TheVariants as written
 use Rattle.mvs_model.specs.Name.{padded}
 use Rattle.mvs_model.specs.Want.{AskValue}
 use Rattle.mvs_model.specs.Gifts.{GiftsValue}

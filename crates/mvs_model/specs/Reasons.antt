@@ -23,7 +23,7 @@ use Rattle.mvs_model.specs.Storage.{Regions, Covers, Places}
 use Rattle.mvs_model.specs.Finite.{count_below}
 use Rattle.mvs_model.specs.FreeRuns.{free_runs}
 use Rattle.mvs_model.specs.Reports.{page_subpool}
-use Rattle.mvs_model.specs.Owners.{Owners, entry, owns, IsMother, keeper, subpool_meant, SubpoolOf}
+use Rattle.mvs_model.specs.Owners.{Owners, entry, owns, IsMother, effective_task, subpool_meant, SubpoolOf}
 use Rattle.mvs_model.specs.Pools.{Pool, in_parts, part_want, IsCell, IsFreeCell}
 use Rattle.mvs_model.specs.State.{State, holder, plain, granted}
 use Rattle.mvs_model.specs.Changes.{HeldPlain, Misses, Granted, ShortOf}
@@ -149,7 +149,7 @@ RoomUnder st t number want room = (s : ℕ) × SubpoolOf st.owners t number s ×
 
 -- the room for an area
 abbrev pub AreaRoom : State → Name → Request → FreeSpace → Type 0
-AreaRoom st t (Obtain form number ask) room = RoomUnder st (keeper st.owners t number) number (want_of ask (side_for st t form ask.loc)) room
+AreaRoom st t (Obtain form number ask) room = RoomUnder st (effective_task st.owners t number) number (want_of ask (side_for st t form ask.loc)) room
 AreaRoom st t _ room = ⊥
 
 -- There is no place for something that is wanted under a number, and this is what it lacks.
@@ -159,7 +159,7 @@ Lacks t number short st want = ShortOf st t number want × (short.bytes ≡ want
 -- After grants for the members of a list before the one of this number, from 1 on, that one has no place, and lacks this.
 abbrev pub MemberLacks : State → Name → Request → ℕ → Shortfall → Type 0
 MemberLacks st t (ObtainList form number lengths start) k short =
-    (j : ℕ) × (k ≡ j + 1) × AfterGrants (Lacks (keeper st.owners t number) number short) st (keeper st.owners t number) number (map (λ n. fixed_want n start Below) lengths) j
+    (j : ℕ) × (k ≡ j + 1) × AfterGrants (Lacks (effective_task st.owners t number) number short) st (effective_task st.owners t number) number (map (λ n. fixed_want n start Below) lengths) j
 MemberLacks st t _ k short = ⊥
 
 -- the room for a further part of a pool, which has so many cells of so many bytes
@@ -170,7 +170,7 @@ FurtherRoom st (Some pool) cells size room = (cells ≡ pool.secondary) × (size
 -- the room for a part of a pool, the first one or a further one
 abbrev pub PartRoom : State → Name → Request → ℕ → ℕ → FreeSpace → Type 0
 PartRoom st t (Build name number size primary secondary loc) cells bytes room =
-    (cells ≡ primary) × (bytes ≡ size) × RoomUnder st (keeper st.owners t number) number (part_want size primary (side_of loc (residence_of st.owners t))) room
+    (cells ≡ primary) × (bytes ≡ size) × RoomUnder st (effective_task st.owners t number) number (part_want size primary (side_of loc (residence_of st.owners t))) room
 PartRoom st t (Get name conditional) cells bytes room = FurtherRoom st (get st.pools name) cells bytes room
 PartRoom st t _ cells bytes room = ⊥
 
@@ -234,7 +234,7 @@ About st t request (Shortage room) = AreaRoom st t request room
 About st t request (NoMember k short) = MemberLacks st t request k short
 About st t request (NoPart cells size room) = PartRoom st t request cells size room
 About st t request (OffDoubleword a) = IsFirstOff (released request) a
-About st t request (NoSubpool task) = task ≡ keeper st.owners t (number_of request)
+About st t request (NoSubpool task) = task ≡ effective_task st.owners t (number_of request)
 About st t request (NotHeld a holder) =
     (d : ℕ) × (a ≡ 8 * d) × FirstUnheld st (subpool_meant st.owners t (number_of request)) (map whole (released request)) d × Holds st d holder
 About st t request (Overlap one other a) = (d : ℕ) × (a ≡ 8 * d) × IsOverlap (map whole (released request)) one other d

@@ -2,8 +2,8 @@
 use Rattle.std.specs.Prelude.{ℕ, zero, suc, ◌+◌, Bool, true, false, List, [], ◌∷◌, Option, Some, None}
 use Rattle.std.specs.Option.{unwrap_or}
 use Rattle.std.specs.FinMap.{get}
-use Rattle.mvs_model.specs.declared.line.Written.{Written}
-use Rattle.mvs_model.specs.declared.line.Written.TheVariants as written
+use Rattle.mvs_model.specs.declared.line.SourceRequest.{SourceRequest}
+use Rattle.mvs_model.specs.declared.line.SourceRequest.TheVariants as written
 use Rattle.mvs_model.specs.declared.request.Request.{Request}
 use Rattle.mvs_model.specs.declared.request.Request.TheVariants as request
 use Rattle.mvs_model.specs.declared.request.Reply.{Reply}
@@ -18,7 +18,7 @@ is_abend (reply.Abended code fallen) = true
 is_abend _ = false
 
 -- for a grant: a variable request also has its length
-abbrev pub grant_answer : Written → PlaceValue → Answer
+abbrev pub grant_answer : SourceRequest → PlaceValue → Answer
 grant_answer (written.Obtain form number ask true area) p = Granted p.len
 grant_answer _ p = Rc0
 
@@ -33,7 +33,7 @@ done_answer st (request.Show a n) = Data (bytes_at st a n)
 done_answer st _ = Done
 
 -- The answer for the reply to a request, as written and with its names looked up.
-abbrev pub answer_of : State → Written → Request → Reply → Answer
+abbrev pub answer_of : State → SourceRequest → Request → Reply → Answer
 answer_of st a r reply.NotRun = NotRun
 answer_of st a r reply.Rc0 = Rc0
 answer_of st a r reply.Rc4 = Rc4

@@ -6,8 +6,8 @@ use Rattle.std.specs.FinMap.{FinMap, get, insert}
 use Rattle.mvs_model.specs.declared.name.Name.{Name}
 use Rattle.mvs_model.specs.declared.line.Location.{Location}
 use Rattle.mvs_model.specs.declared.line.Location.TheVariants.{Absolute, Named}
-use Rattle.mvs_model.specs.declared.line.Written.{Written}
-use Rattle.mvs_model.specs.declared.line.Written.TheVariants as written
+use Rattle.mvs_model.specs.declared.line.SourceRequest.{SourceRequest}
+use Rattle.mvs_model.specs.declared.line.SourceRequest.TheVariants as written
 use Rattle.mvs_model.specs.declared.request.Request.{Request}
 use Rattle.mvs_model.specs.declared.request.Request.TheVariants as request
 use Rattle.mvs_model.specs.declared.request.Reply.{Reply}
@@ -28,7 +28,7 @@ places_of names (location ∷ locations) (n ∷ lengths) =
     option_and_then (λ a. option_map (λ ps. place_at a n ∷ ps) (places_of names locations lengths)) (address_of names location)
 
 -- the request that is asked for, where each name that it looks up is set
-abbrev pub resolved : FinMap name_cmp PlaceValue → Written → Option Request
+abbrev pub resolved : FinMap name_cmp PlaceValue → SourceRequest → Option Request
 resolved names (written.Obtain form number ask variable area) = Some (request.Obtain form number ask)
 resolved names (written.ObtainList form number lengths start areas) = Some (request.ObtainList form number lengths start)
 resolved names (written.Release form number location n) = option_map (λ a. request.Release form number (place_at a n)) (address_of names location)
@@ -52,7 +52,7 @@ name_in (Absolute a) = []
 name_in (Named name n) = name ∷ []
 
 -- the names that a request looks up, from the left
-abbrev pub looked_up : Written → List Name
+abbrev pub looked_up : SourceRequest → List Name
 looked_up (written.Release form number location n) = name_in location
 looked_up (written.ReleaseArea form number area) = area ∷ []
 looked_up (written.ReleaseList form number locations lengths) = flat_map name_in locations
@@ -67,7 +67,7 @@ abbrev pub first_unset : FinMap name_cmp PlaceValue → List Name → Option Nam
 first_unset names looked = find (λ name. not (is_some (get names name))) looked
 
 -- the names that a request sets
-abbrev pub names_set : Written → List Name
+abbrev pub names_set : SourceRequest → List Name
 names_set (written.Obtain form number ask variable area) = area ∷ []
 names_set (written.ObtainList form number lengths start areas) = areas
 names_set (written.Get pool conditional cell) = cell ∷ []

@@ -6,7 +6,7 @@ use Rattle.std.specs.FinMap.{get}
 use Rattle.mvs_model.specs.declared.name.Name.{Name}
 use Rattle.mvs_model.specs.declared.line.Statement.{Statement}
 use Rattle.mvs_model.specs.declared.line.Statement.TheVariants as says
-use Rattle.mvs_model.specs.declared.line.Written.{Written}
+use Rattle.mvs_model.specs.declared.line.SourceRequest.{SourceRequest}
 use Rattle.mvs_model.specs.declared.outcome.Outcome.{Outcome}
 use Rattle.mvs_model.specs.declared.request.Request.{Request}
 use Rattle.mvs_model.specs.declared.request.Reply.{Reply}
@@ -27,7 +27,7 @@ abbrev pub Condition : Type 1
 Condition = State → Name → Request → Reply → State → Type 0
 
 -- The request is made, by a step that meets the condition. Its reply is the answer, and a grant sets its names.
-pub record Makes (P : Condition) (old : JobValue) (t : Name) (a : Written) (r : Request) (answer : Answer) (new : JobValue) : Type 0 where
+pub record Makes (P : Condition) (old : JobValue) (t : Name) (a : SourceRequest) (r : Request) (answer : Answer) (new : JobValue) : Type 0 where
   pub reply : Reply
   pub step : Step old.state t r reply new.state
   pub meets : P old.state t r reply new.state
@@ -41,7 +41,7 @@ abbrev pub OnlyAnswers : JobValue → Answer → Answer → JobValue → Type 0
 OnlyAnswers old told answer new = (answer ≡ told) × (new ≡ old)
 
 -- What a request may be answered: a name in it is not set, or it is made.
-abbrev pub Asks : Condition → JobValue → Name → Written → Option Request → Answer → JobValue → Type 0
+abbrev pub Asks : Condition → JobValue → Name → SourceRequest → Option Request → Answer → JobValue → Type 0
 Asks P old t a None answer new = OnlyAnswers old NoName answer new
 Asks P old t a (Some r) answer new = Makes P old t a r answer new
 

@@ -10,7 +10,7 @@ use Rattle.mvs_model.specs.declared.request.Reply.TheVariants.{Rc0, Obtained, Li
 use Rattle.mvs_model.specs.declared.refusal.Refusal.{Refusal}
 use Rattle.mvs_model.specs.Place.{PlaceValue, place_at}
 use Rattle.mvs_model.specs.Want.{want_of, fixed_want, side_of}
-use Rattle.mvs_model.specs.Owners.{keeper, subpool_meant}
+use Rattle.mvs_model.specs.Owners.{effective_task, subpool_meant}
 use Rattle.mvs_model.specs.Pools.{Pool, IsFreeCell, part_want}
 use Rattle.mvs_model.specs.State.{State}
 use Rattle.mvs_model.specs.Changes.{GrantTo, ListGrant, Frees, End, GivesCell, DropsPool, Writes}
@@ -36,14 +36,14 @@ Deletes old name (Some pool) new = DropsPool old name pool new
 -- What a request that is not refused does, and what it is answered.
 abbrev pub Does : State → Name → Request → Reply → State → Type 0
 Does old t (Obtain form number ask) reply new =
-    (p : PlaceValue) × (reply ≡ Obtained p) × GrantTo old (keeper old.owners t number) number (want_of ask (side_for old t form ask.loc)) p new
+    (p : PlaceValue) × (reply ≡ Obtained p) × GrantTo old (effective_task old.owners t number) number (want_of ask (side_for old t form ask.loc)) p new
 Does old t (ObtainList form number lengths start) reply new =
-    (ps : List PlaceValue) × (reply ≡ Listed ps) × ListGrant old (keeper old.owners t number) number (map (λ n. fixed_want n start Below) lengths) ps new
+    (ps : List PlaceValue) × (reply ≡ Listed ps) × ListGrant old (effective_task old.owners t number) number (map (λ n. fixed_want n start Below) lengths) ps new
 Does old t (Release form number p) reply new = (reply ≡ Rc0) × Frees old (whole p ∷ []) new
 Does old t (ReleaseList form number ps) reply new = (reply ≡ Rc0) × Frees old (map whole ps) new
 Does old t (ReleaseWhole form number) reply new = (reply ≡ Rc0) × EmptiesEntry old (subpool_meant old.owners t number) new
 Does old t (Build name number size primary secondary loc) reply new =
-    (reply ≡ Rc0) × Builds old (keeper old.owners t number) name number (record { cell_size = size; primary = primary; secondary = secondary; side = side_of loc (residence_of old.owners t) }) new
+    (reply ≡ Rc0) × Builds old (effective_task old.owners t number) name number (record { cell_size = size; primary = primary; secondary = secondary; side = side_of loc (residence_of old.owners t) }) new
 Does old t (Get name conditional) reply new = TakesSome old name (get old.pools name) reply new
 Does old t (Free name c) reply new = (reply ≡ Rc0) × GivesBack old name c (get old.pools name) new
 Does old t (Delete name) reply new = (reply ≡ Rc0) × Deletes old name (get old.pools name) new
@@ -76,5 +76,5 @@ Tries reply_of old t request result new = MatchResult result
 -- An attempt of CPOOL BUILD, by its plan.
 abbrev pub TriesPlan : State → Name → Name → ℕ → Plan → Result (Unit {0}) Refusal → State → Type 0
 TriesPlan old t name number plan result new = MatchResult result
-    (λ _. Passed (build_causes old t name number (part_want plan.cell_size plan.primary plan.side)) × Builds old (keeper old.owners t number) name number plan new)
+    (λ _. Passed (build_causes old t name number (part_want plan.cell_size plan.primary plan.side)) × Builds old (effective_task old.owners t number) name number plan new)
     (λ refusal. Refused (build_causes old t name number (part_want plan.cell_size plan.primary plan.side)) refusal × (new ≡ old))

@@ -28,7 +28,7 @@ pub type Locations = ShortList<Location, 1, MOST_ITEMS>;
 
 /// A request as written, with the names that it looks up and sets.
 #[derive(Drop)]
-pub enum Written {
+pub enum SourceRequest {
     Obtain {
         form: Form,
         number: u8,
@@ -117,7 +117,7 @@ pub enum Statement {
         fill: u8,
         residence: Residence,
     },
-    Request(Written),
+    Request(SourceRequest),
     Where(Name),
     ReportSubpools,
     ReportMap,

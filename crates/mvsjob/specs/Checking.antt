@@ -1,10 +1,10 @@
 -- The effect of --check: what it writes, how the program ends, and which line to report.
 use Rattle.std.specs.Prelude.{◌≡◌, ◌==◌, ◌&&◌, ◌||◌, ℕ, nat_le, not, List, [], Option, Some, None, Result, Ok, Err, Bool, true, false, if◌then◌else◌}
 use Rattle.std.specs.Io.KnownBytes.{Appends}
-use Rattle.annotated.specs.declared.report.Counts.{Counts}
-use Rattle.annotated.specs.declared.report.ReportForm.{ReportForm}
-use Rattle.annotated.specs.ExpectedAnswers.{expected_of, statements}
-use Rattle.annotated.specs.Reports.{are_right, counts_of, report_of}
+use Rattle.expected_answers.specs.declared.report.Counts.{Counts}
+use Rattle.expected_answers.specs.declared.report.ReportForm.{ReportForm}
+use Rattle.expected_answers.specs.ExpectedAnswers.{expected_of, statements}
+use Rattle.expected_answers.specs.Reports.{are_right, counts_of, report_of}
 use Rattle.job_script.specs.Writing.{AppendsFront}
 use Rattle.mvs_model.specs.declared.outcome.Outcome.{Outcome}
 use Rattle.mvs_model.specs.declared.outcome.Outcome.TheVariants.{ScriptFault}

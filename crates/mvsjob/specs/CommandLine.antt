@@ -6,8 +6,8 @@ use Rattle.clap.specs.Walk.{Rule}
 use Rattle.clap.specs.declared.builder.action.ArgAction.TheVariants.{SetTrue}
 use Rattle.clap.specs.declared.builder.value_parser.ValueParser.{ValueParser}
 use Rattle.clap.specs.declared.builder.value_parser.ValueParser.TheVariants.{Names, NonEmptyString, Unsigned}
-use Rattle.annotated.specs.declared.report.Format.{Format}
-use Rattle.annotated.specs.declared.report.Format.TheVariants as form
+use Rattle.expected_answers.specs.declared.report.Format.{Format}
+use Rattle.expected_answers.specs.declared.report.Format.TheVariants as form
 use Rattle.mvsjob.specs.declared.options.Color.{Color}
 use Rattle.mvsjob.specs.declared.options.Recipe.{Recipe}
 use Rattle.random_script.specs.declared.Profile.{Profile}

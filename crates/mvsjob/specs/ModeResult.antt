@@ -1,7 +1,7 @@
 -- The effect of a mode on a script that was read whole: what it writes, how the program ends, and which line to report.
 use Rattle.std.specs.Prelude.{◌≡◌, ℕ, List, ◌∷◌, ◌++◌, ◌==◌, ◌&&◌, ◌||◌, nat_lt, not, position, Option, Some, None, Result, Ok, Err, Bool, true, false, codes}
 use Rattle.std.specs.Io.KnownBytes.{Appends}
-use Rattle.annotated.specs.Blank.{blank}
+use Rattle.expected_answers.specs.Blank.{blank}
 use Rattle.job_script.specs.Writing.{AppendsFront}
 use Rattle.judge.specs.declared.Finding.{Finding}
 use Rattle.judge.specs.declared.Finding.TheVariants as finding

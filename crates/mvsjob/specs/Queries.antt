@@ -4,8 +4,8 @@ use Rattle.std.specs.List.{flat_map}
 use Rattle.mvs_model.specs.declared.line.Line.{Line}
 use Rattle.mvs_model.specs.declared.line.Line.TheVariants as line
 use Rattle.mvs_model.specs.declared.line.Statement.TheVariants as has_value
-use Rattle.mvs_model.specs.declared.line.Written.{Written}
-use Rattle.mvs_model.specs.declared.line.Written.TheVariants as written
+use Rattle.mvs_model.specs.declared.line.SourceRequest.{SourceRequest}
+use Rattle.mvs_model.specs.declared.line.SourceRequest.TheVariants as written
 use Rattle.mvs_model.specs.declared.name.Name.{Name}
 use Rattle.mvs_model.specs.Name.{trimmed}
 use Rattle.mvs_model.specs.Reading.{line_meaning, is_blank_or_comment}
@@ -16,7 +16,7 @@ abbrev pub question : Name → Name → List ℕ
 question t name = trimmed t ++ codes " WHERE " ++ trimmed name ++ codes "\n"
 
 -- the questions after what a task requests: one for each name that it sets
-abbrev pub questions_after : Name → Written → List ℕ
+abbrev pub questions_after : Name → SourceRequest → List ℕ
 questions_after t (written.Obtain form number ask variable area) = question t area
 questions_after t (written.ObtainList form number lengths start areas) = flat_map (question t) areas
 questions_after t (written.Get pool conditional cell) = question t cell

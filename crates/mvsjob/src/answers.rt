@@ -12,7 +12,7 @@ use crate::front::front_of;
 use crate::options::Settings;
 use crate::queries::write_with_queries;
 use crate::served::{ModeResult, fault_of};
-use annotated::{Counts, report_answers, statement_at, statements, write_blank};
+use expected_answers::{Counts, report_answers, statement_at, statements, write_blank};
 use job_script::write_all;
 use mvs_job::{Printer, RunFault, Stop, run_lines};
 use mvs_model::outcome::Outcome;

@@ -4,7 +4,7 @@ use diagnosis::{Suggestion, edits_between};
 use job_script::read_line;
 use job_script::split_once::split_once;
 use mvs_job::Job;
-use mvs_model::line::{Line, Location, Statement, Written};
+use mvs_model::line::{Line, Location, SourceRequest, Statement};
 use mvs_model::name::Name;
 use std::alloc::{AllocError, Global};
 
@@ -13,7 +13,7 @@ const MOST_NEAR: usize = 64;
 
 /// What a line lacks: an active task, or a name that is set.
 #[derive(Clone, Copy)]
-pub enum Needed {
+pub enum NeededName {
     Task(Name),
     Name(Name),
 }
@@ -47,7 +47,7 @@ struct StepLines {
 fn begun(task: &Name, statement: &Statement) -> Option<Name> {
     match statement {
         Statement::Region { .. } => Some(*task),
-        Statement::Request(Written::Attach { name, .. }) => Some(*name),
+        Statement::Request(SourceRequest::Attach { name, .. }) => Some(*name),
         _ => None,
     }
 }
@@ -55,9 +55,9 @@ fn begun(task: &Name, statement: &Statement) -> Option<Name> {
 // Returns the names that a statement is to set.
 fn set_by(statement: &Statement) -> &[Name] {
     match statement {
-        Statement::Request(Written::Obtain { area, .. }) => std::slice::from_ref(area),
-        Statement::Request(Written::ObtainList { areas, .. }) => areas.as_slice(),
-        Statement::Request(Written::Get { cell, .. }) => std::slice::from_ref(cell),
+        Statement::Request(SourceRequest::Obtain { area, .. }) => std::slice::from_ref(area),
+        Statement::Request(SourceRequest::ObtainList { areas, .. }) => areas.as_slice(),
+        Statement::Request(SourceRequest::Get { cell, .. }) => std::slice::from_ref(cell),
         _ => &[],
     }
 }
@@ -115,18 +115,18 @@ impl Made {
     }
 }
 
-impl Needed {
+impl NeededName {
     fn name(&self) -> Name {
         match self {
-            Needed::Task(name) | Needed::Name(name) => *name,
+            NeededName::Task(name) | NeededName::Name(name) => *name,
         }
     }
 
     // Returns whether a job has such a name.
     fn is_there(&self, job: &Job, name: &Name) -> bool {
         match self {
-            Needed::Task(_) => job.step().is_active(name),
-            Needed::Name(_) => job.place_of(name).is_some(),
+            NeededName::Task(_) => job.step().is_active(name),
+            NeededName::Name(_) => job.place_of(name).is_some(),
         }
     }
 
@@ -208,11 +208,17 @@ impl Makers {
 
     /// Returns what may help a line that lacks a task or a name. Of the names that are near, the last 64 that its step makes are
     /// looked at; where memory is refused none is found.
-    pub fn clue(&self, alloc: Global, job: &Job, line_number: u32, lacked: Needed) -> Suggestion {
+    pub fn clue(
+        &self,
+        alloc: Global,
+        job: &Job,
+        line_number: u32,
+        lacked: NeededName,
+    ) -> Suggestion {
         let step = self.step_of(line_number);
         let made = match lacked {
-            Needed::Task(_) => &self.tasks,
-            Needed::Name(_) => &self.names,
+            NeededName::Task(_) => &self.tasks,
+            NeededName::Name(_) => &self.names,
         };
         let clue = made.clue(lacked.name(), line_number, step);
         if !matches!(clue, Suggestion::Nothing) {
@@ -252,13 +258,13 @@ pub fn unset(job: &Job, statement: &Statement) -> Option<Name> {
         };
     };
     match written {
-        Written::ReleaseArea { area, .. } => Some(*area),
-        Written::Release { location, .. }
-        | Written::Free { cell: location, .. }
-        | Written::Show { from: location, .. }
-        | Written::Put { to: location, .. } => unset_in(job, location),
-        Written::ReleaseList { locations, .. } => unset_among(job, locations.as_slice()),
-        Written::Move { to, from, .. } => unset_in(job, to).or(unset_in(job, from)),
+        SourceRequest::ReleaseArea { area, .. } => Some(*area),
+        SourceRequest::Release { location, .. }
+        | SourceRequest::Free { cell: location, .. }
+        | SourceRequest::Show { from: location, .. }
+        | SourceRequest::Put { to: location, .. } => unset_in(job, location),
+        SourceRequest::ReleaseList { locations, .. } => unset_among(job, locations.as_slice()),
+        SourceRequest::Move { to, from, .. } => unset_in(job, to).or(unset_in(job, from)),
         _ => None,
     }
 }

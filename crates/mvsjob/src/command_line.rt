@@ -10,9 +10,9 @@ ghost use Rattle.reference.specs.Texts.{names};
 
 use crate::exclusions::apart;
 use crate::options::{Color, Mode, Recipe, Settings};
-use annotated::{Format, ReportForm};
 use clap::builder::ValueParser;
 use clap::{Arg, ArgAction, ArgMatches, Command};
+use expected_answers::{Format, ReportForm};
 use mvs_model::want::Placement;
 use random_script::Profile;
 use std::alloc::{AllocError, Global};

@@ -1,6 +1,6 @@
 //! What the words of the command line ask for.
 
-use annotated::ReportForm;
+use expected_answers::ReportForm;
 use mvs_model::want::Placement;
 use random_script::Profile;
 

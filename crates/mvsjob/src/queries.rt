@@ -10,7 +10,7 @@ use crate::faulty::is_blank_or_comment;
 use job_script::split_once::split_once;
 use job_script::text::LineText;
 use job_script::{read_line, write_all};
-use mvs_model::line::{Line, Statement, Written};
+use mvs_model::line::{Line, SourceRequest, Statement};
 use mvs_model::name::Name;
 use mvs_model::watched::{Failed, Watched};
 use std::io::Write;
@@ -42,28 +42,28 @@ fn write_each<W: Write>(writer: &mut Watched<W>, task: &Name, names: &[Name]) ->
 fn write_after_request<W: Write>(
     writer: &mut Watched<W>,
     task: &Name,
-    written: &Written,
+    written: &SourceRequest,
 ) -> Result<(), Failed>
     ensures { Prints W.contents writer.old writer.new result
         (questions_after task.now written.now) }
 {
     match written {
-        Written::Obtain { area, .. } => write_question(writer, task, area),
-        Written::ObtainList { areas, .. } => write_each(writer, task, areas.as_slice()),
-        Written::Get { cell, .. } => write_question(writer, task, cell),
-        Written::Release { .. }
-        | Written::ReleaseArea { .. }
-        | Written::ReleaseList { .. }
-        | Written::ReleaseWhole { .. }
-        | Written::Build { .. }
-        | Written::Free { .. }
-        | Written::Delete { .. }
-        | Written::Attach { .. }
-        | Written::Return
-        | Written::Abend(_)
-        | Written::Show { .. }
-        | Written::Put { .. }
-        | Written::Move { .. } => Ok(()),
+        SourceRequest::Obtain { area, .. } => write_question(writer, task, area),
+        SourceRequest::ObtainList { areas, .. } => write_each(writer, task, areas.as_slice()),
+        SourceRequest::Get { cell, .. } => write_question(writer, task, cell),
+        SourceRequest::Release { .. }
+        | SourceRequest::ReleaseArea { .. }
+        | SourceRequest::ReleaseList { .. }
+        | SourceRequest::ReleaseWhole { .. }
+        | SourceRequest::Build { .. }
+        | SourceRequest::Free { .. }
+        | SourceRequest::Delete { .. }
+        | SourceRequest::Attach { .. }
+        | SourceRequest::Return
+        | SourceRequest::Abend(_)
+        | SourceRequest::Show { .. }
+        | SourceRequest::Put { .. }
+        | SourceRequest::Move { .. } => Ok(()),
     }
 }
 

@@ -2,7 +2,7 @@
 
 ghost use Rattle.std.specs.Prelude.{None};
 
-use crate::clues::{Makers, Needed, unset};
+use crate::clues::{Makers, NeededName, unset};
 use diagnosis::{NotServed, PlainName, Suggestion};
 use job_script::read_line;
 use mvs_job::{Job, SkipObserver, SkipReason, Walk};
@@ -36,7 +36,7 @@ impl<'a> Teller<'a> {
     }
 
     // Returns what may help a line.
-    fn clue(&self, job: &Job, line_number: u32, lacked: Needed) -> Suggestion {
+    fn clue(&self, job: &Job, line_number: u32, lacked: NeededName) -> Suggestion {
         match &self.makers {
             Some(makers) => makers.clue(self.rt.alloc(), job, line_number, lacked),
             None => Suggestion::Nothing,
@@ -60,13 +60,13 @@ impl<'a> Teller<'a> {
         };
         match why {
             SkipReason::NotRun => {
-                let lacked = Needed::Task(*task);
+                let lacked = NeededName::Task(*task);
                 let clue = self.clue(job, line_number, lacked);
                 Some(NotServed::without_task(line, *task, clue))
             }
             SkipReason::NoName => {
                 let name = unset(job, statement)?;
-                let lacked = Needed::Name(name);
+                let lacked = NeededName::Name(name);
                 let clue = self.clue(job, line_number, lacked);
                 Some(NotServed::without_name(line, name, clue))
             }

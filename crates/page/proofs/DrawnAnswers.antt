@@ -8,14 +8,14 @@ use Rattle.mvs_model.proofs.StepCases.{step_cases}
 use Rattle.mvs_model.specs.declared.code.Code.{Code}
 use Rattle.mvs_model.specs.declared.code.Code.TheVariants.{User}
 use Rattle.mvs_model.specs.declared.code.Form.{Form}
-use Rattle.mvs_model.specs.declared.line.Written.{Written}
+use Rattle.mvs_model.specs.declared.line.SourceRequest.{SourceRequest}
 use Rattle.mvs_model.specs.declared.name.Name.{Name}
 use Rattle.mvs_model.specs.declared.request.Reply.{Reply}
 use Rattle.mvs_model.specs.declared.request.Request.{Request}
 use Rattle.mvs_model.specs.declared.want.Residence.{Residence}
 use Rattle.mvs_model.specs.declared.want.Side.TheVariants.{Below}
 use Rattle.mvs_model.specs.declared.request.Reply.TheVariants.{Attached, Ended, Listed, Obtained, Rc0, Rc4}
-use Rattle.mvs_model.specs.declared.line.Written.TheVariants as written
+use Rattle.mvs_model.specs.declared.line.SourceRequest.TheVariants as written
 use Rattle.mvs_model.specs.declared.request.Request.TheVariants as request
 use Rattle.mvs_model.specs.Answers.{Answer}
 use Rattle.mvs_model.specs.Changes.{End, Frees, GrantTo, ListGrant}
@@ -24,7 +24,7 @@ use Rattle.mvs_model.specs.Finite.{has}
 use Rattle.mvs_model.specs.Gifts.{GiftsValue}
 use Rattle.mvs_model.specs.Job.{JobValue}
 use Rattle.mvs_model.specs.Name.{name_cmp, same_name}
-use Rattle.mvs_model.specs.Owners.{Descends, Owners, entry, further, has_subtask, is_active, keeper, subpool_meant, subtask}
+use Rattle.mvs_model.specs.Owners.{Descends, Owners, entry, further, has_subtask, is_active, effective_task, subpool_meant, subtask}
 use Rattle.mvs_model.proofs.ByCase.{attach_refusal}
 use Rattle.mvs_model.specs.Place.{PlaceValue}
 use Rattle.mvs_model.specs.Reading.{is_twice}
@@ -85,10 +85,10 @@ alone st new t e none x = false_from_ne_true (list_any (same_name x) e.fallen) (
 
 module _ (old new : JobValue) (t : Name) (said : Answer) (p : Picture) (shows : ShowsBy (Means old.state.owners) p old) where
   -- the picture behind a request that is answered so shows the step
-  abbrev pub Shown : Written → Answer → Type 0
+  abbrev pub Shown : SourceRequest → Answer → Type 0
   Shown a x = ShowsBy (Means new.state.owners) (replayed_all p (answer_changes t a x new)) new
 
-  module _ (a : Written) (r : Request) (m : Makes Any old t a r said new) where
+  module _ (a : SourceRequest) (r : Request) (m : Makes Any old t a r said new) where
     pub names_same : places_in m.reply ≡ [] → new.names ≡ old.names
     names_same e = m.names ∙ ap (all_set old.names (names_set a)) e ∙ set_none old.names (names_set a)
 
@@ -113,7 +113,7 @@ module _ (old new : JobValue) (t : Name) (said : Answer) (p : Picture) (shows : 
 
   module _ (active : is_active old.state.owners t ≡ true) (before : IsKept old.state) (behind : IsKept new.state) where
     -- the label of the subpool that a task means by a number
-    pub label_told : (number s : ℕ) → new.state.owners.tasks ≡ old.state.owners.tasks → is_invalid number ≡ false → entry new.state.owners (keeper old.state.owners t number) number ≡ Some s
+    pub label_told : (number s : ℕ) → new.state.owners.tasks ≡ old.state.owners.tasks → is_invalid number ≡ false → entry new.state.owners (effective_task old.state.owners t number) number ≡ Some s
         → (l : Label) × (resolved_owner new.state.owners t number ≡ Some (l.number, l.owner)) × Means new.state.owners l s
     label_told number s tasks valid is =
         let l = meant new.state.owners t number s behind.well.owners.owned behind.numbered (ap (λ m. contains_key m t) tasks ∙ active) (not-false (is_subpool_number number) valid) ((λ i. entry new.state.owners (keeper_same old.state.owners new.state.owners t number tasks i) number) ∙ is) in
@@ -121,16 +121,16 @@ module _ (old new : JobValue) (t : Name) (said : Answer) (p : Picture) (shows : 
 
     -- one area
     module _ (form : Form) (number : ℕ) (ask : AskValue) (variable : Bool) (area : Name) (m : Makes Any old t (written.Obtain form number ask variable area) (request.Obtain form number ask) said new) where
-      abbrev obtain : Written
+      abbrev obtain : SourceRequest
       obtain = written.Obtain form number ask variable area
 
       told_as : (v : Bool) (q : PlaceValue) → answer_changes t obtain (grant_answer (written.Obtain form number ask v area) q) new ≡ listed (area_change new t number area)
       told_as true q = refl
       told_as false q = refl
 
-      granted : is_invalid number ≡ false → (q : PlaceValue) → m.reply ≡ Obtained q → GrantTo old.state (keeper old.state.owners t number) number (want_of ask (side_for old.state t form ask.loc)) q new.state → Shown obtain said
+      granted : is_invalid number ≡ false → (q : PlaceValue) → m.reply ≡ Obtained q → GrantTo old.state (effective_task old.state.owners t number) number (want_of ask (side_for old.state t form ask.loc)) q new.state → Shown obtain said
       granted valid q is g =
-          let k = keeper old.state.owners t number in
+          let k = effective_task old.state.owners t number in
           let names : new.names ≡ all_set old.names (area ∷ []) (q ∷ []) = m.names ∙ ap (λ x. all_set old.names (area ∷ []) (places_in x)) is in
           let l = label_told number g.subpool (enters_tasks old.state.owners k number g.subpool new.state.owners g.owners) valid (entered old.state.owners k number g.subpool new.state.owners g.is_subpool g.owners) in
           let place : get new.names area ≡ Some q = ap (λ f. get f area) names ∙ set_here old.names area q in
@@ -147,7 +147,7 @@ module _ (old new : JobValue) (t : Name) (said : Answer) (p : Picture) (shows : 
     -- a list
     module _ (form : Form) (number : ℕ) (lengths : List ℕ) (start : ℕ) (areas : List Name) (m : Makes Any old t (written.ObtainList form number lengths start areas) (request.ObtainList form number lengths start) said new)
         (size : length areas ≡ length lengths) (once : is_twice same_name areas ≡ false) where
-      abbrev list : Written
+      abbrev list : SourceRequest
       list = written.ObtainList form number lengths start areas
 
       abbrev asked : Request
@@ -163,7 +163,7 @@ module _ (old new : JobValue) (t : Name) (said : Answer) (p : Picture) (shows : 
       places t (n ∷ ns) [] st last h = absurd h
       places t (n ∷ ns) (q ∷ ps) st last h = ap suc (places t ns ps h.0 last h.2)
 
-      areas_granted : is_invalid number ≡ false → (ns : List ℕ) (ps : List PlaceValue) → length areas ≡ length ps → new.names ≡ all_set old.names areas ps → ListGrant old.state (keeper old.state.owners t number) number (map want ns) ps new.state
+      areas_granted : is_invalid number ≡ false → (ns : List ℕ) (ps : List PlaceValue) → length areas ≡ length ps → new.names ≡ all_set old.names areas ps → ListGrant old.state (effective_task old.state.owners t number) number (map want ns) ps new.state
           → ShowsBy (Means new.state.owners) (replayed_all p (area_changes new t number areas)) new
       areas_granted valid [] [] same names h = none areas same names where
         none : (xs : List Name) → length xs ≡ 0 → new.names ≡ all_set old.names xs [] → ShowsBy (Means new.state.owners) (replayed_all p (area_changes new t number xs)) new
@@ -172,7 +172,7 @@ module _ (old new : JobValue) (t : Name) (said : Answer) (p : Picture) (shows : 
       areas_granted valid [] (q ∷ ps) same names h = absurd h
       areas_granted valid (n ∷ ns) [] same names h = absurd h
       areas_granted valid (n ∷ ns) (q ∷ ps) same names h =
-          let k = keeper old.state.owners t number in
+          let k = effective_task old.state.owners t number in
           let g = h.1 in
           let here = entered old.state.owners k number g.subpool h.0.owners g.is_subpool g.owners in
           let owners : new.state.owners ≡ h.0.owners = owners_same k number g.subpool (map want ns) ps h.0 new.state here h.2 in
@@ -180,9 +180,9 @@ module _ (old new : JobValue) (t : Name) (said : Answer) (p : Picture) (shows : 
           let l = label_told number g.subpool (ap (λ o. o.tasks) owners ∙ enters_tasks old.state.owners k number g.subpool h.0.owners g.owners) valid now in
           areas_shown new k t number g.subpool l.0 behind.numbered l.2 now l.1 (want n ∷ map want ns) (q ∷ ps) areas old p h same once names shows
 
-      granted_list : is_invalid number ≡ false → (ps : List PlaceValue) → m.reply ≡ Listed ps → ListGrant old.state (keeper old.state.owners t number) number (map want lengths) ps new.state → Shown list said
+      granted_list : is_invalid number ≡ false → (ps : List PlaceValue) → m.reply ≡ Listed ps → ListGrant old.state (effective_task old.state.owners t number) number (map want lengths) ps new.state → Shown list said
       granted_list valid ps is g =
-          let same : length areas ≡ length ps = size ∙ sym (places (keeper old.state.owners t number) lengths ps old.state new.state g) in
+          let same : length areas ≡ length ps = size ∙ sym (places (effective_task old.state.owners t number) lengths ps old.state new.state g) in
           done_shown list asked m (Listed ps) (area_changes new t number areas) is refl (areas_granted valid lengths ps same (m.names ∙ ap (λ x. all_set old.names areas (places_in x)) is) g)
 
       pub obtain_list_shown : Shown list said
@@ -194,7 +194,7 @@ module _ (old new : JobValue) (t : Name) (said : Answer) (p : Picture) (shows : 
           ]))
 
     -- places that are released
-    module _ (a : Written) (r : Request) (m : Makes Any old t a r said new) (form : Form) (number : ℕ) (ps : List PlaceValue) (told : new.names ≡ old.names → answer_changes t a (answer_of old.state a r Rc0) new ≡ free_changes ps) where
+    module _ (a : SourceRequest) (r : Request) (m : Makes Any old t a r said new) (form : Form) (number : ℕ) (ps : List PlaceValue) (told : new.names ≡ old.names → answer_changes t a (answer_of old.state a r Rc0) new ≡ free_changes ps) where
       freed : (o : Option ℕ) → MayRelease old.state o (map whole ps) × (m.reply ≡ Rc0) × Frees old.state (map whole ps) new.state → list_all on_doubleword ps ≡ true → Shown a said
       freed o h whole =
           let names = names_same a r m (ap places_in h.1) in
@@ -210,7 +210,7 @@ module _ (old new : JobValue) (t : Name) (said : Answer) (p : Picture) (shows : 
 
     -- a whole subpool
     module _ (form : Form) (number : ℕ) (m : Makes Any old t (written.ReleaseWhole form number) (request.ReleaseWhole form number) said new) where
-      abbrev all : Written
+      abbrev all : SourceRequest
       all = written.ReleaseWhole form number
 
       abbrev all_asked : Request
@@ -221,7 +221,7 @@ module _ (old new : JobValue) (t : Name) (said : Answer) (p : Picture) (shows : 
           let label : resolved_owner new.state.owners t number ≡ None = ap (λ st. resolved_owner st.owners t number) h ∙ ap (λ v. cond (is_subpool_number number && is_active old.state.owners t) (label_of old.state.owners v) None) none ∙ either_none (is_subpool_number number && is_active old.state.owners t) (label_of old.state.owners None) refl in
           done_shown all all_asked m Rc0 [] is (ap (λ v. listed (option_map (λ l. change.Empty l.0 l.1) v)) label) (same_shown old new p h (names_same all all_asked m (ap places_in is)) shows)
       emptied valid (Some s) some is h =
-          let l = label_told number s (ap (λ o. o.tasks) h.owners) valid (ap (λ o. entry o (keeper old.state.owners t number) number) h.owners ∙ some) in
+          let l = label_told number s (ap (λ o. o.tasks) h.owners) valid (ap (λ o. entry o (effective_task old.state.owners t number) number) h.owners ∙ some) in
           done_shown all all_asked m Rc0 (change.Empty l.0.number l.0.owner ∷ []) is (ap (λ v. listed (option_map (λ l. change.Empty l.0 l.1) v)) l.1)
           (empties_shown old new l.0 s p before.numbered (subst (λ o. Means o l.0 s) h.owners l.2) h (names_same all all_asked m (ap places_in is)) shows)
 

@@ -5,8 +5,8 @@ use Rattle.std.specs.FinMap.{get}
 use Rattle.std.proofs.lemmas.Bool.{not-false}
 use Rattle.mvs_model.specs.declared.line.Statement.{Statement}
 use Rattle.mvs_model.specs.declared.line.Statement.TheVariants as says
-use Rattle.mvs_model.specs.declared.line.Written.{Written}
-use Rattle.mvs_model.specs.declared.line.Written.TheVariants as written
+use Rattle.mvs_model.specs.declared.line.SourceRequest.{SourceRequest}
+use Rattle.mvs_model.specs.declared.line.SourceRequest.TheVariants as written
 use Rattle.mvs_model.specs.declared.name.Name.{Name}
 use Rattle.mvs_model.specs.declared.request.Reply.TheVariants as reply
 use Rattle.mvs_model.specs.declared.request.Request.{Request}
@@ -50,12 +50,12 @@ module _ (old new : JobValue) (t : Name) (said : Answer) (p : Picture) (shows : 
   tells_shown cs e same = subst (λ q. ShowsBy (Means new.state.owners) q new) (sym same) (same_shown old new p (ap (λ j. j.state) e) (ap (λ j. j.names) e) shows)
 
   -- a name is not set
-  no_name : (a : Written) → OnlyAnswers old answer.NoName said new → Shown old new t said p shows a said
+  no_name : (a : SourceRequest) → OnlyAnswers old answer.NoName said new → Shown old new t said p shows a said
   no_name a h = subst (λ x. Shown old new t said p shows a x) (sym h.0) (tells_shown [] h.1 refl)
 
   module _ (active : is_active old.state.owners t ≡ true) (before : IsKept old.state) (behind : IsKept new.state) where
     -- a request reads or writes bytes
-    accesses_shown : (a : Written) (r : Request) (m : Makes Any old t a r said new) (allowed : Bool) (done : Type 0) (cs : List Change)
+    accesses_shown : (a : SourceRequest) (r : Request) (m : Makes Any old t a r said new) (allowed : Bool) (done : Type 0) (cs : List Change)
         → (new.names ≡ old.names → answer_changes t a (answer_of old.state a r reply.Done) new ≡ cs) → replayed_all p cs ≡ p → (done → new.names ≡ old.names → ShowsBy (Means new.state.owners) p new)
         → Accesses old.state t allowed done m.reply new.state → Shown old new t said p shows a said
     accesses_shown a r m allowed done cs told same shown h =
@@ -63,7 +63,7 @@ module _ (old new : JobValue) (t : Name) (said : Answer) (p : Picture) (shows : 
         let names = names_same old new t said p shows a r m (ap places_in x.0) in
         done_shown old new t said p shows a r m reply.Done cs x.0 (told names) (subst (λ q. ShowsBy (Means new.state.owners) q new) (sym same) (shown x.1 names)))
 
-    asks_shown : (a : Written) → AreasFit (says.Request a) → Asks Any old t a (resolved old.names a) said new → Shown old new t said p shows a said
+    asks_shown : (a : SourceRequest) → AreasFit (says.Request a) → Asks Any old t a (resolved old.names a) said new → Shown old new t said p shows a said
     asks_shown (written.Obtain form number ask variable area) fit m = obtain_shown old new t said p shows active before behind form number ask variable area m
     asks_shown (written.ObtainList form number lengths start areas) fit m = obtain_list_shown old new t said p shows active before behind form number lengths start areas m fit.0 fit.1
     asks_shown (written.Release form number location n) fit h = at (address_of old.names location) refl h where

@@ -4,8 +4,8 @@ use Rattle.std.specs.List.{slice_get}
 use Rattle.std.specs.Option.{option_and_then}
 use Rattle.std.specs.FinMap.{contains_key, get, get-insert, insert, len}
 use Rattle.std.specs.FinSet as set
-use Rattle.mvs_model.specs.declared.line.Written.{Written}
-use Rattle.mvs_model.specs.declared.line.Written.TheVariants as written
+use Rattle.mvs_model.specs.declared.line.SourceRequest.{SourceRequest}
+use Rattle.mvs_model.specs.declared.line.SourceRequest.TheVariants as written
 use Rattle.mvs_model.specs.declared.name.Name.{Name}
 use Rattle.mvs_model.specs.declared.request.Reply.TheVariants.{Cell, NoCell, Rc0}
 use Rattle.mvs_model.specs.declared.request.Request.{Request}
@@ -19,7 +19,7 @@ use Rattle.mvs_model.specs.Codes.{bad_subpool, no_such_cell, no_such_pool, pool_
 use Rattle.mvs_model.specs.Finite.{Changes}
 use Rattle.mvs_model.specs.Job.{JobValue}
 use Rattle.mvs_model.specs.Name.{same_name}
-use Rattle.mvs_model.specs.Owners.{Enters, Owners, SubpoolOf, entry, is_active, keeper}
+use Rattle.mvs_model.specs.Owners.{Enters, Owners, SubpoolOf, entry, is_active, effective_task}
 use Rattle.mvs_model.specs.Place.{PlaceValue}
 use Rattle.mvs_model.specs.Pools.{Part, Pool, cell_at}
 use Rattle.mvs_model.specs.Replies.{answer_of}
@@ -90,13 +90,13 @@ named_shown old new name place p e names shows = record {
 }
 
 module _ (old new : JobValue) (t : Name) (said : Answer) (p : Picture) (shows : ShowsBy (Means old.state.owners) p old) (active : is_active old.state.owners t ≡ true) (before : IsKept old.state) (behind : IsKept new.state) where
-  abbrev S : Written → Answer → Type 0
+  abbrev S : SourceRequest → Answer → Type 0
   S a x = Shown old new t said p shows a x
 
   -- ---- BUILD
 
   module _ (name : Name) (number size primary secondary : ℕ) (loc : Loc) (m : Makes Any old t (written.Build name number size primary secondary loc) (request.Build name number size primary secondary loc) said new) where
-    abbrev build : Written
+    abbrev build : SourceRequest
     build = written.Build name number size primary secondary loc
 
     abbrev asked : Request
@@ -105,10 +105,10 @@ module _ (old new : JobValue) (t : Name) (said : Answer) (p : Picture) (shows : 
     abbrev plan : Plan
     plan = record { cell_size = size; primary = primary; secondary = secondary; side = side_of loc (residence_of old.state.owners t) }
 
-    built : is_invalid number ≡ false → m.reply ≡ Rc0 → (s : ℕ) → SubpoolOf old.state.owners (keeper old.state.owners t number) number s
-        → (q : PlaceValue) (o : Owners) → Enters old.state.owners (keeper old.state.owners t number) number s o → Extends old.state name (new_pool s plan) primary q o new.state → S build said
+    built : is_invalid number ≡ false → m.reply ≡ Rc0 → (s : ℕ) → SubpoolOf old.state.owners (effective_task old.state.owners t number) number s
+        → (q : PlaceValue) (o : Owners) → Enters old.state.owners (effective_task old.state.owners t number) number s o → Extends old.state name (new_pool s plan) primary q o new.state → S build said
     built valid is s of q o enters x =
-        let k = keeper old.state.owners t number in
+        let k = effective_task old.state.owners t number in
         let mid : JobValue = record old { state = record old.state { owners = o; pools = insert old.state.pools name (new_pool s plan) } } in
         let l = label_told old new t said p shows active before behind number s (ap (λ o. o.tasks) x.owners_are ∙ enters_tasks old.state.owners k number s o enters) valid (ap (λ o. entry o k number) x.owners_are ∙ entered old.state.owners k number s o of enters) in
         let means : Means o l.0 s = subst (λ o. Means o l.0 s) x.owners_are l.2 in
@@ -134,7 +134,7 @@ module _ (old new : JobValue) (t : Name) (said : Answer) (p : Picture) (shows : 
   -- ---- GET
 
   module _ (name : Name) (conditional : Bool) (cell : Name) (m : Makes Any old t (written.Get name conditional cell) (request.Get name conditional) said new) where
-    abbrev get_cell : Written
+    abbrev get_cell : SourceRequest
     get_cell = written.Get name conditional cell
 
     abbrev wanted : Request
@@ -188,7 +188,7 @@ module _ (old new : JobValue) (t : Name) (said : Answer) (p : Picture) (shows : 
 
   -- ---- FREE and DELETE
 
-  module _ (a : Written) (name : Name) (c : ℕ) (m : Makes Any old t a (request.Free name c) said new) (told : new.names ≡ old.names → answer_changes t a (answer_of old.state a (request.Free name c) Rc0) new ≡ change.Back name c ∷ []) where
+  module _ (a : SourceRequest) (name : Name) (c : ℕ) (m : Makes Any old t a (request.Free name c) said new) (told : new.names ≡ old.names → answer_changes t a (answer_of old.state a (request.Free name c) Rc0) new ≡ change.Back name c ∷ []) where
     freed : (o : Option Pool) → get old.state.pools name ≡ o → FreeStep old.state t name c o m.reply new.state → S a said
     freed None e h = abends_shown old new t said p shows a (request.Free name c) m no_such_pool h
     freed (Some pool) e h = by_test (not (set.contains pool.taken c)) h (λ _ x. abends_shown old new t said p shows a (request.Free name c) m no_such_cell x) (λ _ x.

@@ -5,8 +5,8 @@ use Rattle.mvs_model.specs.declared.line.Line.{Line}
 use Rattle.mvs_model.specs.declared.line.Line.TheVariants as line
 use Rattle.mvs_model.specs.declared.line.Statement.{Statement}
 use Rattle.mvs_model.specs.declared.line.Statement.TheVariants as says
-use Rattle.mvs_model.specs.declared.line.Written.{Written}
-use Rattle.mvs_model.specs.declared.line.Written.TheVariants as written
+use Rattle.mvs_model.specs.declared.line.SourceRequest.{SourceRequest}
+use Rattle.mvs_model.specs.declared.line.SourceRequest.TheVariants as written
 use Rattle.mvs_model.specs.declared.name.Name.{Name}
 use Rattle.mvs_model.specs.declared.request.Reply.{Reply}
 use Rattle.mvs_model.specs.declared.request.Reply.TheVariants as reply
@@ -46,7 +46,7 @@ abbrev is_region : Answer → Bool
 is_region (Region card) = true
 is_region _ = false
 
-granted_region : (a : Written) (q : PlaceValue) → is_region (grant_answer a q) ≡ false
+granted_region : (a : SourceRequest) (q : PlaceValue) → is_region (grant_answer a q) ≡ false
 granted_region (written.Obtain form number ask true area) q = refl
 granted_region (written.Obtain form number ask false area) q = refl
 granted_region a q = refl
@@ -55,7 +55,7 @@ done_region : (st : State) (r : Request) → is_region (done_answer st r) ≡ fa
 done_region st (request.Show a n) = refl
 done_region st r = refl
 
-reply_region : (st : State) (a : Written) (r : Request) (x : Reply) → is_region (answer_of st a r x) ≡ false
+reply_region : (st : State) (a : SourceRequest) (r : Request) (x : Reply) → is_region (answer_of st a r x) ≡ false
 reply_region st a r reply.NotRun = refl
 reply_region st a r reply.Rc0 = refl
 reply_region st a r reply.Rc4 = refl
@@ -72,7 +72,7 @@ where_region : (v : Option PlaceValue) → is_region (where_answer v) ≡ false
 where_region None = refl
 where_region (Some q) = refl
 
-asks_region : (old new : JobValue) (t : Name) (a : Written) (o : Option Request) (said : Answer) → Asks Any old t a o said new → is_region said ≡ false
+asks_region : (old new : JobValue) (t : Name) (a : SourceRequest) (o : Option Request) (said : Answer) → Asks Any old t a o said new → is_region said ≡ false
 asks_region old new t a None said h = ap is_region h.0
 asks_region old new t a (Some r) said h = ap is_region h.told ∙ reply_region old.state a r h.reply
 

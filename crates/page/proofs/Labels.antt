@@ -7,7 +7,7 @@ use Rattle.std.proofs.lemmas.Bool.Decides.{nat_tests}
 use Rattle.mvs_model.specs.declared.name.Name.{Name}
 use Rattle.mvs_model.specs.Finite.{has}
 use Rattle.mvs_model.specs.Name.{same_name}
-use Rattle.mvs_model.specs.Owners.{Binds, Enters, IsSpare, Owners, SubpoolOf, entry, is_active, subpool_meant, keeper}
+use Rattle.mvs_model.specs.Owners.{Binds, Enters, IsSpare, Owners, SubpoolOf, entry, is_active, subpool_meant, effective_task}
 use Rattle.mvs_model.specs.Reports.{label_of, number_of}
 use Rattle.mvs_model.specs.Subpool.{is_subpool_number}
 use Rattle.mvs_model.specs.WellFormed.{Owned}
@@ -54,7 +54,7 @@ module _ (o : Owners) where
   pub meant : (t : Name) (number s : ℕ) → Owned o → Numbered o → is_active o t ≡ true → is_subpool_number number ≡ true → subpool_meant o t number ≡ Some s
       → (l : ℕ × Name) × (resolved_owner o t number ≡ Some l) × Means o (record { number = l.0; owner = l.1 }) s
   meant t number s own k active valid is =
-      let l = labelled_entry (keeper o t number) number s own k is in
+      let l = labelled_entry (effective_task o t number) number s own k is in
       (l.0, (λ i. cond (valid i && active i) (label_of o (is i)) None) ∙ l.1, l.2)
 
   -- what an active task has under one
@@ -62,8 +62,8 @@ module _ (o : Owners) where
   had t number v active is = ap (λ b. cond b (label_of o (entry o t number)) None) active ∙ is
 
 -- whose subpool is meant tell the tasks alone
-pub keeper_same : (old new : Owners) (t : Name) (number : ℕ) → new.tasks ≡ old.tasks → keeper new t number ≡ keeper old t number
-keeper_same old new t number e = λ i. keeper (record old { tasks = e i }) t number
+pub keeper_same : (old new : Owners) (t : Name) (number : ℕ) → new.tasks ≡ old.tasks → effective_task new t number ≡ effective_task old t number
+keeper_same old new t number e = λ i. effective_task (record old { tasks = e i }) t number
 
 -- labels of one subpool are the same
 pub one_label : (o : Owners) (l m : Label) (s : ℕ) → Numbered o → Means o l s → Means o m s → l ≡ m

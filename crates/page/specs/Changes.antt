@@ -6,8 +6,8 @@ use Rattle.mvs_model.specs.declared.line.Line.{Line}
 use Rattle.mvs_model.specs.declared.line.Line.TheVariants as line
 use Rattle.mvs_model.specs.declared.line.Statement.{Statement}
 use Rattle.mvs_model.specs.declared.line.Statement.TheVariants as says
-use Rattle.mvs_model.specs.declared.line.Written.{Written}
-use Rattle.mvs_model.specs.declared.line.Written.TheVariants as written
+use Rattle.mvs_model.specs.declared.line.SourceRequest.{SourceRequest}
+use Rattle.mvs_model.specs.declared.line.SourceRequest.TheVariants as written
 use Rattle.mvs_model.specs.declared.name.Name.{Name}
 use Rattle.mvs_model.specs.declared.request.Request.{Request}
 use Rattle.mvs_model.specs.declared.request.Request.TheVariants as request
@@ -87,7 +87,7 @@ request_changes (Some (request.Abend code)) = []
 request_changes None = []
 
 -- the changes of a granted request of a task; the names that it uses have their places from before
-abbrev pub done_changes : Name → Written → JobValue → List Change
+abbrev pub done_changes : Name → SourceRequest → JobValue → List Change
 done_changes t (written.Obtain form number ask variable area) new = listed (area_change new t number area)
 done_changes t (written.ObtainList form number lengths start areas) new = area_changes new t number areas
 done_changes t (written.ReleaseWhole form number) new = listed (empty_change new t number)
@@ -114,7 +114,7 @@ fall_changes t (other ∷ others) = change.Fall other t ∷ fall_changes t other
 -- ---- what a line is answered
 
 -- the changes of a request with this answer: none if it was refused and its task continues
-abbrev pub answer_changes : Name → Written → Answer → JobValue → List Change
+abbrev pub answer_changes : Name → SourceRequest → Answer → JobValue → List Change
 answer_changes t a answer.Ended new = change.Return t ∷ []
 answer_changes t a (answer.Abended code fallen) new = change.Abend t ∷ fall_changes t fallen
 answer_changes t a answer.Rc0 new = done_changes t a new

@@ -16,7 +16,7 @@ use crate::change::Change;
 use mvs_job::{Job, LineEvent, Walk};
 use mvs_model::answer::Answer;
 use mvs_model::card::Card;
-use mvs_model::line::{Line, Statement, Written};
+use mvs_model::line::{Line, SourceRequest, Statement};
 use mvs_model::name::Name;
 use mvs_model::numbers::TASK_NUMBERS;
 use mvs_model::place::{Addr, Place};
@@ -244,7 +244,7 @@ fn request_changes(request: &Request) -> Changes
 }
 
 // Returns the changes of a request as written.
-fn named_changes(written: &Written, job: &Job, request: &mut Request) -> Changes
+fn named_changes(written: &SourceRequest, job: &Job, request: &mut Request) -> Changes
     ensures { result ≡ request_changes (resolved job.now.names written.now) }
 {
     match job.request_of(written, request) {
@@ -254,21 +254,21 @@ fn named_changes(written: &Written, job: &Job, request: &mut Request) -> Changes
 }
 
 // What a task's request did that was granted.
-fn done_changes(task: &Name, written: &Written, job: &Job, request: &mut Request) -> Changes
+fn done_changes(task: &Name, written: &SourceRequest, job: &Job, request: &mut Request) -> Changes
     ensures { result ≡ done_changes task.now written.now job.now }
 {
     let mut changes = no_changes();
     match written {
-        Written::Obtain { number, area, .. } => {
+        SourceRequest::Obtain { number, area, .. } => {
             push_some(&mut changes, area_change(job, task, *number, area));
         }
-        Written::ObtainList { number, areas, .. } => {
+        SourceRequest::ObtainList { number, areas, .. } => {
             push_areas(&mut changes, job, task, *number, areas.as_slice());
         }
-        Written::ReleaseWhole { number, .. } => {
+        SourceRequest::ReleaseWhole { number, .. } => {
             push_some(&mut changes, empty_change(job, task, *number));
         }
-        Written::Build {
+        SourceRequest::Build {
             pool,
             number,
             size,
@@ -280,12 +280,12 @@ fn done_changes(task: &Name, written: &Written, job: &Job, request: &mut Request
             );
             push_some(&mut changes, part_change(job, pool));
         }
-        Written::Get { pool, cell, .. } => {
+        SourceRequest::Get { pool, cell, .. } => {
             push_some(&mut changes, part_change(job, pool));
             push_some(&mut changes, cell_change(job, pool, cell));
         }
-        Written::Delete { pool } => changes.push(Change::Delete { pool: *pool }),
-        Written::Attach {
+        SourceRequest::Delete { pool } => changes.push(Change::Delete { pool: *pool }),
+        SourceRequest::Attach {
             name,
             residence,
             ..
@@ -297,15 +297,15 @@ fn done_changes(task: &Name, written: &Written, job: &Job, request: &mut Request
             });
             push_held(&mut changes, job, task, name);
         }
-        Written::Release { .. }
-        | Written::ReleaseArea { .. }
-        | Written::ReleaseList { .. }
-        | Written::Free { .. }
-        | Written::Return
-        | Written::Abend(_)
-        | Written::Show { .. }
-        | Written::Put { .. }
-        | Written::Move { .. } => return named_changes(written, job, request),
+        SourceRequest::Release { .. }
+        | SourceRequest::ReleaseArea { .. }
+        | SourceRequest::ReleaseList { .. }
+        | SourceRequest::Free { .. }
+        | SourceRequest::Return
+        | SourceRequest::Abend(_)
+        | SourceRequest::Show { .. }
+        | SourceRequest::Put { .. }
+        | SourceRequest::Move { .. } => return named_changes(written, job, request),
     }
     changes
 }
@@ -333,7 +333,7 @@ fn return_changes(task: &Name) -> Changes
 // What a request did that is answered so.
 fn answer_changes(
     task: &Name,
-    written: &Written,
+    written: &SourceRequest,
     answer: &Answer,
     job: &Job,
     fallen: &[Name],

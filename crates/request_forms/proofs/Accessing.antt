@@ -21,7 +21,7 @@ use Rattle.mvs_model.specs.Causes.{Passed, Refused, access_causes}
 use Rattle.mvs_model.specs.Steps.{Tries}
 use Rattle.mvs_model.specs.declared.refusal.Refusal.TheVariants.{NoAccess}
 use Rattle.mvs_model.proofs.SeenAccess.{all_granted_is, granted_all, not_granted, granted_place, puts_seen, moves_seen}
-use Rattle.subpool_store.specs.Written.{Puts}
+use Rattle.subpool_store.specs.WrittenBytes.{Puts}
 use Rattle.request_forms.specs.Access.{Copied}
 use Rattle.request_forms.specs.Machine.{machine_state}
 use Rattle.request_forms.proofs.Pooling.{stands}

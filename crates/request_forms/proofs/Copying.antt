@@ -7,7 +7,7 @@ use Rattle.std.proofs.lemmas.Bool.Decides.{nat_tests}
 use Rattle.std.specs.FinMap.{get}
 use Rattle.mvs_model.specs.Place.{PlaceValue, place_at}
 use Rattle.mvs_model.specs.Storage.{Storage, holder, AllHeld, has_address}
-use Rattle.subpool_store.specs.Written.{Puts}
+use Rattle.subpool_store.specs.WrittenBytes.{Puts}
 use Rattle.request_forms.specs.Machine.{IsStepStorage}
 use Rattle.request_forms.specs.Access.{Copied}
 use Rattle.mvs_model.proofs.CellPlaces.{address_yes}

@@ -12,7 +12,7 @@ use Rattle.std.specs.FinMap.{FinMap, get}
 use Rattle.mvs_model.specs.Place.{PlaceValue}
 use Rattle.mvs_model.specs.Want.{AskValue, WantValue, side_of, want_of}
 use Rattle.mvs_model.specs.Storage.{Storage, holder, IsStorage, Chosen, NoPlace, Grant}
-use Rattle.mvs_model.specs.Owners.{Owners, entry, keeper, IsSpare, SubpoolOf, Binds, Enters}
+use Rattle.mvs_model.specs.Owners.{Owners, entry, effective_task, IsSpare, SubpoolOf, Binds, Enters}
 use Rattle.mvs_model.specs.State as state
 use Rattle.mvs_model.specs.State.{State}
 use Rattle.mvs_model.specs.Name.{name_cmp}
@@ -68,8 +68,8 @@ want_seen st t found form ask r loc meant served want named resides lies means s
     wants ∙ ap (want_of ask) (serves ∙ ap (form_side (family form)) (means ∙ ap (λ l. side_of l r) lies ∙ ap (λ v. side_of ask.loc (unwrap_or v Below)) (sym where_it_resides)))
 
 -- a subpool is entered for a task that was found by its name
-pub bound_keeper : (o : Owners) (t found : Name) (number s : ℕ) (new : Owners) → found ≡ t → Binds o (keeper o found number) number s new → Binds o (keeper o t number) number s new
-bound_keeper o t found number s new named binds = subst (λ n. Binds o (keeper o n number) number s new) named binds
+pub bound_keeper : (o : Owners) (t found : Name) (number s : ℕ) (new : Owners) → found ≡ t → Binds o (effective_task o found number) number s new → Binds o (effective_task o t number) number s new
+bound_keeper o t found number s new named binds = subst (λ n. Binds o (effective_task o n number) number s new) named binds
 
 -- an area takes the address that is told, where it takes it from the store
 pub takes_told : (roots : FinMap name_cmp Root) (st : Storage) (o : Owners) (t : Name) (number s : ℕ) (want : WantValue) (hints : Option ℕ) (p : PlaceValue) → Agree roots st → SubpoolOf o t number s

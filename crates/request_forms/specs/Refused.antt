@@ -11,7 +11,7 @@ use Rattle.mvs_model.specs.declared.refusal.Refusal.TheVariants.{NotActive, Shor
 use Rattle.mvs_model.specs.Place.{PlaceValue}
 use Rattle.mvs_model.specs.Want.{WantValue, want_of, side_of}
 use Rattle.mvs_model.specs.Storage.{NoPlace}
-use Rattle.mvs_model.specs.Owners.{Owners, gives_shared, has_subtask, is_active, keeper, subpool_meant}
+use Rattle.mvs_model.specs.Owners.{Owners, gives_shared, has_subtask, is_active, effective_task, subpool_meant}
 use Rattle.mvs_model.specs.Pools.{Pool, part_want}
 use Rattle.mvs_model.specs.State.{State, holder}
 use Rattle.mvs_model.specs.Changes.{Disjoint, HeldPlain, ShortOf}
@@ -21,7 +21,7 @@ use Rattle.mvs_model.specs.Reasons.{accessed, requested_code, number_of, release
 
 -- The number may be named, and there is no place for what is wanted under it.
 abbrev pub ShortUnder : State → Name → ℕ → WantValue → Type 0
-ShortUnder st t number want = (is_invalid number ≡ false) × ShortOf st (keeper st.owners t number) number want
+ShortUnder st t number want = (is_invalid number ≡ false) × ShortOf st (effective_task st.owners t number) number want
 
 -- There is no place for an area.
 abbrev pub AreaShort : State → Name → Request → Type 0

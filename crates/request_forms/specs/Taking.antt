@@ -6,7 +6,7 @@ use Rattle.mvs_model.specs.declared.code.Form.{Form}
 use Rattle.mvs_model.specs.declared.request.Request.TheVariants.{Build, Get, Obtain, ObtainList}
 use Rattle.mvs_model.specs.declared.request.Reply.TheVariants.{Cell, Listed, Obtained, Rc0}
 use Rattle.mvs_model.specs.Determined.{Entered, ListFollowsHints, FollowsHint}
-use Rattle.mvs_model.specs.Owners.{keeper}
+use Rattle.mvs_model.specs.Owners.{effective_task}
 use Rattle.mvs_model.specs.Place.{PlaceValue}
 use Rattle.mvs_model.specs.State.{State}
 use Rattle.mvs_model.specs.Pools.{Pool, first_cell}
@@ -17,11 +17,11 @@ use Rattle.request_forms.specs.Lists.{first_of, list_wants}
 
 -- A granted area uses the hinted address.
 abbrev pub TakesArea : State → Name → Form → ℕ → AskValue → Option ℕ → PlaceValue → Type 0
-TakesArea old t form number ask hints p = (a : ℕ) → hints ≡ Some a → FollowsHint old (keeper old.owners t number) number (want_of ask (side_for old t form ask.loc)) a p
+TakesArea old t form number ask hints p = (a : ℕ) → hints ≡ Some a → FollowsHint old (effective_task old.owners t number) number (want_of ask (side_for old t form ask.loc)) a p
 
 -- Each area of a list uses its hint, if there is a hint for each.
 abbrev pub TakesAreas : State → Name → ℕ → List ℕ → ℕ → List ℕ → List PlaceValue → State → Type 0
-TakesAreas old t number lengths start hints ps new = length hints ≡ length lengths → ListFollowsHints old (keeper old.owners t number) number (list_wants lengths start) hints ps new
+TakesAreas old t number lengths start hints ps new = length hints ≡ length lengths → ListFollowsHints old (effective_task old.owners t number) number (list_wants lengths start) hints ps new
 
 -- the hint for the first cell of a further part: the one after that of the cell, or that of the cell
 abbrev pub further_of : List ℕ → Option ℕ
@@ -41,7 +41,7 @@ first_cells (Some pool) = map (first_cell pool.cell_size) pool.parts
 -- A new pool has its first cell at the hinted address, if that is possible.
 abbrev pub TakesPool : State → Name → ℕ → Name → Plan → Option ℕ → State → Type 0
 TakesPool old t number name plan hints new =
-    (a : ℕ) → hints ≡ Some a → (later : State) → Builds old (keeper old.owners t number) name number plan later → first_cells (get later.pools name) ≡ a ∷ [] → first_cells (get new.pools name) ≡ a ∷ []
+    (a : ℕ) → hints ≡ Some a → (later : State) → Builds old (effective_task old.owners t number) name number plan later → first_cells (get later.pools name) ≡ a ∷ [] → first_cells (get new.pools name) ≡ a ∷ []
 
 -- A step that grants these uses the hints.
 abbrev pub Takes : Entered

@@ -12,7 +12,7 @@ ghost use Rattle.cell_pool.specs.Agree.{Agree};
 ghost use Rattle.mvs_model.specs.Changes.{Granted, Writes};
 ghost use Rattle.mvs_model.specs.Steps.{Tries};
 ghost use Rattle.mvs_model.specs.Requests.{bytes_from};
-ghost use Rattle.subpool_store.specs.Written.{Puts};
+ghost use Rattle.subpool_store.specs.WrittenBytes.{Puts};
 ghost use Rattle.mvs_model.specs.declared.request.Reply.TheVariants.{Done};
 ghost use Rattle.request_forms.specs.Access.{Copied};
 ghost use Rattle.request_forms.specs.Machine.{IsStepStorage, machine_state};

@@ -7,7 +7,7 @@ ghost use Rattle.mvs_model.specs.Steps.{Tries};
 ghost use Rattle.mvs_model.specs.declared.request.Reply.TheVariants.{Obtained};
 ghost use Rattle.mvs_model.specs.declared.request.Request.TheVariants as request;
 ghost use Rattle.mvs_model.specs.Requests.{side_for};
-ghost use Rattle.mvs_model.specs.Owners.{keeper};
+ghost use Rattle.mvs_model.specs.Owners.{effective_task};
 ghost use Rattle.request_forms.specs.Machine.{IsTask, task_name};
 ghost use Rattle.request_forms.specs.Taking.{TakesArea};
 
@@ -34,7 +34,7 @@ impl Machine {
     ) -> Option<Place>
         requires { IsTask self.old t }
         ensures granted { let want = want_of ask.now (side_for self.old.state (task_name self.old t) form ask.now.loc) in
-            let k = keeper self.old.state.owners (task_name self.old t) number in
+            let k = effective_task self.old.state.owners (task_name self.old t) number in
             MatchOption result
             (ShortOf self.old.state k number want × (self.new.state ≡ self.old.state))
             (λ p. GrantTo self.old.state k number want p self.new.state) }

@@ -2,7 +2,7 @@
 
 ghost use Rattle.std.specs.Prelude.{◌≡◌, true, ◌+◌, ◌≤◌, ◌<◌, Err, IfErr, IfOk, MatchResult, None, List, ℕ, [], ◌∷◌, ◌++◌, length};
 ghost use Rattle.mvs_model.specs.Changes.{ListGrant};
-ghost use Rattle.mvs_model.specs.Owners.{keeper};
+ghost use Rattle.mvs_model.specs.Owners.{effective_task};
 ghost use Rattle.request_forms.specs.Machine.{IsTask, task_name};
 ghost use Rattle.mvs_model.specs.Place.{PlaceValue};
 ghost use Rattle.mvs_model.specs.Steps.{Tries};
@@ -163,9 +163,9 @@ impl Machine {
     ) -> Result<Places, Lack>
         requires { IsTask self.old t }
         ensures granted { MatchResult result
-            (λ ps. ListGrant self.old.state (keeper self.old.state.owners (task_name self.old t) number) number
+            (λ ps. ListGrant self.old.state (effective_task self.old.state.owners (task_name self.old t) number) number
             (list_wants lengths.now start) ps self.new.state)
-            (λ lack. IsMemberShort self.old.state (keeper self.old.state.owners (task_name self.old t) number) number
+            (λ lack. IsMemberShort self.old.state (effective_task self.old.state.owners (task_name self.old t) number) number
             (list_wants lengths.now start) lack.member lack.short
             × (self.new.state ≡ self.old.state)) }
         ensures hints { IfOk result

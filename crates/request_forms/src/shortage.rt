@@ -1,7 +1,7 @@
 //! Why a place is not granted.
 
 ghost use Rattle.std.specs.Prelude.{◌≡◌, MatchOption, true};
-ghost use Rattle.mvs_model.specs.Owners.{SubpoolOf, is_active, keeper};
+ghost use Rattle.mvs_model.specs.Owners.{SubpoolOf, is_active, effective_task};
 ghost use Rattle.mvs_model.specs.Place.{PlaceValue};
 ghost use Rattle.mvs_model.specs.Pools.{part_want};
 ghost use Rattle.mvs_model.specs.State as state;
@@ -80,7 +80,7 @@ impl Machine {
     /// The subpool that a task means by a number, or the one that it would get.
     pub(crate) fn subpool_for(&self, name: Name, number: SubNo) -> SubpoolId
         requires { is_active self.now.state.owners name ≡ true }
-        ensures { SubpoolOf self.now.state.owners (keeper self.now.state.owners name number) number result }
+        ensures { SubpoolOf self.now.state.owners (effective_task self.now.state.owners name number) number result }
     {
         let t = self.tasks.task_of(name);
         match self.tasks.subpool(t, number) {

@@ -10,7 +10,7 @@ use Rattle.subpool_store.specs.Edits.{IsFreeRun}
 use Rattle.subpool_store.specs.Memory.{MemoryState}
 use Rattle.subpool_store.specs.Search.{may_take}
 use Rattle.subpool_store.specs.Bits.{digit}
-use Rattle.subpool_store.specs.Walk.{begins_run, entries_to, looked_at}
+use Rattle.subpool_store.specs.PageWalk.{begins_run, entries_to, looked_at}
 use Rattle.subpool_store.proofs.Counts.{count_most, count_split}
 use Rattle.mvs_model.proofs.Below.{count_all, count_none}
 

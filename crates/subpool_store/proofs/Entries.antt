@@ -3,7 +3,7 @@ use Rattle.std.proofs.Common.{◌≡◌, ◌∙◌, ℕ, ◌<◌, ◌≤◌, con
 use Rattle.std.proofs.lemmas.Bool.{cases_eq, cases_lt, eq-eqb, le-ltb, lt-ltb, ne_eqb}
 use Rattle.page_map.specs.Owners.{owner_of}
 use Rattle.subpool_store.specs.Bits.{digit}
-use Rattle.subpool_store.specs.Walk.{entry_by, entry_of}
+use Rattle.subpool_store.specs.PageWalk.{entry_by, entry_of}
 use Rattle.subpool_store.specs.declared.counted.PageUse.{PageUse}
 use Rattle.subpool_store.specs.declared.counted.PageUse.TheVariants.{Free, Own, Other, End}
 

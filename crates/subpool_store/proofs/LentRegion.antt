@@ -11,7 +11,7 @@ use Rattle.mvs_model.proofs.Tables.{get-table_all, same_maps}
 use Rattle.subpool_store.specs.Bits.{in_range}
 use Rattle.subpool_store.specs.Region.{RegionState, IsRegion, IsSound, byte_at, bytes_of, cell, region_of, shifted}
 use Rattle.subpool_store.specs.Joined.{IsStore, regions_of, store_of}
-use Rattle.subpool_store.specs.Written.{region_written, over, overwritten, Puts, side_end, written, written_from}
+use Rattle.subpool_store.specs.WrittenBytes.{region_written, over, overwritten, Puts, side_end, written, written_from}
 use Rattle.subpool_store.proofs.Both.{high_byte, low_byte, new_above, new_below, past_byte, storage_of}
 use Rattle.subpool_store.proofs.Bytes.{get-bytes_of}
 use Rattle.subpool_store.proofs.Exact.{holder_at, holder_some, shifted_at, shifted_none, cell_none}

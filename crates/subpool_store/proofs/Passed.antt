@@ -6,11 +6,11 @@ use Rattle.page_map.specs.Owners.{is_usable, owner_of}
 use Rattle.subpool_store.specs.Edits.{IsFreeRun}
 use Rattle.subpool_store.specs.Memory.{IsCursor, MemoryState}
 use Rattle.subpool_store.specs.Search.{IsExact, NoneFits, may_take}
-use Rattle.subpool_store.specs.Walk.{IsInside, IsWalk, entry_of, looked_at}
+use Rattle.subpool_store.specs.PageWalk.{IsInside, IsWalk, entry_of, looked_at}
 use Rattle.subpool_store.specs.declared.counted.Counted.{Counted}
 use Rattle.subpool_store.specs.declared.counted.PageUse.{PageUse}
 use Rattle.subpool_store.specs.declared.counted.PageUse.TheVariants.{Own}
-use Rattle.subpool_store.specs.declared.walk.Walk.{Walk}
+use Rattle.subpool_store.specs.declared.walk.PageWalk.{PageWalk}
 use Rattle.subpool_store.proofs.Begun.{counted_few, inside_counted}
 use Rattle.subpool_store.proofs.Entries.{entry_own}
 use Rattle.subpool_store.proofs.Short.{fits_short, fits_skip}
@@ -23,14 +23,14 @@ held_fails m pages s i set = elim (cases_lt i (length m.held)) [
 ]
 
 -- a pass that has joined nothing
-abbrev pub walk_at : ℕ → PageUse → ℕ → Counted → Walk
+abbrev pub walk_at : ℕ → PageUse → ℕ → Counted → PageWalk
 walk_at at entry queue counted = record { start = at; end = at; entry = entry; queue = queue; counted = counted }
 
 -- a pass has not counted much
-pub walk_few : (m : MemoryState) (pages : List (Option ℕ)) (s : ℕ) (w : Walk) → IsExact m.held pages → IsWalk m pages s w → w.counted.steps < 33554432
+pub walk_few : (m : MemoryState) (pages : List (Option ℕ)) (s : ℕ) (w : PageWalk) → IsExact m.held pages → IsWalk m pages s w → w.counted.steps < 33554432
 walk_few m pages s w exact walk = counted_few m pages s w.end w.counted.steps walk.counted walk.within exact.sizes exact.most
 
-module _ (m : MemoryState) (pages : List (Option ℕ)) (s n : ℕ) (exact : IsExact m.held pages) (w : Walk) (walk : IsWalk m pages s w) (inside : IsInside pages s w) (page start end behind : ℕ) (here : w.end / 512 ≡ page)
+module _ (m : MemoryState) (pages : List (Option ℕ)) (s n : ℕ) (exact : IsExact m.held pages) (w : PageWalk) (walk : IsWalk m pages s w) (inside : IsInside pages s w) (page start end behind : ℕ) (here : w.end / 512 ≡ page)
     (run : IsFreeRun m.held w.end (512 * page + 512) start end) (ends : end < 512 * page + 512) where
   pub short_page : end / 512 ≡ page
   short_page = omega (arith, here, run.some, run.after, ends)

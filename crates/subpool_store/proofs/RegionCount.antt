@@ -7,7 +7,7 @@ use Rattle.page_map.specs.Owners.{is_of, owner_of}
 use Rattle.mvs_model.specs.FreeRuns.{begins_free_run, holds_in_page}
 use Rattle.subpool_store.specs.Region.{RegionState, IsRegion, cell, region_of, held_of}
 use Rattle.subpool_store.specs.Memory.{MemoryState}
-use Rattle.subpool_store.specs.Walk.{begins_run, entries_to, looked_at}
+use Rattle.subpool_store.specs.PageWalk.{begins_run, entries_to, looked_at}
 use Rattle.subpool_store.proofs.Begun.{count_grows, count_once}
 use Rattle.subpool_store.proofs.Entries.{none_there}
 use Rattle.subpool_store.proofs.Exact.{holder_index}

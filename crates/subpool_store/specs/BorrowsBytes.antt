@@ -3,7 +3,7 @@ use Rattle.std.specs.Prelude.{ℕ, List}
 use Rattle.std.specs.Borrow.{Lends, MutBor, Fml, Array, u8}
 use Rattle.mvs_model.specs.Place.{PlaceValue}
 use Rattle.subpool_store.specs.Value.{StoreValue}
-use Rattle.subpool_store.specs.Written.{written}
+use Rattle.subpool_store.specs.WrittenBytes.{written}
 use Rattle.subpool_store.specs.declared.store.Store.{Store}
 use Rattle.subpool_store.specs.contracts.store.Store.{the_row}
 

@@ -2,7 +2,7 @@
 use Rattle.std.specs.Prelude.{ℕ, List, take}
 use Rattle.std.specs.Borrow.{Lends, MutBor, Fml, Array, u8}
 use Rattle.mvs_model.specs.Place.{PlaceValue}
-use Rattle.subpool_store.specs.Written.{region_written}
+use Rattle.subpool_store.specs.WrittenBytes.{region_written}
 use Rattle.subpool_store.specs.declared.region_store.RegionStore.{RegionStore}
 use Rattle.subpool_store.specs.contracts.region_store.RegionStore.{the_row}
 

@@ -9,7 +9,7 @@ pub mod Joined
 pub mod FreePages
 pub mod Value
 pub mod Search
-pub mod Walk
-pub mod Written
+pub mod PageWalk
+pub mod WrittenBytes
 pub mod BorrowsRegion
 pub mod BorrowsBytes

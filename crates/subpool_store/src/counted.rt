@@ -9,7 +9,7 @@ ghost use Rattle.subpool_store.specs.Bits.{digit};
 ghost use Rattle.subpool_store.specs.Memory.{IsCursor};
 ghost use Rattle.subpool_store.specs.Region.{IsOpened};
 ghost use Rattle.subpool_store.specs.Sizes.{most_doublewords};
-ghost use Rattle.subpool_store.specs.Walk.{IsFoundRun, IsFull, IsOwn, entries_to, entry_by, entry_of};
+ghost use Rattle.subpool_store.specs.PageWalk.{IsFoundRun, IsFull, IsOwn, entries_to, entry_by, entry_of};
 
 use crate::memory::Memory;
 use free_queue::queue::Head;

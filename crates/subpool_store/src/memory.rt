@@ -8,7 +8,7 @@ ghost use Rattle.region_raw.specs.Rows.{IsApart};
 ghost use Rattle.subpool_store.specs.Edits.{IsClear, IsMarked, IsFreeRun, HasNoBit, HasBit};
 ghost use Rattle.subpool_store.specs.Memory.{IsCursor, IsFilled, IsHeldPart, KeepsHeld, Stays, Turns};
 ghost use Rattle.subpool_store.specs.Sizes.{most_doublewords};
-ghost use Rattle.subpool_store.specs.Walk.{IsFoundRun};
+ghost use Rattle.subpool_store.specs.PageWalk.{IsFoundRun};
 
 use crate::run::Run;
 use free_queue::queue::{self, Head};

@@ -16,11 +16,11 @@ ghost use Rattle.subpool_store.specs.Search.{
   IsShorter,
   LongestIn,
 };
-ghost use Rattle.subpool_store.specs.Walk.{looked_at};
+ghost use Rattle.subpool_store.specs.PageWalk.{looked_at};
 
 use crate::memory::Memory;
 use crate::run::Run;
-use crate::walk::Walk;
+use crate::walk::PageWalk;
 use boundary_loc::{first_in, last_in, longest_in};
 use mvs_model::place::{Addr, Place};
 use mvs_model::subpool::SubpoolId;
@@ -190,7 +190,7 @@ pub fn find(
 {
     let only = only_length(want);
     let least = least_doublewords(want);
-    let mut walk = Walk::new(memory, pages, subpool);
+    let mut walk = PageWalk::new(memory, pages, subpool);
     let mut best = None;
     'runs: while let Some(run) = walk.next_run(memory, pages, subpool, least) {
         best = preferred(

@@ -30,7 +30,7 @@ ghost use Rattle.subpool_store.specs.Bound.{IsBound, page_entries};
 ghost use Rattle.subpool_store.specs.FreePages.{free_pages};
 ghost use Rattle.subpool_store.specs.Joined.{BestAbove, CountedAbove, Taken};
 ghost use Rattle.subpool_store.specs.BorrowsBytes.{BorrowsBytes};
-ghost use Rattle.subpool_store.specs.Written.{Puts, written};
+ghost use Rattle.subpool_store.specs.WrittenBytes.{Puts, written};
 
 use crate::region_store::RegionStore;
 use crate::search::{SearchResult, is_longest, longer};

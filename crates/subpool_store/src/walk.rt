@@ -8,7 +8,7 @@ ghost use Rattle.subpool_store.specs.Region.{IsOpened};
 ghost use Rattle.subpool_store.specs.Memory.{IsCursor};
 ghost use Rattle.subpool_store.specs.Search.{may_take, IsExact, IsNextRun, NoneFits};
 ghost use Rattle.subpool_store.specs.Sizes.{most_doublewords};
-ghost use Rattle.subpool_store.specs.Walk.{entry_of, IsInside, IsNextPart, IsWalk, IsPassing};
+ghost use Rattle.subpool_store.specs.PageWalk.{entry_of, IsInside, IsNextPart, IsWalk, IsPassing};
 
 use crate::counted::{Counted, PageUse};
 use crate::memory::Memory;
@@ -32,7 +32,7 @@ struct ReadPart {
 /// A pass: the run that it has joined so far, which ends at its position; the entry of the page at its position, and, if the page
 /// is the subpool's own, the queue of the runs that it has not read; and the number of steps.
 #[derive(Clone, Copy)]
-pub struct Walk {
+pub struct PageWalk {
     start: usize,
     end: usize,
     entry: PageUse,
@@ -239,16 +239,16 @@ fn continues(start: usize, end: usize) -> bool
     start == end
 }
 
-impl Walk {
+impl PageWalk {
     // A pass before the first page, whose entry it has looked at.
-    pub fn new(memory: &Memory, pages: &PageMap, subpool: SubpoolId) -> Walk
+    pub fn new(memory: &Memory, pages: &PageMap, subpool: SubpoolId) -> PageWalk
         requires opened { IsOpened pages.now memory.now.bytes }
         ensures walk { IsWalk memory.now pages.now subpool result }
         ensures start { result.start ≡ 0 }
     {
         let mut counted = Counted { steps: 0 };
         let entry = counted.entry(pages, subpool, 0);
-        Walk {
+        PageWalk {
             start: 0,
             end: 0,
             entry,

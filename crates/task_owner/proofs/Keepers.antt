@@ -3,7 +3,7 @@ use Rattle.std.proofs.Common.{◌≡◌, ◌≢◌, ℕ, suc, ◌<◌, ◌||◌,
 use Rattle.std.proofs.lemmas.Bool.Decides.{nat_tests}
 use Rattle.mvs_model.specs.declared.name.Name.{Name}
 use Rattle.mvs_model.specs.Subpool.{is_subpool_number, is_step_number}
-use Rattle.mvs_model.specs.Owners.{Owners, Task, entry, job_step_task, keeper, subpool_meant}
+use Rattle.mvs_model.specs.Owners.{Owners, Task, entry, job_step_task, effective_task, subpool_meant}
 use Rattle.mvs_model.specs.Consistent.{IsFirst}
 use Rattle.mvs_model.proofs.Keepers.{first_of, first_some}
 use Rattle.task_owner.specs.Tasks.{TasksValue, name_at, IsTask, name_of}
@@ -14,15 +14,15 @@ use Rattle.task_owner.proofs.Reading.{found, view-entry, name_at_is, the_seat, n
 use Rattle.task_owner.proofs.Keeping.{at_name, key_of, no_mother, one_first, up}
 
 -- a number that is not the job step task's is each task's own
-pub own_keeper : (o : Owners) (t : Name) (n : ℕ) → is_step_number n ≡ false → keeper o t n ≡ t
+pub own_keeper : (o : Owners) (t : Name) (n : ℕ) → is_step_number n ≡ false → effective_task o t n ≡ t
 own_keeper o t n e = ap (λ b. cond b (unwrap_or (job_step_task o) t) t) e
 
 -- one that is his is the job step task's
-pub step_keeper : (o : Owners) (t q : Name) (n : ℕ) → is_step_number n ≡ true → job_step_task o ≡ Some q → keeper o t n ≡ q
+pub step_keeper : (o : Owners) (t q : Name) (n : ℕ) → is_step_number n ≡ true → job_step_task o ≡ Some q → effective_task o t n ≡ q
 step_keeper o t q n e f = ap (λ b. cond b (unwrap_or (job_step_task o) t) t) e ∙ ap (λ first. unwrap_or first t) f
 
 -- and where there is no job step task, each task's own
-pub lone_keeper : (o : Owners) (t : Name) (n : ℕ) → job_step_task o ≡ None → keeper o t n ≡ t
+pub lone_keeper : (o : Owners) (t : Name) (n : ℕ) → job_step_task o ≡ None → effective_task o t n ≡ t
 lone_keeper o t n f = ap (λ first. cond (is_step_number n) (unwrap_or first t) t) f ∙ at (is_step_number n) where
   at : (b : Bool) → cond b t t ≡ t
   at true = refl
@@ -57,7 +57,7 @@ module _ (seats : List (Option TaskSlot)) (owned : List (Option Owned)) (sound :
     by (Some q) f = let k = first_key q f in absurd (h k.0 k.1 k.2 k.4)
 
   -- the keeper may have a subpool under the number
-  may_have_at : (k : ℕ) (y : TaskSlot) (t : Name) (n : ℕ) → item_at seats k ≡ Some y → y.name ≡ keeper D t n → is_subpool_number n ≡ true → MayHave y n
+  may_have_at : (k : ℕ) (y : TaskSlot) (t : Name) (n : ℕ) → item_at seats k ≡ Some y → y.name ≡ effective_task D t n → is_subpool_number n ≡ true → MayHave y n
   may_have_at k y t n h e valid = by (is_step_number n) refl where
     low : (n : ℕ) (b : Bool) → b ≡ false → (ltb n 128 || b) ≡ true → n < 128
     low n true f g = absurd (let i : true ≡ false = f in cc)
@@ -83,25 +83,25 @@ module _ (seats : List (Option TaskSlot)) (owned : List (Option Owned)) (sound :
           ap (λ (v : TaskSlot). v.mother) (sym alike) ∙ z.4
 
   -- the keeper for a task is active
-  keeper_seat : (k : ℕ) (x : TaskSlot) (n : ℕ) → item_at seats k ≡ Some x → (j : ℕ) × (y : TaskSlot) × (item_at seats j ≡ Some y) × (y.name ≡ keeper D x.name n)
+  keeper_seat : (k : ℕ) (x : TaskSlot) (n : ℕ) → item_at seats k ≡ Some x → (j : ℕ) × (y : TaskSlot) × (item_at seats j ≡ Some y) × (y.name ≡ effective_task D x.name n)
   keeper_seat k x n h = by (is_step_number n) refl (job_step_task D) refl where
-    by : (b : Bool) → is_step_number n ≡ b → (o : Option Name) → job_step_task D ≡ o → (j : ℕ) × (y : TaskSlot) × (item_at seats j ≡ Some y) × (y.name ≡ keeper D x.name n)
+    by : (b : Bool) → is_step_number n ≡ b → (o : Option Name) → job_step_task D ≡ o → (j : ℕ) × (y : TaskSlot) × (item_at seats j ≡ Some y) × (y.name ≡ effective_task D x.name n)
     by false e o f = (k, x, h, sym (own_keeper D x.name n e))
     by true e None f = (k, x, h, sym (lone_keeper D x.name n f))
     by true e (Some q) f = let z = first_key q f in (z.0, z.1, z.2, z.3 ∙ sym (step_keeper D x.name q n e f))
 
 -- the same of the value of `Tasks`
 module _ (seats : List (Option TaskSlot)) (owned : List (Option Owned)) (d : TasksValue) (e : directory seats owned ≡ d) (sound : IsSound seats owned) where
-  pub common_found : (n : ℕ) (k : ℕ) (x : TaskSlot) → is_step_number n ≡ true → item_at seats k ≡ Some x → x.mother ≡ None → (t : Name) → name_at d k ≡ Some (keeper d.owners t n)
+  pub common_found : (n : ℕ) (k : ℕ) (x : TaskSlot) → is_step_number n ≡ true → item_at seats k ≡ Some x → x.mother ≡ None → (t : Name) → name_at d k ≡ Some (effective_task d.owners t n)
   common_found n k x step h none t =
       name_at_is seats owned d k x e h
-      ∙ ap Some (sym (subst (λ (v : TasksValue). keeper v.owners t n ≡ x.name) e (step_keeper (directory seats owned).owners t x.name n step (first_is seats owned sound k x h none))))
+      ∙ ap Some (sym (subst (λ (v : TasksValue). effective_task v.owners t n ≡ x.name) e (step_keeper (directory seats owned).owners t x.name n step (first_is seats owned sound k x h none))))
 
-  pub common_none : (n : ℕ) → ((k : ℕ) (x : TaskSlot) → item_at seats k ≡ Some x → x.mother ≢ None) → (t : Name) → keeper d.owners t n ≡ t
-  common_none n h t = subst (λ (v : TasksValue). keeper v.owners t n ≡ t) e (lone_keeper (directory seats owned).owners t n (no_first seats owned sound h))
+  pub common_none : (n : ℕ) → ((k : ℕ) (x : TaskSlot) → item_at seats k ≡ Some x → x.mother ≢ None) → (t : Name) → effective_task d.owners t n ≡ t
+  common_none n h t = subst (λ (v : TasksValue). effective_task v.owners t n ≡ t) e (lone_keeper (directory seats owned).owners t n (no_first seats owned sound h))
 
-  pub may_have : (k : ℕ) (y : TaskSlot) (t : Name) (n : ℕ) → item_at seats k ≡ Some y → y.name ≡ keeper d.owners t n → is_subpool_number n ≡ true → MayHave y n
-  may_have k y t n h same valid = may_have_at seats owned sound k y t n h (same ∙ ap (λ (v : TasksValue). keeper v.owners t n) (sym e)) valid
+  pub may_have : (k : ℕ) (y : TaskSlot) (t : Name) (n : ℕ) → item_at seats k ≡ Some y → y.name ≡ effective_task d.owners t n → is_subpool_number n ≡ true → MayHave y n
+  may_have k y t n h same valid = may_have_at seats owned sound k y t n h (same ∙ ap (λ (v : TasksValue). effective_task v.owners t n) (sym e)) valid
 
   -- a task means no subpool by a number: the number's keeper is active, and has none under it
   pub none_meant : (key id n : ℕ) → key ≡ id → IsTask d id → is_subpool_number n ≡ true → subpool_meant d.owners (name_of d id) n ≡ None
@@ -111,7 +111,7 @@ module _ (seats : List (Option TaskSlot)) (owned : List (Option Owned)) (d : Tas
       let name = name_is seats owned d key id e f sound x.0 x.1 in
       let y = keeper_seat seats owned sound key x.0 n x.1 in
       let entry_is : entry (directory seats owned).owners y.1.name n ≡ number_of y.1 n = view-entry seats owned y.1.name n ∙ ap (λ o. entry_of o n) (found seats y.0 y.1 sound.distinct y.2) in
-      let meant : entry (directory seats owned).owners (keeper (directory seats owned).owners x.0.name n) n ≡ None =
+      let meant : entry (directory seats owned).owners (effective_task (directory seats owned).owners x.0.name n) n ≡ None =
       ap (λ (v : TasksValue). subpool_meant v.owners x.0.name n) e ∙ ap (λ t. subpool_meant d.owners t n) (sym name) ∙ none in (
         y.0,
         y.1,
@@ -121,6 +121,6 @@ module _ (seats : List (Option TaskSlot)) (owned : List (Option Owned)) (d : Tas
       )
 
   -- the task at the keeper's key may have a subpool under the number
-  pub keeper_place : (key id n number : ℕ) (t : Name) → key ≡ id → name_of d id ≡ keeper d.owners t number → n ≡ number → is_subpool_number n ≡ true → (x : TaskSlot) → item_at seats key ≡ Some x → MayHave x n
+  pub keeper_place : (key id n number : ℕ) (t : Name) → key ≡ id → name_of d id ≡ effective_task d.owners t number → n ≡ number → is_subpool_number n ≡ true → (x : TaskSlot) → item_at seats key ≡ Some x → MayHave x n
   keeper_place key id n number t f same is valid x h =
-      may_have key x t n h (sym (name_is seats owned d key id e f sound x h) ∙ same ∙ ap (keeper d.owners t) (sym is)) valid
+      may_have key x t n h (sym (name_is seats owned d key id e f sound x h) ∙ same ∙ ap (effective_task d.owners t) (sym is)) valid

@@ -9,7 +9,7 @@ ghost use Rattle.mvs_model.specs.Finite.{has, filtered};
 ghost use Rattle.mvs_model.specs.Gifts.{gives};
 ghost use Rattle.mvs_model.specs.Consistent.{OwnersConsistent};
 ghost use Rattle.mvs_model.specs.Numbers.{most_subpools, most_tasks, subpool_numbers, task_numbers};
-ghost use Rattle.mvs_model.specs.Owners.{entry, keeper, subpool_meant, is_active, has_subtask, owns, IsMother, IsSpare, Binds, AreDescendants, is_among_ended, ends_with, Ends, Attach, gives_shared};
+ghost use Rattle.mvs_model.specs.Owners.{entry, effective_task, subpool_meant, is_active, has_subtask, owns, IsMother, IsSpare, Binds, AreDescendants, is_among_ended, ends_with, Ends, Attach, gives_shared};
 ghost use Rattle.mvs_model.specs.Causes.{Passed, Refused, attach_causes};
 ghost use Rattle.mvs_model.specs.declared.name.Name.{Name as TheName};
 ghost use Rattle.mvs_model.specs.Start.{first_owners};
@@ -157,10 +157,10 @@ impl Tasks {
     }
 
     // The task whose subpool a task means by a number: the job step task for 131 and 132, and else the task itself.
-    fn keeper(&self, t: TaskId, number: SubNo) -> TaskId
+    fn effective_task(&self, t: TaskId, number: SubNo) -> TaskId
         requires { IsTask self.now t }
         ensures { name_at self.now result
-            ≡ Some (keeper self.now.owners (name_of self.now t) number) }
+            ≡ Some (effective_task self.now.owners (name_of self.now t) number) }
     {
         match self.common_keeper(number) {
             Some(first) => first,
@@ -171,15 +171,15 @@ impl Tasks {
     /// The name of the task whose subpool a task means by a number.
     pub fn keeper_name(&self, t: TaskId, number: SubNo) -> Name
         requires { IsTask self.now t }
-        ensures { result ≡ keeper self.now.owners (name_of self.now t) number }
+        ensures { result ≡ effective_task self.now.owners (name_of self.now t) number }
     {
-        seat_at(&self.active, self.keeper(t, number).key).name
+        seat_at(&self.active, self.effective_task(t, number).key).name
     }
 
     // The job step task, where each task means its subpool by the number.
     fn common_keeper(&self, number: SubNo) -> Option<TaskId>
-        ensures { MatchOption result ((t : TheName) → keeper self.now.owners t number ≡ t)
-            (λ id. (t : TheName) → name_at self.now id ≡ Some (keeper self.now.owners t number)) }
+        ensures { MatchOption result ((t : TheName) → effective_task self.now.owners t number ≡ t)
+            (λ id. (t : TheName) → name_at self.now id ≡ Some (effective_task self.now.owners t number)) }
     {
         if !number.is_of_step() {
             return None;
@@ -215,7 +215,7 @@ impl Tasks {
         requires { IsTask self.now t }
         ensures { result ≡ subpool_meant self.now.owners (name_of self.now t) number }
     {
-        self.entry(self.keeper(t, number), number)
+        self.entry(self.effective_task(t, number), number)
     }
 
     /// Whether the task has a subpool under the number and owns it.
@@ -260,15 +260,20 @@ impl Tasks {
         requires active { IsTask self.old t }
         requires none { subpool_meant self.old.owners (name_of self.old t) number ≡ None }
         requires spare { get self.old.owners.owner subpool ≡ None }
-        ensures binds { Binds self.old.owners (keeper self.old.owners (name_of self.old t) number)
+        ensures binds { Binds self.old.owners (effective_task self.old.owners (name_of self.old t) number)
             number subpool self.new.owners }
         ensures names { (id : ℕ) → name_at self.new id ≡ name_at self.old id }
     {
-        let keeper = self.keeper(t, number);
+        let effective_task = self.effective_task(t, number);
         let number = number.get();
-        enter(&mut self.active, keeper.key, number as usize, subpool);
+        enter(
+            &mut self.active,
+            effective_task.key,
+            number as usize,
+            subpool,
+        );
         self.owned[subpool.get() as usize] = Some(Owned {
-            owner: keeper.key,
+            owner: effective_task.key,
             number,
         });
     }

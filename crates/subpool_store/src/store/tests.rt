@@ -2,7 +2,7 @@
 
 ghost use Rattle.std.specs.Prelude.{◌≡◌, length};
 ghost use Rattle.mvs_model.specs.Storage.{AllHeld};
-ghost use Rattle.subpool_store.specs.Written.{Puts};
+ghost use Rattle.subpool_store.specs.WrittenBytes.{Puts};
 
 use crate::Store;
 use mvs_model::bounded::{Exponent, Length};

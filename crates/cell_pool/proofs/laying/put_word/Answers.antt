@@ -1,6 +1,6 @@
 use Rattle.std.proofs.Common.{length, subst}
 use Rattle.mvs_model.specs.Place.{place_at}
-use Rattle.subpool_store.specs.Written.{Puts}
+use Rattle.subpool_store.specs.WrittenBytes.{Puts}
 use Rattle.cell_pool.proofs.LaidOut.{puts_word}
 use Rattle.cell_pool.proofs.laying.put_word.Goals as goal
 

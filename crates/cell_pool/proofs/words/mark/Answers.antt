@@ -2,7 +2,7 @@ use Rattle.std.proofs.Common.{◌+◌, ◌-◌, ◌%◌, ◌∙◌, ap, cond, le
 use Rattle.std.specs.Prelude.{◌==◌}
 use Rattle.mvs_model.specs.Place.{place_at}
 use Rattle.std.specs.Int.{bit_at}
-use Rattle.subpool_store.specs.Written.{Puts}
+use Rattle.subpool_store.specs.WrittenBytes.{Puts}
 use Rattle.cell_pool.proofs.Spelled.{marked}
 use Rattle.cell_pool.proofs.words.mark.Goals as goal
 

@@ -1,6 +1,6 @@
 use Rattle.std.proofs.Common.{sym, ap, ◌∙◌}
 use Rattle.mvs_model.specs.Reading.{numbers_in}
-use Rattle.job_script.specs.Given.{option_now}
+use Rattle.job_script.specs.GivenOperands.{option_now}
 use Rattle.job_script.specs.Items.{items_in}
 use Rattle.job_script.specs.Rules.{is_shared_number}
 use Rattle.job_script.proofs.Conflicts.{shared_numbers, shares_nothing}

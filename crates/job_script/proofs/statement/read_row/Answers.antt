@@ -1,7 +1,7 @@
 use Rattle.std.proofs.Common.{sym, ap, ◌∙◌}
 use Rattle.std.specs.Prelude.{flat_map}
 use Rattle.mvs_model.specs.Reading.{operands_in, first_of, operand_checks, with_left}
-use Rattle.job_script.specs.Given.{field_now}
+use Rattle.job_script.specs.GivenOperands.{field_now}
 use Rattle.job_script.specs.Kinds.{fault_in}
 use Rattle.job_script.specs.Rows.{row_at}
 use Rattle.job_script.specs.LineMeaning.{filled}

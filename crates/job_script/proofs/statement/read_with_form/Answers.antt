@@ -2,7 +2,7 @@ use Rattle.std.proofs.Common.{◌≡◌, ◌∷◌, refl, sym, ap, subst, ◌∙
 use Rattle.std.specs.Prelude.{not}
 use Rattle.mvs_model.specs.declared.line.Fault.TheVariants.{UnknownOperation, MissingOperand}
 use Rattle.mvs_model.specs.Reading.{operands_in, has_key, is_empty}
-use Rattle.job_script.specs.Given.{field_now}
+use Rattle.job_script.specs.GivenOperands.{field_now}
 use Rattle.job_script.specs.Operations.{operation_text}
 use Rattle.job_script.specs.Parted.{field_in}
 use Rattle.job_script.specs.Rowed.{FormReading}

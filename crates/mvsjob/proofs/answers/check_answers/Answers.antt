@@ -1,7 +1,7 @@
 use Rattle.std.proofs.Common.{◌≡◌, IfOk, ap, subst, ◌∙◌}
 use Rattle.std.specs.Io.KnownBytes.{Appends}
-use Rattle.annotated.specs.ExpectedAnswers.{expected_of}
-use Rattle.annotated.specs.Reports.{counts_of, report_of}
+use Rattle.expected_answers.specs.ExpectedAnswers.{expected_of}
+use Rattle.expected_answers.specs.Reports.{counts_of, report_of}
 use Rattle.mvs_model.specs.Runs.{IsPrinting}
 use Rattle.mvsjob.specs.Checking.{IsReported, checked_ending, line_of}
 use Rattle.mvsjob.specs.ModeResult.{IsFaultOf}

@@ -2,7 +2,7 @@ use Rattle.std.proofs.Common.{◌∙◌, refl}
 use Rattle.std.specs.List.{after_first}
 use Rattle.std.specs.Prelude.{◌==◌}
 use Rattle.std.proofs.lemmas.Result.{err_from_is_err_and}
-use Rattle.annotated.proofs.Cutting.{first_line, next_of, some_left}
+use Rattle.expected_answers.proofs.Cutting.{first_line, next_of, some_left}
 use Rattle.mvsjob.proofs.Asked.{at_fault, in_end, in_line, in_questions, line_asked, nothing_asked}
 use Rattle.mvsjob.proofs.queries.write_with_queries.Goals as goal
 

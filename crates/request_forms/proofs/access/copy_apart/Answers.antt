@@ -2,7 +2,7 @@ use Rattle.std.proofs.Common.{◌≡◌, ◌<◌, ℕ, ◌+◌, ap, subst, lengt
 use Rattle.std.specs.Prelude.{slice_get}
 use Rattle.std.specs.FinMap.{get}
 use Rattle.mvs_model.specs.Place.{PlaceValue, place_at}
-use Rattle.subpool_store.specs.Written.{Puts, written}
+use Rattle.subpool_store.specs.WrittenBytes.{Puts, written}
 use Rattle.request_forms.proofs.Copying.{copied_put}
 use Rattle.request_forms.specs.Access.{Copied}
 use Rattle.request_forms.proofs.access.copy_apart.Goals as goal

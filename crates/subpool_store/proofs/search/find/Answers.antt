@@ -1,6 +1,6 @@
 use Rattle.std.proofs.Common.{◌≡◌, ◌≤◌, length, ◌∙◌, None, refl, sym, subst}
 use Rattle.mvs_model.specs.Place.{PlaceValue}
-use Rattle.subpool_store.specs.Walk.{looked_at}
+use Rattle.subpool_store.specs.PageWalk.{looked_at}
 use Rattle.subpool_store.specs.Search.{may_take, CandidatesAfterBest, Beats, IsCandidate}
 use Rattle.subpool_store.proofs.Begun.{counted_some, counted_within, least_length}
 use Rattle.subpool_store.proofs.Scan.{best_anywhere, best_behind, best_found, best_of_all}

@@ -1,6 +1,6 @@
 use Rattle.std.proofs.Common.{◌-◌, IfSome, length}
 use Rattle.subpool_store.specs.Search.{may_take, IsCandidate, CandidatesAfterBest}
-use Rattle.subpool_store.specs.Walk.{IsWalk}
+use Rattle.subpool_store.specs.PageWalk.{IsWalk}
 use Rattle.subpool_store.proofs.search.find.Given as goal
 
 abbrev pub invariant-runs : goal.invariant-runs

@@ -2,7 +2,7 @@ use Rattle.std.proofs.Common.{◌≡◌, ◌∙◌, ◌+◌, ◌*◌, ◌/◌, �
 use Rattle.std.proofs.lemmas.Bool.{eq-eqb}
 use Rattle.page_map.specs.Owners.{is_usable, owner_of}
 use Rattle.subpool_store.specs.Memory.{IsCursor}
-use Rattle.subpool_store.specs.Walk.{IsPassing, entry_of}
+use Rattle.subpool_store.specs.PageWalk.{IsPassing, entry_of}
 use Rattle.subpool_store.proofs.Begun.{ending_counted, free_passes, inside_counted}
 use Rattle.subpool_store.proofs.Entries.{own_entry}
 use Rattle.subpool_store.proofs.Passed.{held_fails}

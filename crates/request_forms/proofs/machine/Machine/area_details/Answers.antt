@@ -1,6 +1,6 @@
 use Rattle.std.proofs.Common.{◌≡◌, sym, subst, ap}
 use Rattle.mvs_model.specs.Changes.{ShortOf}
-use Rattle.mvs_model.specs.Owners.{keeper}
+use Rattle.mvs_model.specs.Owners.{effective_task}
 use Rattle.mvs_model.specs.Requests.{side_for}
 use Rattle.mvs_model.specs.State.{State}
 use Rattle.mvs_model.specs.Want.{want_of}
@@ -22,6 +22,6 @@ unreachable-requires-in-None c =
     let wanted = subst (λ (st : State). c.want-want.result ≡ want_of ask (side_for st c.args.name form ask.loc)) (ap (λ (m : MachineValue). m.state) c.self.view_is) (want_seen (machine_state c.self.inside.pools c.self.inside.store.storage o) c.args.name _ form ask _ _ _ _ _ named c.residence-residence.ensures c.loc.ensures c.side.ensures c.form_side.ensures c.want-want.ensures.want) in
     let st = c.args.self.now.state in
     let n = c.in-Some.number in
-    not_short st (keeper st.owners c.args.name n) n c.subpool_for.result (want_of ask (side_for st c.args.name form ask.loc)) (round8_some ask.least c.want-want.ensures.some) c.subpool_for.ensures
-    (subst (λ k. ShortOf st (keeper st.owners c.args.name k) k (want_of ask (side_for st c.args.name form ask.loc))) (sym c.in-Some.ensures.1) short.1)
+    not_short st (effective_task st.owners c.args.name n) n c.subpool_for.result (want_of ask (side_for st c.args.name form ask.loc)) (round8_some ask.least c.want-want.ensures.some) c.subpool_for.ensures
+    (subst (λ k. ShortOf st (effective_task st.owners c.args.name k) k (want_of ask (side_for st c.args.name form ask.loc))) (sym c.in-Some.ensures.1) short.1)
     (rw (wanted) at c.in-None.ensures.room)

@@ -1,7 +1,7 @@
 use Rattle.std.proofs.Common.{inl, inr, refl, subst}
 use Rattle.mvs_model.specs.Want.{want_of}
 use Rattle.mvs_model.specs.Changes.{GrantTo, ShortOf}
-use Rattle.mvs_model.specs.Owners.{keeper}
+use Rattle.mvs_model.specs.Owners.{effective_task}
 use Rattle.mvs_model.specs.Requests.{side_for}
 use Rattle.mvs_model.proofs.StepCases.{no_grant}
 use Rattle.mvs_model.proofs.StorageLaws.{round8_some}
@@ -18,7 +18,7 @@ returns-in-None-clause-answer c =
     let old = c.args.self.now.state in
     let t = task_name c.args.self.now c.args.t in
     let want = want_of c.args.ask.now (side_for old t c.args.form c.args.ask.now.loc) in
-    let short = subst (λ n. ShortOf old (keeper old.owners t n) n want) c.in-Some.ensures.1 c.in-None.ensures.granted.0 in
+    let short = subst (λ n. ShortOf old (effective_task old.owners t n) n want) c.in-Some.ensures.1 c.in-None.ensures.granted.0 in
     (inr (is_valid c.args.number c.in-Some.ensures.0, inl (short, refl)), c.in-None.ensures.granted.1)
 
 pub returns-in-Some-obtain_area-clause-answer : goal.returns-in-Some-obtain_area-clause-answer
@@ -28,8 +28,8 @@ returns-in-Some-obtain_area-clause-answer c =
     let new = c.obtain_area.new.self.state in
     let want = want_of c.args.ask.now (side_for old t c.args.form c.args.ask.now.loc) in
     let p = c.in-Some-obtain_area.place in
-    let grant = subst (λ n. GrantTo old (keeper old.owners t n) n want p new) c.in-Some.ensures.1 c.in-Some-obtain_area.ensures.granted in
-    let enough : ShortOf old (keeper old.owners t c.args.number) c.args.number want → ⊥ = λ s. no_grant old (keeper old.owners t c.args.number) c.args.number want p new (round8_some c.args.ask.now.least c.in-Some-obtain_area.ensures.some) s grant in
+    let grant = subst (λ n. GrantTo old (effective_task old.owners t n) n want p new) c.in-Some.ensures.1 c.in-Some-obtain_area.ensures.granted in
+    let enough : ShortOf old (effective_task old.owners t c.args.number) c.args.number want → ⊥ = λ s. no_grant old (effective_task old.owners t c.args.number) c.args.number want p new (round8_some c.args.ask.now.least c.in-Some-obtain_area.ensures.some) s grant in
     ((is_valid c.args.number c.in-Some.ensures.0, (enough, tt)), (p, refl, grant))
 
 pub returns-in-Some-obtain_area-clause-hints : goal.returns-in-Some-obtain_area-clause-hints

@@ -3,7 +3,7 @@ use Rattle.std.specs.Prelude.{ℕ, IfSome, MatchOption, Some}
 use Rattle.mvs_model.specs.Want.{WantValue}
 use Rattle.mvs_model.specs.Changes.{GrantTo, ShortOf}
 use Rattle.mvs_model.specs.Determined.{FollowsHint}
-use Rattle.mvs_model.specs.Owners.{keeper}
+use Rattle.mvs_model.specs.Owners.{effective_task}
 use Rattle.request_forms.specs.Machine.{machine_state}
 use Rattle.task_owner.specs.Tasks.{name_of}
 use Rattle.request_forms.proofs.Obtaining.{area_of, area_agrees, short_of_new, area_of_new, area_takes, bound_keeper, its_subpool, new_subpool, want_seen}
@@ -15,9 +15,9 @@ returns-in-Some-clause-granted c = rw (← c.self.view_is) (
     let st = machine_state c.self.inside.pools c.self.inside.store.storage o in
     let wanted = want_seen st (name_of c.self.inside.tasks c.args.t) _ c.args.form c.args.ask.now _ _ _ _ _ refl c.residence.ensures c.loc.ensures c.side.ensures c.form_side.ensures c.want-want.ensures.want in
     let has = sym c.subpool.ensures ∙ c.in-Some.is in
-    subst (λ (w : WantValue). MatchOption c.obtain.result (ShortOf st (keeper o (name_of c.self.inside.tasks c.args.t) c.args.number) c.args.number w × (machine_state c.self.inside.pools c.obtain.new.self.storage o ≡ st))
-    (λ p. GrantTo st (keeper o (name_of c.self.inside.tasks c.args.t) c.args.number) c.args.number w p (machine_state c.self.inside.pools c.obtain.new.self.storage o))) wanted
-    (area_of c.self.inside.pools _ c.obtain.new.self.storage o (keeper o (name_of c.self.inside.tasks c.args.t) c.args.number) c.args.number c.in-Some.subpool c.want-want.result c.obtain.result c.self.invariant c.obtain.ensures.storage has c.obtain.ensures.grant))
+    subst (λ (w : WantValue). MatchOption c.obtain.result (ShortOf st (effective_task o (name_of c.self.inside.tasks c.args.t) c.args.number) c.args.number w × (machine_state c.self.inside.pools c.obtain.new.self.storage o ≡ st))
+    (λ p. GrantTo st (effective_task o (name_of c.self.inside.tasks c.args.t) c.args.number) c.args.number w p (machine_state c.self.inside.pools c.obtain.new.self.storage o))) wanted
+    (area_of c.self.inside.pools _ c.obtain.new.self.storage o (effective_task o (name_of c.self.inside.tasks c.args.t) c.args.number) c.args.number c.in-Some.subpool c.want-want.result c.obtain.result c.self.invariant c.obtain.ensures.storage has c.obtain.ensures.grant))
 
 pub returns-in_default-clause-granted : goal.returns-in_default-clause-granted
 returns-in_default-clause-granted c = rw (← c.self.view_is) (
@@ -25,8 +25,8 @@ returns-in_default-clause-granted c = rw (← c.self.view_is) (
     let st = machine_state c.self.inside.pools c.self.inside.store.storage o in
     let wanted = want_seen st (name_of c.self.inside.tasks c.args.t) _ c.args.form c.args.ask.now _ _ _ _ _ refl c.residence.ensures c.loc.ensures c.side.ensures c.form_side.ensures c.want-want.ensures.want in
     let none = sym c.subpool.ensures ∙ c.in-None.is in (
-      subst (λ (w : WantValue). ShortOf st (keeper o (name_of c.self.inside.tasks c.args.t) c.args.number) c.args.number w) wanted
-          (short_of_new c.self.inside.pools _ o (keeper o (name_of c.self.inside.tasks c.args.t) c.args.number) c.args.number c.spare-subpool.result c.want-want.result c.self.invariant none c.spare-subpool.ensures c.in_default.ensures.grant.0),
+      subst (λ (w : WantValue). ShortOf st (effective_task o (name_of c.self.inside.tasks c.args.t) c.args.number) c.args.number w) wanted
+          (short_of_new c.self.inside.pools _ o (effective_task o (name_of c.self.inside.tasks c.args.t) c.args.number) c.args.number c.spare-subpool.result c.want-want.result c.self.invariant none c.spare-subpool.ensures c.in_default.ensures.grant.0),
       ap (λ s. machine_state c.self.inside.pools s o) c.in_default.ensures.grant.1,
     ))
 
@@ -37,8 +37,8 @@ returns-in-Some-obtain-clause-granted c = rw (← c.self.view_is) (
     let wanted = want_seen st (name_of c.self.inside.tasks c.args.t) _ c.args.form c.args.ask.now _ _ _ _ _ refl c.residence.ensures c.loc.ensures c.side.ensures c.form_side.ensures c.want-want.ensures.want in
     let none = sym c.subpool.ensures ∙ c.in-None.is in
     let binds = bound_keeper o (name_of c.self.inside.tasks c.args.t) _ c.args.number c.spare-subpool.result c.bind.new.self.owners refl c.bind.ensures.binds in
-    subst (λ (w : WantValue). GrantTo st (keeper o (name_of c.self.inside.tasks c.args.t) c.args.number) c.args.number w c.in-Some-obtain.place (machine_state c.self.inside.pools c.obtain-in-None.new.self.storage c.bind.new.self.owners)) wanted
-    (area_of_new c.self.inside.pools _ c.obtain-in-None.new.self.storage o c.bind.new.self.owners (keeper o (name_of c.self.inside.tasks c.args.t) c.args.number) c.args.number c.spare-subpool.result c.want-want.result c.in-Some-obtain.place
+    subst (λ (w : WantValue). GrantTo st (effective_task o (name_of c.self.inside.tasks c.args.t) c.args.number) c.args.number w c.in-Some-obtain.place (machine_state c.self.inside.pools c.obtain-in-None.new.self.storage c.bind.new.self.owners)) wanted
+    (area_of_new c.self.inside.pools _ c.obtain-in-None.new.self.storage o c.bind.new.self.owners (effective_task o (name_of c.self.inside.tasks c.args.t) c.args.number) c.args.number c.spare-subpool.result c.want-want.result c.in-Some-obtain.place
     c.self.invariant c.obtain-in-None.ensures.storage none c.spare-subpool.ensures binds c.in-Some-obtain.ensures.grant))
 
 pub invariant_of-self : goal.invariant_of-self
@@ -53,7 +53,7 @@ returns-in-Some-clause-hints c = rw (← c.self.view_is) (
     let st = machine_state c.self.inside.pools c.self.inside.store.storage o in
     let wanted = want_seen st (name_of c.self.inside.tasks c.args.t) _ c.args.form c.args.ask.now _ _ _ _ _ refl c.residence.ensures c.loc.ensures c.side.ensures c.form_side.ensures c.want-want.ensures.want in
     let has = sym c.subpool.ensures ∙ c.in-Some.is in
-    let t = keeper o (name_of c.self.inside.tasks c.args.t) c.args.number in
+    let t = effective_task o (name_of c.self.inside.tasks c.args.t) c.args.number in
     subst (λ (w : WantValue). IfSome c.obtain.result (λ p. (a : ℕ) → c.args.hints ≡ Some a → FollowsHint st t c.args.number w a p)) wanted
     (area_takes c.self.inside.pools c.self.inside.store.storage o t c.args.number c.in-Some.subpool c.want-want.result c.args.hints c.obtain.result c.self.invariant (its_subpool o t c.args.number c.in-Some.subpool has) c.obtain.ensures.hints))
 
@@ -63,6 +63,6 @@ returns-in-Some-obtain-clause-hints c = rw (← c.self.view_is) (
     let st = machine_state c.self.inside.pools c.self.inside.store.storage o in
     let wanted = want_seen st (name_of c.self.inside.tasks c.args.t) _ c.args.form c.args.ask.now _ _ _ _ _ refl c.residence.ensures c.loc.ensures c.side.ensures c.form_side.ensures c.want-want.ensures.want in
     let none = sym c.subpool.ensures ∙ c.in-None.is in
-    let t = keeper o (name_of c.self.inside.tasks c.args.t) c.args.number in
+    let t = effective_task o (name_of c.self.inside.tasks c.args.t) c.args.number in
     subst (λ (w : WantValue). (a : ℕ) → c.args.hints ≡ Some a → FollowsHint st t c.args.number w a c.in-Some-obtain.place) wanted
     (area_takes c.self.inside.pools c.self.inside.store.storage o t c.args.number c.spare-subpool.result c.want-want.result c.args.hints (Some c.in-Some-obtain.place) c.self.invariant (new_subpool o t c.args.number c.spare-subpool.result none c.spare-subpool.ensures) c.in-Some-obtain.ensures.hints))

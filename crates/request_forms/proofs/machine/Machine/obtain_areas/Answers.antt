@@ -1,5 +1,5 @@
 use Rattle.std.proofs.Common.{sym, ◌∙◌, ap, refl}
-use Rattle.mvs_model.specs.Owners.{keeper}
+use Rattle.mvs_model.specs.Owners.{effective_task}
 use Rattle.request_forms.specs.Machine.{machine_state}
 use Rattle.task_owner.specs.Tasks.{name_of}
 use Rattle.request_forms.proofs.Obtaining.{bound_keeper}
@@ -8,19 +8,19 @@ use Rattle.request_forms.proofs.machine.Machine.obtain_areas.Goals as goal
 
 pub returns-in-Err-clause-granted : goal.returns-in-Err-clause-granted
 returns-in-Err-clause-granted c = rw (← c.self.view_is) (
-  new_short c.self.inside.pools c.self.inside.store.storage c.self.inside.tasks.owners (keeper c.self.inside.tasks.owners (name_of c.self.inside.tasks c.args.t) c.args.number) c.args.number c.spare-subpool.result c.args.start c.as_slice-in-None.result.now c.args.lengths.now c.in-Err.lack.member c.in-Err.lack.short
+  new_short c.self.inside.pools c.self.inside.store.storage c.self.inside.tasks.owners (effective_task c.self.inside.tasks.owners (name_of c.self.inside.tasks c.args.t) c.args.number) c.args.number c.spare-subpool.result c.args.start c.as_slice-in-None.result.now c.args.lengths.now c.in-Err.lack.member c.in-Err.lack.short
       c.self.invariant c.as_slice-in-None.ensures.items (sym c.subpool.ensures ∙ c.in-None.is) c.spare-subpool.ensures c.in-Err.ensures.places.0,
   ap (λ st. machine_state c.self.inside.pools st c.self.inside.tasks.owners) c.in-Err.ensures.places.1,
 )
 
 pub returns-in-Some-clause-granted : goal.returns-in-Some-clause-granted
 returns-in-Some-clause-granted c = rw (← c.self.view_is)
-    (areas_of c.self.inside.pools c.self.inside.store.storage c.grant_each.new.store.storage c.self.inside.tasks.owners (keeper c.self.inside.tasks.owners (name_of c.self.inside.tasks c.args.t) c.args.number) c.args.number c.in-Some.subpool c.args.start c.as_slice.result.now c.args.lengths.now c.args.hints.now c.grant_each.result
+    (areas_of c.self.inside.pools c.self.inside.store.storage c.grant_each.new.store.storage c.self.inside.tasks.owners (effective_task c.self.inside.tasks.owners (name_of c.self.inside.tasks c.args.t) c.args.number) c.args.number c.in-Some.subpool c.args.start c.as_slice.result.now c.args.lengths.now c.args.hints.now c.grant_each.result
     c.self.invariant c.as_slice.ensures.items (sym c.subpool.ensures ∙ c.in-Some.is) c.grant_each.ensures.places)
 
 pub returns-in-Ok-clause-granted : goal.returns-in-Ok-clause-granted
 returns-in-Ok-clause-granted c = rw (← c.self.view_is)
-    (new_areas c.self.inside.pools c.self.inside.store.storage c.grant_each-in-None.new.store.storage c.self.inside.tasks.owners c.bind.new.self.owners (keeper c.self.inside.tasks.owners (name_of c.self.inside.tasks c.args.t) c.args.number) c.args.number c.spare-subpool.result c.args.start c.as_slice-in-None.result.now c.args.lengths.now c.args.hints.now c.in-Ok.places
+    (new_areas c.self.inside.pools c.self.inside.store.storage c.grant_each-in-None.new.store.storage c.self.inside.tasks.owners c.bind.new.self.owners (effective_task c.self.inside.tasks.owners (name_of c.self.inside.tasks c.args.t) c.args.number) c.args.number c.spare-subpool.result c.args.start c.as_slice-in-None.result.now c.args.lengths.now c.args.hints.now c.in-Ok.places
     c.self.invariant c.as_slice-in-None.ensures.items c.as_slice-in-None.ensures.least (sym c.subpool.ensures ∙ c.in-None.is) c.spare-subpool.ensures (bound_keeper c.self.inside.tasks.owners (name_of c.self.inside.tasks c.args.t) _ c.args.number c.spare-subpool.result c.bind.new.self.owners refl c.bind.ensures.binds) c.in-Ok.ensures.places)
 
 pub invariant_of-self : goal.invariant_of-self
@@ -31,10 +31,10 @@ invariant_of-self-in-None c = areas_agree c.self.inside.pools c.self.inside.stor
 
 pub returns-in-Some-clause-hints : goal.returns-in-Some-clause-hints
 returns-in-Some-clause-hints c = rw (← c.self.view_is)
-    (areas_take c.self.inside.pools c.self.inside.store.storage c.grant_each.new.store.storage c.self.inside.tasks.owners (keeper c.self.inside.tasks.owners (name_of c.self.inside.tasks c.args.t) c.args.number) c.args.number c.in-Some.subpool c.args.start c.as_slice.result.now c.args.lengths.now c.args.hints.now c.grant_each.result
+    (areas_take c.self.inside.pools c.self.inside.store.storage c.grant_each.new.store.storage c.self.inside.tasks.owners (effective_task c.self.inside.tasks.owners (name_of c.self.inside.tasks c.args.t) c.args.number) c.args.number c.in-Some.subpool c.args.start c.as_slice.result.now c.args.lengths.now c.args.hints.now c.grant_each.result
     c.self.invariant c.as_slice.ensures.items (sym c.subpool.ensures ∙ c.in-Some.is) c.grant_each.ensures.places)
 
 pub returns-in-Ok-clause-hints : goal.returns-in-Ok-clause-hints
 returns-in-Ok-clause-hints c = rw (← c.self.view_is)
-    (new_areas_take c.self.inside.pools c.self.inside.store.storage c.grant_each-in-None.new.store.storage c.self.inside.tasks.owners c.bind.new.self.owners (keeper c.self.inside.tasks.owners (name_of c.self.inside.tasks c.args.t) c.args.number) c.args.number c.spare-subpool.result c.args.start c.as_slice-in-None.result.now c.args.lengths.now c.args.hints.now c.in-Ok.places
+    (new_areas_take c.self.inside.pools c.self.inside.store.storage c.grant_each-in-None.new.store.storage c.self.inside.tasks.owners c.bind.new.self.owners (effective_task c.self.inside.tasks.owners (name_of c.self.inside.tasks c.args.t) c.args.number) c.args.number c.spare-subpool.result c.args.start c.as_slice-in-None.result.now c.args.lengths.now c.args.hints.now c.in-Ok.places
     c.self.invariant c.as_slice-in-None.ensures.items c.as_slice-in-None.ensures.least (sym c.subpool.ensures ∙ c.in-None.is) c.spare-subpool.ensures (bound_keeper c.self.inside.tasks.owners (name_of c.self.inside.tasks c.args.t) _ c.args.number c.spare-subpool.result c.bind.new.self.owners refl c.bind.ensures.binds) c.in-Ok.ensures.places)

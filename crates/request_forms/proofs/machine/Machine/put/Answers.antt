@@ -1,7 +1,7 @@
 use Rattle.std.proofs.Common.{length, List, ℕ, ap, sym, ◌∙◌, subst}
 use Rattle.mvs_model.specs.Changes.{Granted}
 use Rattle.mvs_model.specs.Place.{PlaceValue, place_at}
-use Rattle.subpool_store.specs.Written.{Puts}
+use Rattle.subpool_store.specs.WrittenBytes.{Puts}
 use Rattle.request_forms.specs.Machine.{machine_state}
 use Rattle.request_forms.proofs.Accessing.{put_denied, put_done}
 use Rattle.request_forms.proofs.machine.Machine.put.Goals as goal

@@ -1,6 +1,6 @@
 use Rattle.std.proofs.Common.{◌∙◌, length, refl, sym, subst, inl, inr, arith}
 use Rattle.std.proofs.lemmas.Bool.{cases_eq}
-use Rattle.subpool_store.specs.Walk.{IsFull}
+use Rattle.subpool_store.specs.PageWalk.{IsFull}
 use Rattle.subpool_store.proofs.Entries.{entry_own, one_there}
 use Rattle.subpool_store.proofs.counted.Counted.pass_full.Goals as goal
 

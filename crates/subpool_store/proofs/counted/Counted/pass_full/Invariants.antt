@@ -1,5 +1,5 @@
 use Rattle.std.proofs.Common.{◌≡◌, ◌<◌, ◌≤◌, ◌+◌, ◌-◌, ℕ, length}
-use Rattle.subpool_store.specs.Walk.{IsFull, entries_to, entry_of}
+use Rattle.subpool_store.specs.PageWalk.{IsFull, entries_to, entry_of}
 use Rattle.subpool_store.proofs.counted.Counted.pass_full.Given as goal
 
 abbrev pub invariant-pages : goal.invariant-pages

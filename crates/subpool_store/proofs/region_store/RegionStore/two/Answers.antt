@@ -3,7 +3,7 @@ use Rattle.std.specs.Prelude.{unwrap_or}
 use Rattle.mvs_model.specs.Storage.{IsBetween}
 use Rattle.region_raw.specs.Pages.{with_part}
 use Rattle.subpool_store.specs.Region.{value_at}
-use Rattle.subpool_store.specs.Written.{region_written}
+use Rattle.subpool_store.specs.WrittenBytes.{region_written}
 use Rattle.subpool_store.proofs.LentRegion.{lends_region}
 use Rattle.subpool_store.proofs.Methods.{all_inside, part_bytes}
 use Rattle.subpool_store.proofs.Opened.{opened_written, written_held}

@@ -1,6 +1,0 @@
-use Rattle.std.proofs.Common.{◌∙◌, ap}
-use Rattle.annotated.proofs.Walking.{begins, some_mapped}
-use Rattle.annotated.proofs.printed.begins_with.Goals as goal
-
-pub returns : goal.returns
-returns c = c.is_some.ensures ∙ some_mapped c.numbered.result _ c.numbered.ensures ∙ begins c.args.number c.args.printed.now c.split_once.result.0.now c.split_once.ensures.before

@@ -1,6 +1,0 @@
-use Rattle.std.proofs.Common.{◌≡◌, ◌++◌, take}
-use Rattle.annotated.specs.Reports.{escaped}
-use Rattle.annotated.proofs.shown.push_escaped.Given as goal
-
-abbrev pub invariant-loop-byte : goal.invariant-loop-byte
-invariant-loop-byte l = l.report.items ≡ l.initial.report.items ++ escaped (take l.byte-index l.text)

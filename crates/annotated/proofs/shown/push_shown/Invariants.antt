@@ -1,6 +1,0 @@
-use Rattle.std.proofs.Common.{◌≡◌, ◌++◌, take}
-use Rattle.annotated.specs.Reports.{shown}
-use Rattle.annotated.proofs.shown.push_shown.Given as goal
-
-abbrev pub invariant-loop-byte : goal.invariant-loop-byte
-invariant-loop-byte l = l.report.items ≡ l.initial.report.items ++ shown (take l.byte-index l.text)

@@ -1,0 +1,17 @@
+use Rattle.std.proofs.Common.{◌≡◌, ◌+◌, ◌-◌, ◌<◌, ◌^◌, length}
+use Rattle.mvs_model.specs.Lines.{lines_of}
+use Rattle.expected_answers.specs.ExpectedAnswers.{expected_answers}
+use Rattle.expected_answers.specs.Reports.{total}
+use Rattle.expected_answers.proofs.Walking.{counted}
+use Rattle.expected_answers.proofs.report.count.Given as goal
+
+abbrev pub invariant-answers : goal.invariant-answers
+invariant-answers l = record {
+  room : l.answers.number + length l.answers.script.now < 2 ^ 32;
+  few : total l.counts < l.answers.number;
+  same : counted l.counts (expected_answers l.answers.number (lines_of l.answers.script.now) (lines_of l.answers.printed.now))
+      ≡ counted l.initial.counts (expected_answers l.initial.answers.number (lines_of l.initial.answers.script.now) (lines_of l.initial.answers.printed.now));
+}
+
+abbrev pub decreases-answers : goal.decreases-answers
+decreases-answers l = 4294967296 - l.answers.number
