@@ -1,5 +1,5 @@
 -- The entry of a line, by the clauses of the call that executes it.
-use Rattle.std.proofs.Common.{◌≡◌, ℕ, inl, inr, List, [], ◌∷◌, Option, Bool, refl, sym, subst}
+use Rattle.std.proofs.Common.{◌≡◌, ℕ, inl, inr, List, [], ◌∷◌, Option, Bool, refl, sym, ap, subst}
 use Rattle.mvs_model.specs.declared.line.Fault.{Fault}
 use Rattle.mvs_model.specs.declared.outcome.Outcome.{Outcome}
 use Rattle.mvs_model.specs.Memory.{StopsForMemory}
@@ -57,3 +57,7 @@ entry_exhausted w line n o at (said, of, takes) =
 pub entry_closed : (w : WalkValue) (n : ℕ) (o : Option Bool) (outcome : Outcome) → n ≡ w.number → Closes machine w.number w.step (closing w.number o) outcome → (e : Entry) × IsClosed w.number w.step outcome e × IsEnd n (end.Closed o) e
 entry_closed w n o outcome at closes =
     subst (λ n. (e : Entry) × IsClosed w.number w.step outcome e × IsEnd n (end.Closed o) e) (sym at) (_, (closing w.number o, closes, refl), ((outcome, (closing w.number o, closes, refl)), refl))
+
+-- The step before the last entry is the one in which the job ends.
+pub closed_before : (number : ℕ) (old : Option JobValue) (outcome : Outcome) (e : Entry) → IsClosed number old outcome e → e.before ≡ old
+closed_before number old outcome e (events, closes, is) = ap (λ (e : Entry). e.before) is

@@ -44,6 +44,11 @@ abbrev pub IsEnd : ℕ → End → Entry → Type 0
 IsEnd number (end.Closed ended) e = ((outcome : Outcome) × IsClosed number e.before outcome e) × (e.events ≡ closing number ended)
 IsEnd number (end.Exhausted end) e = ((line : List ℕ) × IsExhausted number e.before line e) × (e.events ≡ ended end)
 
+-- The job is in the step before the last entry, if the trace is closed.
+abbrev pub EndsIn : WalkValue → End → Entry → Type 0
+EndsIn w (end.Closed ended) e = e.before ≡ w.step
+EndsIn w (end.Exhausted end) e = Unit {0}
+
 -- A front of a piece for the entry is written between two moments of a writer.
 abbrev pub WritesFront : Piece → Option (List ℕ) → Option (List ℕ) → List Entry → Entry → Type 0
 WritesFront piece before after history e = (text : List ℕ) × piece.may history e text × AppendsFront before after text
@@ -75,8 +80,8 @@ AcceptsLast piece knows before after s history e result =
     MatchResult result (λ _. WritesPiece piece before after history e × knows.has s (history ++ e ∷ [])) (λ _. WritesFront piece before after history e × knows.had s history)
 
 -- It does so whatever entries it had, for each entry that its arguments describe.
-abbrev pub AcceptsEnd : {S X : Type 0} → Piece → Known S → Option (List ℕ) → Option (List ℕ) → S → S → ℕ → End → Result X Failed → Type 0
-AcceptsEnd piece knows before after s s' number end result = (history : List Entry) (e : Entry) → IsEnd number end e → knows.has s history → AcceptsLast piece knows before after s' history e result
+abbrev pub AcceptsEnd : {S X : Type 0} → Piece → Known S → Option (List ℕ) → Option (List ℕ) → S → S → ℕ → WalkValue → End → Result X Failed → Type 0
+AcceptsEnd piece knows before after s s' number w end result = (history : List Entry) (e : Entry) → IsEnd number end e → EndsIn w end e → knows.has s history → AcceptsLast piece knows before after s' history e result
 
 -- ---- a run
 

@@ -55,16 +55,17 @@ pub trait Consumer: Observer {
         ensures ok { OnOk result (writer.new.failed ≡ writer.old.failed) }
         ensures write { IsErrOf result Stop.Write → writer.new.failed ≡ true };
 
-    /// Accepts the last entry of a trace that ends after its lines.
+    /// Accepts the last entry of a trace that ends after its lines. If it is closed, the job is still in the state after them.
     fn end<W: Write>(
         &mut self,
         writer: &mut Watched<W>,
         line_number: u32,
+        walk: &Walk,
         end: End,
     ) -> Result<(), Failed>
         ensures accepted { (first : Self) → AcceptsEnd piece (knows first)
             (W.contents writer.old.inner) (W.contents writer.new.inner) self.old self.new line_number
-            end result }
+            walk.now end result }
         ensures ok { OnOk result (writer.new.failed ≡ writer.old.failed) }
         ensures err { OnErr result (writer.new.failed ≡ true) };
 }

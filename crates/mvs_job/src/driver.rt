@@ -39,7 +39,12 @@ pub fn run_entry<W: Write, C: Consumer>(
             Ok(()) => Ok(!matches!(told, LineEvent::Faulted(_))),
             Err(stop) => Err(stop),
         },
-        Err(stopped) => match consumer.end(writer, line_number, End::Exhausted(stopped.ended)) {
+        Err(stopped) => match consumer.end(
+            writer,
+            line_number,
+            walk,
+            End::Exhausted(stopped.ended),
+        ) {
             Ok(()) => Err(Stop::Memory),
             Err(_) => Err(Stop::Write),
         },
@@ -58,7 +63,7 @@ pub fn run_end<W: Write, C: Consumer>(
     ensures write { IsErrOf result Stop.Write → writer.new.failed ≡ true }
 {
     let closing = walk.close();
-    match consumer.end(writer, walk.number(), End::Closed(closing.ended)) {
+    match consumer.end(writer, walk.number(), walk, End::Closed(closing.ended)) {
         Ok(()) => Ok(closing.outcome),
         Err(_) => Err(Stop::Write),
     }

@@ -177,9 +177,10 @@ impl<'a, C: Consumer, H: SkipObserver> Consumer for Strict<'a, C, H> {
         &mut self,
         writer: &mut Watched<W>,
         line_number: u32,
+        walk: &Walk,
         end: End,
     ) -> Result<(), Failed> {
-        self.consumer.end(writer, line_number, end)
+        self.consumer.end(writer, line_number, walk, end)
     }
 }
 

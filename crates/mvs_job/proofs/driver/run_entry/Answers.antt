@@ -37,12 +37,12 @@ pub returns-in-Ok-end-clause-ran : goal.returns-in-Ok-end-clause-ran
 returns-in-Ok-end-clause-ran g c first history known =
     let r = entry_exhausted c.args.walk.now c.args.line.now c.number-line_number.result c.in-Err.stopped.ended c.number-line_number.ensures c.in-Err.ensures.told in
     let mine = subst (λ s. (g.C.Consumer.knows first).has s history) (sym c.in-Err.ensures.unheard) (c.look.ensures.knows first history known) in
-    let q = c.in-Ok-end.ensures.accepted first history r.0 r.2 mine in
+    let q = c.in-Ok-end.ensures.accepted first history r.0 r.2 tt mine in
     inl (r.0, r.1, q.0, q.1)
 
 pub returns-in-Err-end-clause-ran : goal.returns-in-Err-end-clause-ran
 returns-in-Err-end-clause-ran g c first history known =
     let r = entry_exhausted c.args.walk.now c.args.line.now c.number-line_number.result c.in-Err.stopped.ended c.number-line_number.ensures c.in-Err.ensures.told in
     let mine = subst (λ s. (g.C.Consumer.knows first).has s history) (sym c.in-Err.ensures.unheard) (c.look.ensures.knows first history known) in
-    let q = c.in-Err-end.ensures.accepted first history r.0 r.2 mine in
+    let q = c.in-Err-end.ensures.accepted first history r.0 r.2 tt mine in
     (r.0, inr (inr r.1), q.0, q.1)
