@@ -90,7 +90,7 @@ impl Consumer for EventLines {
         &mut self,
         writer: &mut Watched<W>,
         line_number: u32,
-        _: &Walk,
+        _walk: &Walk,
         end: End,
     ) -> Result<(), Failed> {
         match end {

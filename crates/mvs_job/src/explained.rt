@@ -89,7 +89,7 @@ impl Consumer for Explained {
         &mut self,
         writer: &mut Watched<W>,
         line_number: u32,
-        _: &Walk,
+        _walk: &Walk,
         end: End,
     ) -> Result<(), Failed> {
         match end {

@@ -59,7 +59,7 @@ impl Consumer for Printer {
         &mut self,
         writer: &mut Watched<W>,
         line_number: u32,
-        _: &Walk,
+        _walk: &Walk,
         end: End,
     ) -> Result<(), Failed> {
         match end {
