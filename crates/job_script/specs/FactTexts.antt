@@ -2,7 +2,7 @@
 -- notation)
 use Rattle.std.specs.Prelude.{ℕ, ◌-◌, ◌==◌, List, ◌++◌, codes, decimal, if◌then◌else◌}
 use Rattle.mvs_model.specs.declared.fact.Fact.{Fact}
-use Rattle.mvs_model.specs.declared.fact.Fact.TheVariants.{Obtained, NoGreater, NewSubpool, PagesTaken, PagesFreed, Emptied, CellTaken, PartAdded, GivenOperands, Shared}
+use Rattle.mvs_model.specs.declared.fact.Fact.TheVariants.{Obtained, NoGreater, NewSubpool, PagesTaken, PagesFreed, Emptied, CellTaken, PartAdded, Given, Shared}
 use Rattle.mvs_model.specs.declared.name.Name.{Name}
 use Rattle.mvs_model.specs.Name.{trimmed}
 use Rattle.mvs_model.specs.Place.{PlaceValue}
@@ -102,7 +102,7 @@ fact_text (PagesFreed n) = pages_do n (codes " became free. (rule 5)") (codes " 
 fact_text (Emptied number owner) = subpool_words number owner ++ codes " is now empty. (rule 34)"
 fact_text (CellTaken cell pool place) = cell_text cell pool place
 fact_text (PartAdded pool cells size place) = part_text pool cells size place
-fact_text (GivenOperands subtask number mother) = given_text subtask number mother
+fact_text (Given subtask number mother) = given_text subtask number mother
 fact_text (Shared subtask number owner) = shared_text subtask number owner
 
 -- the line of a fact, which is a comment in the language of scripts

@@ -277,7 +277,7 @@ fn push_fact(text: &mut LineText, fact: &Fact)
             size,
             place,
         } => push_part(text, pool, *cells, *size, *place),
-        Fact::GivenOperands {
+        Fact::Given {
             subtask,
             number,
             mother,

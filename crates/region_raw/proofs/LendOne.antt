@@ -16,7 +16,7 @@ use types.Kit.{‵, raw, ◌⊛◌, ◌$◌, ◌∵◌, !, qed, by, move, use1, 
 use denote.Builtin.{u8}
 use denote.Memory.{mem, cell_at, part_of}
 use denote.RawPtr.{Ptr, block_ptr}
-use denote.Slice.{FreeSpace}
+use denote.Slice.{Room}
 use denote.FollowSlice.{Elements, lends_Elements}
 use Rattle.region_raw.specs.Rows.{overlaid, written}
 use Rattle.region_raw.specs.BorrowsRaw.{with_run}
@@ -59,14 +59,14 @@ module _ {M : Type 1} {𝓤 : Ura M} (𝓛 : Logic 𝓤) (κ : Lft) (q : Share) 
       rewrite ! 0 (λ (p : Ptr). ‵ (owned p (F w).bytes)) (sym e) refl $ move ! (1 ∷ 0 ∷ []) $ fjoin ! $ move ! (1 ∷ 0 ∷ []) $ fjoin ! $
       fpack ! (List Val) (λ us. fsep (cell_at full_share BytesRow.mir us rb ro) (BytesRow.own_val (F w) us)) vs $ done !
 
-  pub room_x : FreeSpace u8 (length xs)
+  pub room_x : Room u8 (length xs)
   room_x = (omega arith, omega arith)
 
   abbrev pub Lent : GName → SProp 𝓤
   Lent = Elements 𝓛 BytesRow u8 F (named 0) κ q rb ro b (o + i) γ xs room_x Rest whole
 
-  pub has_long_data : (u v : Gv) → ent 𝓤 (sep 𝓤 (A.obor κ q (Body (mem BytesRow) rb ro γ)) (sep 𝓤 (A.obs γ u) (sep 𝓤 (A.auth γ v) (sep 𝓤 (sem 𝓛 (row b o d.bytes)) (sep 𝓤 (sem 𝓛 FieldsHere) (sem 𝓛 CellHere)))))) (H.⇛ (ex 𝓤 Lent))
-  has_long_data u v = qed 𝓛 (‵ (fobor κ q (Body (mem BytesRow) rb ro γ)) ∷ ‵ (fobs γ u) ∷ ‵ (fauth γ v) ∷ ‵ (row b o d.bytes) ∷ ‵ FieldsHere ∷ ‵ CellHere ∷ []) ∵ move ! (3 ∷ []) $
+  pub borrows : (u v : Gv) → ent 𝓤 (sep 𝓤 (A.obor κ q (Body (mem BytesRow) rb ro γ)) (sep 𝓤 (A.obs γ u) (sep 𝓤 (A.auth γ v) (sep 𝓤 (sem 𝓛 (row b o d.bytes)) (sep 𝓤 (sem 𝓛 FieldsHere) (sem 𝓛 CellHere)))))) (H.⇛ (ex 𝓤 Lent))
+  borrows u v = qed 𝓛 (‵ (fobor κ q (Body (mem BytesRow) rb ro γ)) ∷ ‵ (fobs γ u) ∷ ‵ (fauth γ v) ∷ ‵ (row b o d.bytes) ∷ ‵ FieldsHere ∷ ‵ CellHere ∷ []) ∵ move ! (3 ∷ []) $
       use1 𝓛 (‵ (row b (o + i) (take n (drop i d.bytes))) ⊛ ‵ Beside) (out 𝓛 b d.bytes o i n fits) $ split ! $
       rewrite ! 0 (λ (l : List (Option ℕ)). ‵ (row b (o + i) l)) is_x refl $ use1 𝓛 (‵ (cells (mem u8) xs b (o + i))) (to_cells 𝓛 b xs (o + i)) $
       -- [the run; round it; the open borrow; obs; auth; the mark; its cell]

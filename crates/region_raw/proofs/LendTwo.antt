@@ -21,7 +21,7 @@ use denote.Memory.{mem, shares, shared_of, cell_at, part_of}
 use denote.RattleType.{RattleType}
 use denote.RawPtr.{Ptr, block_ptr}
 use denote.Ref.{MutBor, Bor}
-use denote.Slice.{MutSlice, ShrSlice, FreeSpace, elements_shared, slice_val}
+use denote.Slice.{MutSlice, ShrSlice, Room, elements_shared, slice_val}
 use denote.Follow.{follows}
 use denote.FollowSlice.{slice_of}
 use denote.Opens.{hide}
@@ -106,9 +106,9 @@ module _ {M : Type 1} {𝓤 : Ura M} (𝓛 : Logic 𝓤) where
     Lent δ = sep 𝓤 (sem 𝓛 ((ShrSlice (named 0) κ u8).own_val read (slice_val (b, o + i) (length xs) ∷ []))) (sep 𝓤 (sem 𝓛 ((MutSlice (named 0) κ u8).own_val (wrote δ) (slice_val (b, o + j) (length ys) ∷ [])))
         (sep 𝓤 (A.lft κ q) (sem 𝓛 (follows BytesRow (Array u8 0) γ δ F))))
 
-    pub has_long_data : (u v : Gv) → ent 𝓤 (sep 𝓤 (A.obor κ q (Body (mem BytesRow) rb ro γ)) (sep 𝓤 (A.obs γ u) (sep 𝓤 (A.auth γ v) (sep 𝓤 (sem 𝓛 (row b o d.bytes)) (sep 𝓤 (sem 𝓛 FieldsHere) (sem 𝓛 CellHere)))))) (H.⇛ (ex 𝓤 Lent))
+    pub borrows : (u v : Gv) → ent 𝓤 (sep 𝓤 (A.obor κ q (Body (mem BytesRow) rb ro γ)) (sep 𝓤 (A.obs γ u) (sep 𝓤 (A.auth γ v) (sep 𝓤 (sem 𝓛 (row b o d.bytes)) (sep 𝓤 (sem 𝓛 FieldsHere) (sem 𝓛 CellHere)))))) (H.⇛ (ex 𝓤 Lent))
     unfolding fseps
-    has_long_data u v = let room_y : FreeSpace u8 (length ys) = (omega arith, omega arith) in
+    borrows u v = let room_y : Room u8 (length ys) = (omega arith, omega arith) in
         qed 𝓛 (‵ (fobor κ q (Body (mem BytesRow) rb ro γ)) ∷ ‵ (fobs γ u) ∷ ‵ (fauth γ v) ∷ ‵ (row b o d.bytes) ∷ ‵ FieldsHere ∷ ‵ CellHere ∷ []) ∵ updating ! $ move ! (3 ∷ []) $
         use1 𝓛 (‵ (row b (o + i) (take n (drop i d.bytes))) ⊛ (‵ (row b (o + j) (take n (drop j d.bytes))) ⊛ raw Keep)) (both_out 𝓛 b d.bytes o i j n apart fits_i fits_j) $ split ! $ move ! (1 ∷ []) $ split ! $
         rewrite ! 0 (λ (l : List (Option ℕ)). ‵ (row b (o + j) l)) is_y refl $ use1 𝓛 (‵ (cells (mem u8) ys b (o + j))) (to_cells 𝓛 b ys (o + j)) $ feq_i ! ℕ (length ys) (length ys) refl $ fjoin ! $

@@ -60,5 +60,5 @@ module _ (count : ℕ) (block : List (Option ℕ)) (i : Sound count block) (view
       let on = repaged page_bytes i.1.0 (overlaid (row_of i.1.0) at ws) i.1.1 (marks_overlaid (row_of i.1.0) at ws) in
       (i.0, (on.0, on.1, on.2 ∙ i.1.2, ap (λ l. overlaid l at ws) i.1.3 ∙ on.3))
 
-  pub has_long_data : (at : ℕ) (ws : List ℕ) → pages_of page_bytes count (overlaid block at ws) ≡ with_part view at ws
-  has_long_data at ws = (λ j. pages_of page_bytes (sym i.1.2 j) (overlaid (i.1.3 j) at ws)) ∙ ap (λ l. with_part l at ws) same
+  pub borrows : (at : ℕ) (ws : List ℕ) → pages_of page_bytes count (overlaid block at ws) ≡ with_part view at ws
+  borrows at ws = (λ j. pages_of page_bytes (sym i.1.2 j) (overlaid (i.1.3 j) at ws)) ∙ ap (λ l. with_part l at ws) same

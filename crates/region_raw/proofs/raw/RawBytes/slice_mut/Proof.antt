@@ -7,7 +7,7 @@ use Rattle.region_raw.specs.contracts.raw.RawBytes.slice_mut as f
 use Rattle.region_raw.proofs.Runs.{length-run}
 use Rattle.region_raw.proofs.Starts.{StartRow, word, word_tells, good}
 use Rattle.region_raw.proofs.LendTwo.{BytesRow}
-use Rattle.region_raw.proofs.LendOne.{Lent, has_long_data}
+use Rattle.region_raw.proofs.LendOne.{Lent, borrows}
 use Rattle.region_raw.proofs.raw.RawBytes.slice_mut.Statement.{statement}
 use Rattle.region_raw.proofs.raw.RawBytes.slice_mut.Code as code
 
@@ -41,7 +41,7 @@ slice_mut_spec 𝓤 𝓛 𝓜 𝓡 wired =
     let v : Val = slice_val (b, i + o) n in
     let is : slice_val (b, o + i) (length xs) ≡ v = (λ k. slice_val (b, sym at_i k) (long k)) in
     move ! (3 ∷ 4 ∷ 5 ∷ 0 ∷ 1 ∷ 2 ∷ []) $ group ! 6 $
-    use1 𝓛 (later (some (λ (δ : GName). raw (Ends δ)))) (has_long_data 𝓛 κ q rb ro γ d us b o i n xs e filled.0 small filled.1 long (BytesRow.coded.code d) (BytesRow.coded.code d)) $ await ! tt $ pick ! (λ δ.
+    use1 𝓛 (later (some (λ (δ : GName). raw (Ends δ)))) (borrows 𝓛 κ q rb ro γ d us b o i n xs e filled.0 small filled.1 long (BytesRow.coded.code d) (BytesRow.coded.code d)) $ await ! tt $ pick ! (λ δ.
     let full_answer : MutBor (List ℕ) = record { ref_ptr = (b, o + i); ghost_name = δ; now = xs } in
     use1 𝓛 (‵ ((MutSlice (named 0) κ u8).own_val full_answer (slice_val (b, o + i) (length xs) ∷ [])) ⊛ (‵ (flft κ q) ⊛ ‵ (follows BytesRow (Array u8 0) γ δ (with_run d i n)))) (id⊢ 𝓤 _) $ split3 ! $
     rewrite ! 0 (λ (w : Val). ‵ ((MutSlice (named 0) κ u8).own_val full_answer (w ∷ []))) is refl $

@@ -4,7 +4,7 @@ use Rattle.region_raw.specs.Rows.{IsApart, IsRun, run}
 use Rattle.region_raw.specs.BorrowsRaw.{with_run}
 use Rattle.region_raw.specs.Ownership.{owned}
 use Rattle.region_raw.specs.contracts.raw.RawBytes.two as f
-use Rattle.region_raw.proofs.LendTwo.{BytesRow, Lent, has_long_data}
+use Rattle.region_raw.proofs.LendTwo.{BytesRow, Lent, borrows}
 use Rattle.region_raw.proofs.Runs.{length-run}
 use Rattle.region_raw.proofs.Starts.{StartRow, word, word_tells, good}
 use Rattle.region_raw.proofs.raw.RawBytes.two.Statement.{statement}
@@ -49,7 +49,7 @@ two_spec 𝓤 𝓛 𝓜 𝓡 wired =
     let first : Bor (List ℕ) = record { ref_ptr = (b, o + i); now = xs } in
     let v : Val = vstruct (vcons (slice_val (b, i + o) n) (vcons (slice_val (b, j + o) n) vnil)) in
     move ! (3 ∷ 4 ∷ 5 ∷ 0 ∷ 1 ∷ 2 ∷ []) $ group ! 6 $
-    use1 𝓛 (later (some (λ (δ : GName). raw (Ends δ)))) (has_long_data 𝓛 κ q rb ro γ d us b o i j n xs ys e apart source.0 target.0 small source.1 target.1 long_x long_y (BytesRow.coded.code d) (BytesRow.coded.code d)) $ await ! tt $ pick ! (λ δ.
+    use1 𝓛 (later (some (λ (δ : GName). raw (Ends δ)))) (borrows 𝓛 κ q rb ro γ d us b o i j n xs ys e apart source.0 target.0 small source.1 target.1 long_x long_y (BytesRow.coded.code d) (BytesRow.coded.code d)) $ await ! tt $ pick ! (λ δ.
     let second : MutBor (List ℕ) = record { ref_ptr = (b, o + j); ghost_name = δ; now = ys } in
     use1 𝓛 (‵ ((ShrSlice (named 0) κ u8).own_val first (slice_val (b, o + i) (length xs) ∷ [])) ⊛ (‵ ((MutSlice (named 0) κ u8).own_val second (slice_val (b, o + j) (length ys) ∷ [])) ⊛ (‵ (flft κ q) ⊛ ‵ (follows BytesRow (Array u8 0) γ δ (with_run d j n))))) (id⊢ 𝓤 _) $ split3 ! $
     nothing ! $ move ! (2 ∷ 0 ∷ []) $ fjoin ! $ move ! (1 ∷ 0 ∷ []) $ fjoin ! $

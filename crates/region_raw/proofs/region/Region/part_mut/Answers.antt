@@ -1,5 +1,5 @@
 use Rattle.std.proofs.Common.{refl, sym, ap, ◌∙◌, Some, get_or, length, take}
-use Rattle.region_raw.proofs.Parts.{kept, length-part, has_long_data, part_is, part_reads, part_writes, run_of}
+use Rattle.region_raw.proofs.Parts.{kept, length-part, borrows, part_is, part_reads, part_writes, run_of}
 use Rattle.region_raw.proofs.region.Region.part_mut.Goals as goal
 
 pub part_mut-requires : goal.part_mut-requires
@@ -11,7 +11,7 @@ invariant_of-self-lent c = λ w. kept c.self.inside.count c.self.inside.block c.
 pub returns : goal.returns
 returns c =
     let is = c.part_mut.ensures.value ∙ part_is c.self.inside.count c.self.inside.block c.self.invariant c.args.self.now c.self.view_is c.args.at c.args.n in (
-      (refl, λ w. has_long_data c.self.inside.count c.self.inside.block c.self.invariant c.args.self.now c.self.view_is c.args.at (take c.args.n w)),
+      (refl, λ w. borrows c.self.inside.count c.self.inside.block c.self.invariant c.args.self.now c.self.view_is c.args.at (take c.args.n w)),
       record {
         writes_back = tt;
         writes = part_writes c.self.inside.count c.self.inside.block c.self.invariant c.args.self.now c.self.view_is c.args.at;

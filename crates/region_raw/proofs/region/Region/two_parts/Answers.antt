@@ -1,5 +1,5 @@
 use Rattle.std.proofs.Common.{refl, sym, ap, ◌∙◌, Some, get_or, length, take}
-use Rattle.region_raw.proofs.Parts.{kept, length-part, has_long_data, part_is, part_reads, part_writes, run_of}
+use Rattle.region_raw.proofs.Parts.{kept, length-part, borrows, part_is, part_reads, part_writes, run_of}
 use Rattle.region_raw.proofs.region.Region.two_parts.Goals as goal
 
 pub two_parts-requires-clause-source : goal.two_parts-requires-clause-source
@@ -15,7 +15,7 @@ pub returns : goal.returns
 returns c =
     let first = c.two_parts.ensures.read ∙ part_is c.self.inside.count c.self.inside.block c.self.invariant c.args.self.now c.self.view_is c.args.from c.args.n in
     let second = c.two_parts.ensures.written ∙ part_is c.self.inside.count c.self.inside.block c.self.invariant c.args.self.now c.self.view_is c.args.to c.args.n in (
-      (refl, λ w. has_long_data c.self.inside.count c.self.inside.block c.self.invariant c.args.self.now c.self.view_is c.args.to (take c.args.n w)),
+      (refl, λ w. borrows c.self.inside.count c.self.inside.block c.self.invariant c.args.self.now c.self.view_is c.args.to (take c.args.n w)),
       record {
         writes_back = tt;
         writes = part_writes c.self.inside.count c.self.inside.block c.self.invariant c.args.self.now c.self.view_is c.args.to;
