@@ -35,7 +35,7 @@ pub record Made (job new : JobValue) (a : SourceRequest) (r : Request) (reply : 
   pub names : new.names ≡ all_set job.names (names_set a) (places_in reply)
   pub abended : new.abended ≡ (job.abended || is_abend reply)
   pub former : new.former ≡ job.former
-  pub hints : answer ≡ answer_of job.state a r reply
+  pub told : answer ≡ answer_of job.state a r reply
 
 pub made_of : (job new : JobValue) (t : Name) (a : SourceRequest) (r : Request) (answer : Answer) (k : Makes InFull job t a r answer new) → Made job new a r k.reply answer
 made_of job new t a r answer k = record { names = k.names; abended = k.abended; former = k.former; told = k.told }
