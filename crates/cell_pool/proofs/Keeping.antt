@@ -7,7 +7,7 @@ use Rattle.std.specs.FinMap.{FinMap, get, empty, get-empty}
 use Rattle.std.proofs.lemmas.Bool.Decides.{nat_tests}
 use Rattle.mvs_model.specs.declared.name.Name.{Name}
 use Rattle.mvs_model.specs.Name.{name_cmp}
-use Rattle.mvs_model.specs.Finite.{has, filtered}
+use Rattle.mvs_model.specs.Finite.{has, kept}
 use Rattle.mvs_model.specs.Place.{PlaceValue}
 use Rattle.mvs_model.specs.Want.{WantValue}
 use Rattle.mvs_model.specs.Storage.{Storage, holder as held_by, IsStorage, Covers, covers, has_address, Grant}
@@ -70,8 +70,8 @@ releases_keep test roots old new whole is regions held bytes none = let agree = 
   held = λ name r j d e l c. held d ∙ at r.subpool (held_by old d) (part_held roots old agree name r j d e l c) (none name r e);
   heads = λ name r j x e l low high. ap (λ o. unwrap_or o 0) (bytes x ∙ past (has test (held_by old (x / 8))) None (get old.bytes x) (λ t. other r.subpool (held_by old (x / 8)) (part_held roots old agree name r j (x / 8) e l (head_covered roots old agree r j x low high)) (none name r e) t));
 } where
-  at : (t : ℕ) (o : Option ℕ) → o ≡ Some t → test t ≡ false → filtered (λ u. not (test u)) o ≡ o
-  at t o e h = ap (filtered (λ u. not (test u))) e ∙ ap (λ b. cond (not b) (Some t) None) h ∙ sym e
+  at : (t : ℕ) (o : Option ℕ) → o ≡ Some t → test t ≡ false → kept (λ u. not (test u)) o ≡ o
+  at t o e h = ap (kept (λ u. not (test u))) e ∙ ap (λ b. cond (not b) (Some t) None) h ∙ sym e
 
   other : (t : ℕ) (o : Option ℕ) → o ≡ Some t → test t ≡ false → has test o ≡ true → ⊥
   other t o e h f = absurd (let g : false ≡ true = sym h ∙ sym (ap (has test) e) ∙ f in cc)
@@ -156,17 +156,17 @@ drops_pools test roots fewer st agree keeps = (fewer_agree roots fewer st agree 
     by q true t f g = absurd (let h : ◌≡◌ {A = Option Root} None (Some r) = g in cc)
     by q false t f g = (f ∙ g, (let same : q ≡ r = cc in subst (λ (w : Root). test w.subpool ≡ false) same t))
 
-    at : (v : Option Root) → get roots name ≡ v → filtered (λ (q : Root). not (test q.subpool)) v ≡ Some r → (get roots name ≡ Some r) × (test r.subpool ≡ false)
+    at : (v : Option Root) → get roots name ≡ v → kept (λ (q : Root). not (test q.subpool)) v ≡ Some r → (get roots name ≡ Some r) × (test r.subpool ≡ false)
     at None f g = absurd (let h : ◌≡◌ {A = Option Root} None (Some r) = g in cc)
     at (Some q) f g = by q (test q.subpool) refl f g
 
   pools_left : Keeps (get (pools_of roots st)) (λ _ pool. not (test pool.subpool)) (get (pools_of fewer st))
-  pools_left n = get-pools_of fewer st n ∙ ap (option_map (pool_of (byte_of st))) (keeps n) ∙ at (get roots n) ∙ sym (ap (filtered (λ pool. not (test pool.subpool))) (get-pools_of roots st n)) where
+  pools_left n = get-pools_of fewer st n ∙ ap (option_map (pool_of (byte_of st))) (keeps n) ∙ at (get roots n) ∙ sym (ap (kept (λ pool. not (test pool.subpool))) (get-pools_of roots st n)) where
     by : (r : Root) (b : Bool) → option_map (pool_of (byte_of st)) (cond b (Some r) None) ≡ cond b (Some (pool_of (byte_of st) r)) None
     by r true = refl
     by r false = refl
 
-    at : (v : Option Root) → option_map (pool_of (byte_of st)) (filtered (λ (r : Root). not (test r.subpool)) v) ≡ filtered (λ pool. not (test pool.subpool)) (option_map (pool_of (byte_of st)) v)
+    at : (v : Option Root) → option_map (pool_of (byte_of st)) (kept (λ (r : Root). not (test r.subpool)) v) ≡ kept (λ pool. not (test pool.subpool)) (option_map (pool_of (byte_of st)) v)
     at None = refl
     at (Some r) = by r (not (test r.subpool))
 

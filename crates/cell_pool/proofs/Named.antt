@@ -5,7 +5,7 @@ use Rattle.std.proofs.lemmas.Bool.{cases_eq}
 use Rattle.std.proofs.lemmas.List.Sums.{sum_by-cons}
 use Rattle.std.specs.FinMap.{FinMap, get, get-empty, get-insert, len, len-empty, len-insert}
 use Rattle.mvs_model.specs.declared.name.Name.{Name}
-use Rattle.mvs_model.specs.Finite.{filtered}
+use Rattle.mvs_model.specs.Finite.{kept}
 use Rattle.mvs_model.specs.Name.{name_cmp, same_name}
 use Rattle.mvs_model.proofs.Orders.{name_cmp_total, same_name_is, same_name_self, told_apart, differs}
 use Rattle.cell_pool.specs.Roots.{Root}
@@ -135,21 +135,21 @@ module _ (old new : List (Option PoolEntry)) (key : ℕ) (e : PoolEntry) (r : Ro
     by false s = elsewhere (differs n e.name s) (get (roots_of old) n) refl
 
 -- the entries that fail a test are removed
-module _ (old new : List (Option PoolEntry)) (test : Name → Root → Bool) (distinct : IsDistinct old) (each : (k : ℕ) → item_at new k ≡ filtered (λ (x : PoolEntry). test x.name x.root) (item_at old k)) where
+module _ (old new : List (Option PoolEntry)) (test : Name → Root → Bool) (distinct : IsDistinct old) (each : (k : ℕ) → item_at new k ≡ kept (λ (x : PoolEntry). test x.name x.root) (item_at old k)) where
   was_there : (k : ℕ) (x : PoolEntry) → item_at new k ≡ Some x → (item_at old k ≡ Some x) × (test x.name x.root ≡ true)
   was_there k x e = at (item_at old k) refl (sym (each k) ∙ e) where
     by : (y : PoolEntry) (b : Bool) → test y.name y.root ≡ b → item_at old k ≡ Some y → cond b (Some y) None ≡ Some x → (item_at old k ≡ Some x) × (test x.name x.root ≡ true)
     by y true t f g = (f ∙ g, (let same : y ≡ x = cc in subst (λ (z : PoolEntry). test z.name z.root ≡ true) same t))
     by y false t f g = absurd (let h : ◌≡◌ {A = Option PoolEntry} None (Some x) = g in cc)
 
-    at : (v : Option PoolEntry) → item_at old k ≡ v → filtered (λ (y : PoolEntry). test y.name y.root) v ≡ Some x → (item_at old k ≡ Some x) × (test x.name x.root ≡ true)
+    at : (v : Option PoolEntry) → item_at old k ≡ v → kept (λ (y : PoolEntry). test y.name y.root) v ≡ Some x → (item_at old k ≡ Some x) × (test x.name x.root ≡ true)
     at None f g = absurd (let h : ◌≡◌ {A = Option PoolEntry} None (Some x) = g in cc)
     at (Some y) f g = by y (test y.name y.root) refl f g
 
   pub distinct_kept : IsDistinct new
   distinct_kept j k x y hx hy same = distinct j k x y (was_there j x hx).0 (was_there k y hy).0 same
 
-  pub named_kept : (n : Name) → get (roots_of new) n ≡ filtered (test n) (get (roots_of old) n)
+  pub named_kept : (n : Name) → get (roots_of new) n ≡ kept (test n) (get (roots_of old) n)
   named_kept n = at (get (roots_of old) n) refl where
     none : ((k : ℕ) (x : PoolEntry) → item_at old k ≡ Some x → x.name ≡ n → test x.name x.root ≡ false) → get (roots_of new) n ≡ None
     none fails = unnamed new n (λ k x h s. let w = was_there k x h in let f : true ≡ false = sym w.1 ∙ fails k x w.0 s in absurd (cc))
@@ -157,7 +157,7 @@ module _ (old new : List (Option PoolEntry)) (test : Name → Root → Bool) (di
     by : (r : Root) (b : Bool) → test n r ≡ b → get (roots_of old) n ≡ Some r → get (roots_of new) n ≡ cond b (Some r) None
     by r true t e =
         let f = entry_of old n r e in
-        let stays : item_at new f.0 ≡ Some f.1 = each f.0 ∙ ap (filtered (λ (x : PoolEntry). test x.name x.root)) f.2 ∙ (λ i. cond (test (f.3 i) (f.4 i)) (Some f.1) None) ∙ ap (λ b. cond b (Some f.1) None) t in
+        let stays : item_at new f.0 ≡ Some f.1 = each f.0 ∙ ap (kept (λ (x : PoolEntry). test x.name x.root)) f.2 ∙ (λ i. cond (test (f.3 i) (f.4 i)) (Some f.1) None) ∙ ap (λ b. cond b (Some f.1) None) t in
         ap (get (roots_of new)) (sym f.3) ∙ named new f.0 f.1 distinct_kept stays ∙ ap Some f.4
     by r false t e =
         none (λ k x h s.
@@ -165,18 +165,18 @@ module _ (old new : List (Option PoolEntry)) (test : Name → Root → Bool) (di
         let g : x.root ≡ r = cc in
         (λ i. test (s i) (g i)) ∙ t)
 
-    at : (v : Option Root) → get (roots_of old) n ≡ v → get (roots_of new) n ≡ filtered (test n) v
+    at : (v : Option Root) → get (roots_of old) n ≡ v → get (roots_of new) n ≡ kept (test n) v
     at None e = none (λ k x h s. let f : None ≡ Some x.root = sym e ∙ ap (get (roots_of old)) (sym s) ∙ named old k x distinct h in absurd (cc))
     at (Some r) e = by r (test n r) refl e
 
 -- one entry is removed: those of its name fail
 module _ (old new : List (Option PoolEntry)) (key : ℕ) (e : PoolEntry) (distinct : IsDistinct old) (was : item_at old key ≡ Some e) (gone : item_at new key ≡ None) (others : (k : ℕ) → k ≢ key → item_at new k ≡ item_at old k) where
-  each_else : (k : ℕ) → item_at new k ≡ filtered (λ (x : PoolEntry). not (same_name x.name e.name)) (item_at old k)
+  each_else : (k : ℕ) → item_at new k ≡ kept (λ (x : PoolEntry). not (same_name x.name e.name)) (item_at old k)
   each_else k = elim (cases_eq k key) [
-    | inl s ↦ ap (item_at new) s ∙ gone ∙ sym (ap (filtered (λ (x : PoolEntry). not (same_name x.name e.name))) (ap (item_at old) s ∙ was) ∙ ap (λ b. cond (not b) (Some e) None) (same_name_self e.name))
+    | inl s ↦ ap (item_at new) s ∙ gone ∙ sym (ap (kept (λ (x : PoolEntry). not (same_name x.name e.name))) (ap (item_at old) s ∙ was) ∙ ap (λ b. cond (not b) (Some e) None) (same_name_self e.name))
     | inr ne ↦ others k ne ∙ elsewhere ne (item_at old k) refl
   ] where
-    elsewhere : k ≢ key → (v : Option PoolEntry) → item_at old k ≡ v → v ≡ filtered (λ (x : PoolEntry). not (same_name x.name e.name)) v
+    elsewhere : k ≢ key → (v : Option PoolEntry) → item_at old k ≡ v → v ≡ kept (λ (x : PoolEntry). not (same_name x.name e.name)) v
     elsewhere ne None f = refl
     elsewhere ne (Some x) f = sym (ap (λ b. cond (not b) (Some x) None) (told_apart x.name e.name (λ s. ne (distinct k key x e f was s))))
 
@@ -185,7 +185,7 @@ module _ (old new : List (Option PoolEntry)) (key : ℕ) (e : PoolEntry) (distin
 
   pub named_gone : (n : Name) → get (roots_of new) n ≡ cond (same_name n e.name) None (get (roots_of old) n)
   named_gone n = named_kept old new (λ n _. not (same_name n e.name)) distinct each_else n ∙ turned (same_name n e.name) (get (roots_of old) n) where
-    turned : (b : Bool) (v : Option Root) → filtered (λ _. not b) v ≡ cond b None v
+    turned : (b : Bool) (v : Option Root) → kept (λ _. not b) v ≡ cond b None v
     turned true None = refl
     turned true (Some r) = refl
     turned false None = refl

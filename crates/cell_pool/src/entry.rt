@@ -3,7 +3,7 @@
 ghost use Rattle.std.specs.Prelude.{◌≡◌, ◌≢◌, ◌<◌, ◌≤◌, ℕ, not, true, Some, None, IsSome, MatchOption};
 ghost use Rattle.std.specs.FinMap.{get};
 ghost use Rattle.slab.specs.Slab.{get as slab_get, slab_len, Updates};
-ghost use Rattle.mvs_model.specs.Finite.{has, filtered};
+ghost use Rattle.mvs_model.specs.Finite.{has, kept};
 ghost use Rattle.mvs_model.specs.Storage.{is_one_of};
 ghost use Rattle.cell_pool.specs.declared.entry.PoolEntry.{PoolEntry};
 
@@ -96,9 +96,9 @@ pub(crate) fn is_of_one(entries: &Slab<PoolEntry>, key: usize, subpools: &Subpoo
 
 // Removes the entries of the pools of a set of subpools.
 pub(crate) fn remove_each(entries: &mut Slab<PoolEntry>, subpools: &SubpoolSet)
-    ensures filtered { (k : ℕ)
+    ensures kept { (k : ℕ)
         → slab_get entries.new k
-        ≡ filtered (λ (x : PoolEntry). not (is_one_of subpools.now x.root.subpool))
+        ≡ kept (λ (x : PoolEntry). not (is_one_of subpools.now x.root.subpool))
         (slab_get entries.old k) }
     ensures len { slab_len entries.new ≤ slab_len entries.old }
     ensures capacity { entries.new.capacity ≡ entries.old.capacity }

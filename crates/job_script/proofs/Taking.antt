@@ -24,7 +24,7 @@ use Rattle.job_script.specs.Rows.{row_at, key_text, as_keyword, as_positional}
 use Rattle.job_script.specs.Places.{place_by, place_in}
 use Rattle.job_script.specs.Parted.{field_in}
 use Rattle.job_script.proofs.KeyPlaces.{mapped_some, same_place}
-use Rattle.job_script.specs.GivenOperands.{option_now, kept_text, text_at, by_place, IsPlaced, IsGiven}
+use Rattle.job_script.specs.GivenOperands.{option_now, kept, text_at, by_place, IsPlaced, IsGiven}
 use Rattle.mvs_model.proofs.Tests.{bytes_self}
 use Rattle.std.proofs.lemmas.Bool.{or_right}
 
@@ -33,7 +33,7 @@ use Rattle.std.proofs.lemmas.Bool.{or_right}
 abbrev Texts : Type 0
 Texts = List (Option (Bor (List ℕ)))
 
-pub kept_at : (xs : Texts) (i : ℕ) → kept_text (slice_get xs i) ≡ option_now (get_or xs i None)
+pub kept_at : (xs : Texts) (i : ℕ) → kept (slice_get xs i) ≡ option_now (get_or xs i None)
 kept_at [] i = refl
 kept_at (x ∷ xs) zero = refl
 kept_at (x ∷ xs) (suc i) = kept_at xs i
@@ -51,7 +51,7 @@ one_place zero (suc i) e = absurd (let f : false ≡ true = e in cc)
 one_place (suc k) zero e = absurd (let f : false ≡ true = e in cc)
 one_place (suc k) (suc i) e = ap (λ n. suc n) (one_place k i e)
 
-kept_set : (xs : Texts) (i : ℕ) (t : Bor (List ℕ)) (k : ℕ) → i < length xs → kept_text (slice_get (set xs i (Some t)) k) ≡ (if is_place k i then Some t.now else kept_text (slice_get xs k))
+kept_set : (xs : Texts) (i : ℕ) (t : Bor (List ℕ)) (k : ℕ) → i < length xs → kept (slice_get (set xs i (Some t)) k) ≡ (if is_place k i then Some t.now else kept (slice_get xs k))
 kept_set [] i t k h = absurd (omega arith)
 kept_set (x ∷ xs) zero t zero h = refl
 kept_set (x ∷ xs) zero t (suc k) h = refl
@@ -326,7 +326,7 @@ module _ (g : GivenOperands) (left : List (List ℕ)) (operand : List ℕ) (give
         taken = taken_more row left operand given.taken (plain_checks e k kind kind_is ∙ none);
         placed = λ n text said. placed n text (is_place n g.count) refl (sym (kept_set g.places g.count t n room) ∙ said);
       } where
-        placed : (n : ℕ) (text : List ℕ) (b : Bool) → is_place n g.count ≡ b → (if b then Some t.now else kept_text (slice_get g.places n)) ≡ Some text → IsPlaced (row_at g.row) n text
+        placed : (n : ℕ) (text : List ℕ) (b : Bool) → is_place n g.count ≡ b → (if b then Some t.now else kept (slice_get g.places n)) ≡ Some text → IsPlaced (row_at g.row) n text
         placed n text true p said =
             let a = none_against kind false operand none in
             let here : n ≡ g.count = one_place n g.count p in
@@ -361,7 +361,7 @@ module _ (g : GivenOperands) (left : List (List ℕ)) (operand : List ℕ) (give
     other : (o : Option ℕ) → place_in key ≡ o → bytes_eq (key_of operand) key ≡ false → text_at (set g.texts i (Some t)) o ≡ text_at g.texts o
     other None p f = refl
     other (Some j) p f = kept_set g.texts i t j room ∙ apart (is_place j i) refl where
-      apart : (b : Bool) → is_place j i ≡ b → (if b then Some t.now else kept_text (slice_get g.texts j)) ≡ kept_text (slice_get g.texts j)
+      apart : (b : Bool) → is_place j i ≡ b → (if b then Some t.now else kept (slice_get g.texts j)) ≡ kept (slice_get g.texts j)
       apart true q = absurd (
           let here : place_in key ≡ Some i = p ∙ ap (λ n. Some n) (one_place j i q) in
           let same : key_of operand ≡ key = same_place (key_of operand) key i place here in
@@ -377,7 +377,7 @@ module _ (g : GivenOperands) (left : List (List ℕ)) (operand : List ℕ) (give
         let once_here : has key left ≡ false = ap (λ k. has k left) (sym same) ∙ once in
         ap (text_at (set g.texts i (Some t))) here
         ∙ kept_set g.texts i t i room
-        ∙ ap (λ b. if b then Some t.now else kept_text (slice_get g.texts i)) (place_itself i)
+        ∙ ap (λ b. if b then Some t.now else kept (slice_get g.texts i)) (place_itself i)
         ∙ ap (λ x. Some x) is
         ∙ sym (said ∙ ap (λ b. option_map text_of (if is_some (find (is_for key) left) then find (is_for key) left else (if b then Some operand else None))) b
         ∙ ap (option_map text_of) (none_left (find (is_for key) left) once_here))
@@ -440,7 +440,7 @@ pub record TakesOn (old now : GivenOperands) (field rest : List ℕ) : Type 0 wh
   pub row : now.row ≡ old.row
 
 -- nothing stands in any place of an array of nothing
-none_kept : (n m : ℕ) → kept_text (slice_get (replicate n None) m) ≡ None
+none_kept : (n m : ℕ) → kept (slice_get (replicate n None) m) ≡ None
 none_kept zero m = refl
 none_kept (suc n) zero = refl
 none_kept (suc n) (suc m) = none_kept n m

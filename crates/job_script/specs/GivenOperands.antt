@@ -22,13 +22,13 @@ field_now None = None
 field_now (Some text) = Some (field_in text.now)
 
 -- the text in a place, where there is one
-abbrev pub kept_text : Option (Option (Bor (List ℕ))) → Option (List ℕ)
-kept_text None = None
-kept_text (Some text) = option_now text
+abbrev pub kept : Option (Option (Bor (List ℕ))) → Option (List ℕ)
+kept None = None
+kept (Some text) = option_now text
 
 abbrev pub text_at : List (Option (Bor (List ℕ))) → Option ℕ → Option (List ℕ)
 text_at texts None = None
-text_at texts (Some i) = kept_text (slice_get texts i)
+text_at texts (Some i) = kept (slice_get texts i)
 
 -- what was read, by keys and by places
 abbrev pub by_place : GivenOperands → ByKey

@@ -6,7 +6,7 @@ use Rattle.std.specs.FinMap.{FinMap, get}
 use Rattle.mvs_laws.proofs.Types.{Name, SourceRequest, Request, Reply, Cell}
 use Rattle.mvs_laws.proofs.Types.{Below}
 use Rattle.mvs_model.specs.declared.line.SourceRequest.TheVariants as written
-use Rattle.mvs_model.specs.Finite.{Changes, Keeps, filtered}
+use Rattle.mvs_model.specs.Finite.{Changes, Keeps, kept}
 use Rattle.mvs_model.specs.Name.{name_cmp, same_name}
 use Rattle.mvs_model.specs.Place.{PlaceValue}
 use Rattle.mvs_model.specs.Want.{fixed_want}
@@ -38,7 +38,7 @@ Puts p name v q = (n : Name) → q n ≡ (if same_name n name then v else p n)
 
 -- the pools of subpools that fail a test are gone
 abbrev pub Filters : Pools → (ℕ → Bool) → Pools → Type 0
-Filters p test q = (n : Name) → q n ≡ filtered test (p n)
+Filters p test q = (n : Name) → q n ≡ kept test (p n)
 
 -- ---- the effect of a statement
 
@@ -97,7 +97,7 @@ module _ (t : Name) (o : Owners) (p p' : Pools) (a b : Owners) (q q' : Pools) (s
   puts_one name v w e x y n = x n ∙ (λ i. if same_name n name then e i else same n i) ∙ sym (y n)
 
   filters_one : (f g : ℕ → Bool) → f ≡ g → Filters p f q → Filters p' g q' → SamePools q q'
-  filters_one f g e x y n = x n ∙ (λ i. filtered (e i) (same n i)) ∙ sym (y n)
+  filters_one f g e x y n = x n ∙ (λ i. kept (e i) (same n i)) ∙ sym (y n)
 
   pub away_one : Goes_away o t p a q → Goes_away o t p' b q' → One
   away_one x y =
@@ -138,7 +138,7 @@ module _ (t : Name) (o : Owners) (p p' : Pools) (a b : Owners) (q q' : Pools) (s
 
 -- ---- the effect of a request that is done
 
-subpool_kept : (f : ℕ → Bool) (o : Option Pool) → option_map (λ pool. pool.subpool) (filtered (λ pool. f pool.subpool) o) ≡ filtered f (option_map (λ pool. pool.subpool) o)
+subpool_kept : (f : ℕ → Bool) (o : Option Pool) → option_map (λ pool. pool.subpool) (kept (λ pool. f pool.subpool) o) ≡ kept f (option_map (λ pool. pool.subpool) o)
 subpool_kept f None = refl
 subpool_kept f (Some pool) = by (f pool.subpool) where
   by : (b : Bool) → option_map (λ pool. pool.subpool) (if b then Some pool else None) ≡ (if b then Some pool.subpool else None)
@@ -241,7 +241,7 @@ module _ (names : FinMap name_cmp PlaceValue) (old : State) (t : Name) (new : St
 
   emptied : (o : Option ℕ) → EmptiesEntry old o new → (new.owners ≡ old.owners) × Filters (pool_at old) (is_other o) (pool_at new) × (new.regions ≡ old.regions)
   emptied None x = (ap (λ st. st.owners) x, λ n. ap (λ st. pool_at st n) x ∙ sym (all (pool_at old n)), ap (λ st. st.regions) x) where
-    all : (v : Option ℕ) → filtered (λ s. true) v ≡ v
+    all : (v : Option ℕ) → kept (λ s. true) v ≡ v
     all None = refl
     all (Some s) = refl
   emptied (Some s) x = (x.owners, filter_pools old t new (λ u. not (u == s)) x.drops.pools, x.drops.regions)

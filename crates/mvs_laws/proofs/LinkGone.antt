@@ -7,7 +7,7 @@ use Rattle.std.proofs.Math.Bool.{or-false}
 use Rattle.std.proofs.lemmas.Bool.Decides.{nat_tests}
 use Rattle.mvs_laws.proofs.Types.{Name}
 use Rattle.mvs_model.specs.Name.{name_cmp}
-use Rattle.mvs_model.specs.Finite.{filtered, has}
+use Rattle.mvs_model.specs.Finite.{kept, has}
 use Rattle.mvs_model.specs.Storage.{IsWhole}
 use Rattle.mvs_model.specs.Pools.{Pool, in_taken}
 use Rattle.mvs_model.specs.State.{State, plain, is_plain, in_cell, granted}
@@ -23,8 +23,8 @@ use Rattle.mvs_laws.proofs.Spots.{span_of, has_same}
 use Rattle.mvs_model.proofs.Tests.{kept_is}
 
 -- no pools have no cells
-pub no_pools : (old new : State) (test : Name → Pool → Bool) → old.pools ≡ empty → ((name : Name) → get new.pools name ≡ filtered (test name) (get old.pools name)) → new.pools ≡ empty
-no_pools old new test e h = same_map name_cmp_total name_cmp-IsAntisymmetric new.pools empty (λ name. h name ∙ ap (λ p. filtered (test name) (get p name)) e ∙ ap (filtered (test name)) (get-empty name_cmp name) ∙ sym (get-empty name_cmp name))
+pub no_pools : (old new : State) (test : Name → Pool → Bool) → old.pools ≡ empty → ((name : Name) → get new.pools name ≡ kept (test name) (get old.pools name)) → new.pools ≡ empty
+no_pools old new test e h = same_map name_cmp_total name_cmp-IsAntisymmetric new.pools empty (λ name. h name ∙ ap (λ p. kept (test name) (get p name)) e ∙ ap (kept (test name)) (get-empty name_cmp name) ∙ sym (get-empty name_cmp name))
 
 pub no_cell : (st : State) (a : ℕ) → st.pools ≡ empty → in_cell st a ≡ false
 no_cell st a e = ap (λ pools. list_any (λ name. has (λ pool. in_taken pool a) (get pools name)) (keys pools)) e ∙ all_names _ (keys (empty {X = Pool} {R = name_cmp})) (λ name. ap (has (λ pool. in_taken pool a)) (get-empty name_cmp name))
@@ -57,7 +57,7 @@ module _ (job : JobValue) (m : Labels) (k : Link job m) where
     none = no_pools job.state new (λ _ p. not (test p.subpool)) k.pools d.pools
 
     held_is : (l i b : ℕ) → m.byte l i ≡ Some b → get new.held ((k.base l + i) / 8) ≡ cond (not (test (m.subpool l))) (Some (plain (m.subpool l))) None
-    held_is l i b e = d.held ((k.base l + i) / 8) ∙ ap (filtered (λ h. not (test h.subpool))) (k.held l i b e)
+    held_is l i b e = d.held ((k.base l + i) / 8) ∙ ap (kept (λ h. not (test h.subpool))) (k.held l i b e)
 
     bytes_is : (l i b : ℕ) → m.byte l i ≡ Some b → get new.bytes (k.base l + i) ≡ cond (is_plain (cond (not (test (m.subpool l))) (Some (plain (m.subpool l))) None)) (Some b) None
-    bytes_is l i b e = d.bytes (k.base l + i) ∙ ap (filtered (λ _. granted new (k.base l + i))) (k.bytes l i b e) ∙ ap (λ c. cond c (Some b) None) (granted_is new (k.base l + i) none ∙ ap is_plain (held_is l i b e))
+    bytes_is l i b e = d.bytes (k.base l + i) ∙ ap (kept (λ _. granted new (k.base l + i))) (k.bytes l i b e) ∙ ap (λ c. cond c (Some b) None) (granted_is new (k.base l + i) none ∙ ap is_plain (held_is l i b e))

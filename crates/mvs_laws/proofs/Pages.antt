@@ -5,7 +5,7 @@ use Rattle.std.proofs.lemmas.Bool.Decides.{nat_tests}
 use Rattle.std.proofs.lemmas.Grind.{common_steps}
 use Rattle.mvs_model.specs.Place.{PlaceValue}
 use Rattle.mvs_model.specs.Want.{WantValue}
-use Rattle.mvs_model.specs.Finite.{Changes, filtered}
+use Rattle.mvs_model.specs.Finite.{Changes, kept}
 use Rattle.mvs_model.specs.Storage.{PageRule, Chosen, covers}
 use Rattle.mvs_model.specs.State.{State, Holding, subpool_in, holder}
 use Rattle.mvs_model.specs.Changes.{Drops}
@@ -18,7 +18,7 @@ subpool_of_cond b h o = grind (arith, common_steps)
 less_cond : (b : Bool) (o : Option Holding) (s : ℕ) → subpool_in (cond b None o) ≡ Some s → subpool_in o ≡ Some s
 less_cond b o s h1 = grind (arith, nat_tests)
 
-less_kept : (test : Holding → Bool) (o : Option Holding) (s : ℕ) → subpool_in (filtered test o) ≡ Some s → subpool_in o ≡ Some s
+less_kept : (test : Holding → Bool) (o : Option Holding) (s : ℕ) → subpool_in (kept test o) ≡ Some s → subpool_in o ≡ Some s
 less_kept test o s h1 = grind (arith, nat_tests)
 
 pages_chosen : (old new : State) (s : ℕ) (h : Holding) (want : WantValue) (p : PlaceValue) → Chosen old.regions (holder old) s want p → h.subpool ≡ s → Changes (get old.held) (covers p) (Some h) (get new.held) → PageRule (holder old) → PageRule (holder new)

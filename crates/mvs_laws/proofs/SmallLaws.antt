@@ -7,7 +7,7 @@ use Rattle.mvs_laws.proofs.Types.{Name, Below, Either}
 use Rattle.mvs_model.specs.Place.{PlaceValue, place_at}
 use Rattle.mvs_model.specs.Name.{same_name}
 use Rattle.mvs_model.specs.Gifts.{gives, shares}
-use Rattle.mvs_model.specs.Finite.{filtered, has}
+use Rattle.mvs_model.specs.Finite.{kept, has}
 use Rattle.mvs_model.specs.Storage.{Regions, Open, Places, Chosen, covers, Covers, has_address}
 use Rattle.mvs_model.specs.Owners.{Owners, entry, Binds, EntersBelow, none, passed, entered, is_given}
 use Rattle.mvs_laws.specs.Examples.{AcrossPages, BoundaryEdges, AboveOnATie, ReleasesJoin, PartsReleased, GivesAndShares, SharersKeep, SmallPart, two_pages, one_held, two_held, nothing_held, pages, most_want}
@@ -130,7 +130,7 @@ entry_stays o t wanted n new (entered r {number} {now} b f is enters) x k s e = 
       binds.table (x, k) ∙ bound (same_name x t && (k == number)) (λ hit. let both = and_parts (same_name x t) (k == number) hit in (λ i. entry now (same_name_is x t both.0 i) (eqb-true k number both.1 i)) ∙ was) h
 
 pub gives_and_shares : GivesAndShares
-gives_and_shares old mother name gifts residence new g s m r ne a gl given ge ml filtered shared me =
+gives_and_shares old mother name gifts residence new g s m r ne a gl given ge ml kept shared me =
     let ready_g = entry_stays old mother (shares gifts) 128 a.ready a.made mother g s ge in
     let ready_m = entry_stays old mother (shares gifts) 128 a.ready a.made mother m r me in
     let apart = told_apart mother name ne in (
@@ -138,7 +138,7 @@ gives_and_shares old mother name gifts residence new g s m r ne a gl given ge ml
       a.table mother g ∙ cond-false (same_name mother name) _ _ apart ∙ cond-true (same_name mother mother && gives gifts g) _ _ (and_from (same_name mother mother) (gives gifts g) (same_name_self mother) given),
       a.owner s ∙ cond-true (is_given a.ready mother gifts s) _ _ (some_below (λ n. gives gifts n && has (λ q. q == s) (entry a.ready mother n)) 128 g gl (and_from (gives gifts g) _ given (ap (has (λ q. q == s)) ready_g ∙ same_self s))),
       a.table name m ∙ cond-true (same_name name name) _ _ (same_name_self name) ∙ cond-true (gives gifts m || shares gifts m) _ _ (or_right (gives gifts m) _ shared) ∙ ready_m,
-      a.table mother m ∙ cond-false (same_name mother name) _ _ apart ∙ cond-false (same_name mother mother && gives gifts m) _ _ (and_right (same_name mother mother) (gives gifts m) filtered) ∙ ready_m,
+      a.table mother m ∙ cond-false (same_name mother name) _ _ apart ∙ cond-false (same_name mother mother && gives gifts m) _ _ (and_right (same_name mother mother) (gives gifts m) kept) ∙ ready_m,
     )
 
 pub sharers_keep : SharersKeep

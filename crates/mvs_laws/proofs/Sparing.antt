@@ -11,7 +11,7 @@ use Rattle.mvs_model.proofs.StepCases.{step_cases}
 use Rattle.mvs_model.specs.declared.line.Line.TheVariants as line
 use Rattle.mvs_model.specs.declared.line.Statement.TheVariants as says
 use Rattle.mvs_model.specs.Gifts.{GiftsValue}
-use Rattle.mvs_model.specs.Finite.{has, filtered}
+use Rattle.mvs_model.specs.Finite.{has, kept}
 use Rattle.mvs_model.specs.Place.{PlaceValue, place_at}
 use Rattle.mvs_model.specs.Want.{WantValue, want_of, fixed_want, side_of}
 use Rattle.mvs_model.specs.Storage.{Chosen, Covers, has_address}
@@ -97,7 +97,7 @@ module _ (old : State) (apart : Apart old) (a b : ℕ) (is : get old.bytes a ≡
   end_spares t new e stays = drops_spare (ends_with old.owners t e.fallen) new e.drops (λ s h. at s h (get old.owners.owner s) refl) where
     inactive : (u : Name) → is_among_ended t e.fallen u ≡ true → is_active new.owners u ≡ false
     inactive u f = ap is_some (e.owners.tasks u) ∙ gone (get old.owners.tasks u) where
-      gone : (o : Option Task) → is_some (filtered (λ _. not (is_among_ended t e.fallen u)) o) ≡ false
+      gone : (o : Option Task) → is_some (kept (λ _. not (is_among_ended t e.fallen u)) o) ≡ false
       gone None = refl
       gone (Some x) = ap (λ c. is_some (cond (not c) (Some x) None)) f
 

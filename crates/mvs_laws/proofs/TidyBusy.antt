@@ -13,7 +13,7 @@ use Rattle.mvs_model.specs.declared.code.Form.TheVariants as form
 use Rattle.mvs_model.specs.declared.line.Statement.TheVariants as says
 use Rattle.mvs_model.specs.declared.line.SourceRequest.TheVariants as written
 use Rattle.mvs_model.specs.Name.{name_cmp, same_name}
-use Rattle.mvs_model.specs.Finite.{has, any_below, filtered}
+use Rattle.mvs_model.specs.Finite.{has, any_below, kept}
 use Rattle.mvs_model.specs.Gifts.{has_bit, gives, shares}
 use Rattle.mvs_model.specs.Owners.{Owners, Task, entry_cmp, entry, is_active, IsMother, has_subtask, owns, EntersBelow, none, passed, entered, handed, gives_shared, Attach, Descends, subtask, further, AreDescendants, is_among_ended, ends_with, Ends}
 use Rattle.mvs_model.proofs.ByCase.{attach_refusal}
@@ -172,7 +172,7 @@ return_does = ask_does busy_1 busy_2 job written.Return _ job_still
 
 sub_gone : is_active ended.0 sub ≡ false
 unfolding with_sub
-sub_gone = ap is_some (ended.1.tasks sub ∙ ap (filtered (λ _. not (is_among_ended job (sub ∷ []) sub))) (get-insert name_cmp_total alone.tasks sub (record { mother = Some job; residence = Below }) sub))
+sub_gone = ap is_some (ended.1.tasks sub ∙ ap (kept (λ _. not (is_among_ended job (sub ∷ []) sub))) (get-insert name_cmp_total alone.tasks sub (record { mother = Some job; residence = Below }) sub))
 
 not_run_does : Does busy_2 sub (says.Request (written.Obtain form.Ru 0 (fixed 8) false area_x)) tells.NotRun busy_2
 unfolding busy_mid busy_2

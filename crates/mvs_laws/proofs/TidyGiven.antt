@@ -13,7 +13,7 @@ use Rattle.mvs_laws.proofs.Types.{Name, SubpoolLine}
 use Rattle.mvs_model.specs.declared.want.Residence.TheVariants.{Below}
 use Rattle.mvs_model.specs.declared.code.Form.TheVariants as form
 use Rattle.mvs_model.specs.Name.{name_cmp, same_name}
-use Rattle.mvs_model.specs.Finite.{has, any_below, count_below, filtered, total_below}
+use Rattle.mvs_model.specs.Finite.{has, any_below, count_below, kept, total_below}
 use Rattle.mvs_model.specs.Gifts.{has_bit, gives, shares}
 use Rattle.mvs_model.specs.Owners.{Owners, Task, entry_cmp, entry, is_active, IsMother, has_subtask, owns, IsSpare, SubpoolOf, Binds, Enters, EntersBelow, none, passed, entered, handed, is_given, Attach, Descends, subtask, further, AreDescendants, is_among_ended, ends_with, Ends}
 use Rattle.mvs_model.proofs.ByCase.{attach_refusal}
@@ -234,13 +234,13 @@ entry_4_a : (n : ℕ) → entry owners_4 task_a n ≡ cond (n == 0) (Some 1) Non
 unfolding owners_4
 entry_4_a n = grind (arith, nat_tests, owners_3, entry_3_a, owner_3, end_b)
 
-owner_4 : (s : ℕ) → get owners_4.owner s ≡ filtered (λ x. not (is_among_ended task_b [] x)) (get owners_3.owner s)
+owner_4 : (s : ℕ) → get owners_4.owner s ≡ kept (λ x. not (is_among_ended task_b [] x)) (get owners_3.owner s)
 unfolding owners_4
 owner_4 s = end_b.1.owner s
 
 -- A obtains from number 5 anew
 spare_4 : IsSpare owners_4 0
-spare_4 = record { spare = owner_4 0 ∙ ap (filtered (λ x. not (is_among_ended task_b [] x))) (owner_3 0); least = λ r l. absurd (omega (arith, l)) }
+spare_4 = record { spare = owner_4 0 ∙ ap (kept (λ x. not (is_among_ended task_b [] x))) (owner_3 0); least = λ r l. absurd (omega (arith, l)) }
 
 subpool_4 : SubpoolOf owners_4 task_a 5 0
 subpool_4 = subst (λ v. MatchOption v (IsSpare owners_4 0) (λ r. 0 ≡ r)) (sym (entry_4_a 5)) spare_4
@@ -341,7 +341,7 @@ active_3_b = ap is_some (task_3 task_b)
 
 active_4_a : is_active owners_4 task_a ≡ true
 unfolding owners_4
-active_4_a = ap is_some (end_b.1.tasks task_a ∙ ap (filtered (λ _. not (is_among_ended task_b [] task_a))) (task_3 task_a))
+active_4_a = ap is_some (end_b.1.tasks task_a ∙ ap (kept (λ _. not (is_among_ended task_b [] task_a))) (task_3 task_a))
 
 few_1 : len owners_1.tasks ≡ 1
 unfolding owners_1

@@ -3,7 +3,7 @@ use Rattle.std.proofs.Common.{◌≡◌, ℕ, zero, suc, ◌<◌, Bool, true, fa
 use Rattle.std.proofs.lemmas.Bool.Decides.{nat_tests}
 use Rattle.std.specs.Cmp.{nat_cmp_total}
 use Rattle.std.specs.FinMap.{FinMap, get, insert, remove, retain_keys, get-insert, get-remove, get-retain_keys, IsAntisymmetric}
-use Rattle.mvs_model.specs.Finite.{Changes, Keeps, filtered}
+use Rattle.mvs_model.specs.Finite.{Changes, Keeps, kept}
 use Rattle.mvs_model.specs.Name.{name_cmp, same_name}
 use Rattle.mvs_model.proofs.Tables.{eq_by_cmp_is}
 use Rattle.mvs_model.proofs.Orders.{name_cmp_total, name_cmp-IsAntisymmetric}
@@ -70,7 +70,7 @@ module _ {K X : Type 0} {R : K → K → Ordering} (same : IsAntisymmetric R) wh
   pub made_keeps : (m : FinMap R X) (test : K → X → Bool) → (new : FinMap R X) × Keeps (get m) test (get new)
   unfolding passes
   made_keeps m test = (retain_keys m (λ k. passes (test k) (get m k)), λ q. get-retained m (λ k. passes (test k) (get m k)) q ∙ at (test q) (get m q)) where
-    at : (t : X → Bool) (o : Option X) → cond (passes t o) o None ≡ filtered t o
+    at : (t : X → Bool) (o : Option X) → cond (passes t o) o None ≡ kept t o
     at t None = refl
     at t (Some x) = refl
 

@@ -21,7 +21,7 @@ use Rattle.mvs_model.specs.Place.{PlaceValue, place_at}
 use Rattle.mvs_model.specs.Want.{WantValue, want_of, fixed_want}
 use Rattle.mvs_model.specs.Gifts.{GiftsValue}
 use Rattle.mvs_model.specs.Name.{same_name}
-use Rattle.mvs_model.specs.Finite.{filtered}
+use Rattle.mvs_model.specs.Finite.{kept}
 use Rattle.mvs_model.specs.Storage.{Regions, Chosen, NoPlace, covers, has_address}
 use Rattle.mvs_model.specs.Owners.{Owners, is_active, effective_task, subpool_meant, Enters, Ends, ends_with, has_subtask}
 use Rattle.mvs_model.proofs.ByCase.{attach_refusal}
@@ -103,7 +103,7 @@ one_drops : (old : State) (test : ℕ → Bool) (a b : State) → Drops old test
 one_drops old test a b x y owners =
     let held = same_maps a.held b.held (λ d. x.held d ∙ sym (y.held d)) in
     let pools = same_map name_cmp_total name_cmp-IsAntisymmetric a.pools b.pools (λ n. x.pools n ∙ sym (y.pools n)) in
-    let mid = λ (i : ℕ). λ (h : State). filtered (λ _. granted h i) (get old.bytes i) in
+    let mid = λ (i : ℕ). λ (h : State). kept (λ _. granted h i) (get old.bytes i) in
     let shown : (i : ℕ) → mid i a ≡ mid i b = λ i. λ j. mid i (record { regions = a.regions; held = held j; bytes = a.bytes; owners = a.owners; pools = pools j }) in
     same_states a b (x.regions ∙ sym y.regions) (λ d. ap (λ m. get m d) held) (λ i. x.bytes i ∙ shown i ∙ sym (y.bytes i)) owners (λ n. ap (λ m. get m n) pools)
 

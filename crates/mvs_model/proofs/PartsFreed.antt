@@ -6,7 +6,7 @@ use Rattle.std.proofs.lemmas.Bool.{false_from_ne_true}
 use Rattle.std.proofs.lemmas.Bool.Decides.{nat_tests}
 use Rattle.std.proofs.lemmas.Grind.{common_steps}
 use Rattle.mvs_model.proofs.Types.{Name}
-use Rattle.mvs_model.specs.Finite.{has, filtered}
+use Rattle.mvs_model.specs.Finite.{has, kept}
 use Rattle.mvs_model.specs.Place.{PlaceValue}
 use Rattle.mvs_model.specs.Storage.{IsWhole, has_address}
 use Rattle.mvs_model.specs.Pools.{Pool}
@@ -75,8 +75,8 @@ module _ (old new : State) (p : PlaceValue) (value : ℕ → Option ℕ) (all : 
   pub written_apart : Apart new
   written_apart = same_apart old new w.held w.pools written_bytes a
 
-pub kept_from : {X : Type 0} (test : X → Bool) (o : Option X) (x : X) → o ≡ Some x → test x ≡ true → filtered test o ≡ Some x
-kept_from test o x e t = ap (filtered test) e ∙ ap (λ b. cond b (Some x) None) t
+pub kept_from : {X : Type 0} (test : X → Bool) (o : Option X) (x : X) → o ≡ Some x → test x ≡ true → kept test o ≡ Some x
+kept_from test o x e t = ap (kept test) e ∙ ap (λ b. cond b (Some x) None) t
 
 -- what some subpools hold goes
 module _ (old new : State) (test : ℕ → Bool) (g : Drops old test new) (a : Apart old) where
@@ -89,7 +89,7 @@ module _ (old new : State) (test : ℕ → Bool) (g : Drops old test new) (a : A
       let c = a.covered d s k.0 in
       (c.0, c.1, g.pools c.0 ∙ kept_from (λ p. not (test p.subpool)) (get old.pools c.0) c.1 c.2 (ap (λ u. not (test u)) c.3 ∙ k.1), c.3, c.4)
 
-  still_plain : (o : Option Holding) → is_plain (filtered (λ h. not (test h.subpool)) o) ≡ true → is_plain o ≡ true
+  still_plain : (o : Option Holding) → is_plain (kept (λ h. not (test h.subpool)) o) ≡ true → is_plain o ≡ true
   still_plain o e = kept_passes is_plain refl (λ h. not (test h.subpool)) o e
 
   no_more : (x : ℕ) → granted new x ≡ true → granted old x ≡ true

@@ -4,7 +4,7 @@ use Rattle.std.specs.FinMap.{FinMap, get}
 use Rattle.std.proofs.lemmas.Grind.{common_steps}
 use Rattle.mvs_model.proofs.Types.{Name, Code, Abended}
 use Rattle.mvs_model.specs.Name.{name_cmp}
-use Rattle.mvs_model.specs.Finite.{Keeps, filtered, has}
+use Rattle.mvs_model.specs.Finite.{Keeps, kept, has}
 use Rattle.mvs_model.specs.Storage.{Storage, holder as held_by, IsStorage, is_one_of, ReleaseEach}
 use Rattle.mvs_model.specs.Owners.{Owners, AreDescendants, ends_with, Ends}
 use Rattle.mvs_model.specs.Pools.{Pool}
@@ -17,7 +17,7 @@ use Rattle.mvs_model.proofs.Stand.{Stand}
 use Rattle.mvs_model.proofs.Tests.{same_test}
 
 -- no subpool is released at first
-kept_all : {X : Type 0} (v : Option X) → v ≡ filtered (λ _. true) v
+kept_all : {X : Type 0} (v : Option X) → v ≡ kept (λ _. true) v
 kept_all v = grind (arith, common_steps)
 
 has_none : {X : Type 0} (v : Option X) → has (λ _. false) v ≡ false

@@ -7,7 +7,7 @@ use Rattle.std.proofs.lemmas.Bool.Decides.{nat_tests}
 use Rattle.mvs_model.proofs.Types.{Name}
 use Rattle.mvs_model.specs.Place.{PlaceValue}
 use Rattle.mvs_model.specs.Name.{name_cmp}
-use Rattle.mvs_model.specs.Finite.{Changes, Keeps, filtered, has}
+use Rattle.mvs_model.specs.Finite.{Changes, Keeps, kept, has}
 use Rattle.mvs_model.specs.Storage.{Storage, holder as held_by, IsStorage, IsWhole, HeldBy, Covers}
 use Rattle.mvs_model.specs.Owners.{Owners}
 use Rattle.mvs_model.specs.Pools.{Pool}
@@ -77,20 +77,20 @@ module _ (st new : Storage) (o after : Owners) (pools fewer : FinMap name_cmp Po
   same_in : (d t : ℕ) → held_by st d ≡ Some t → test t ≡ false → in_pools fewer d ≡ in_pools pools d
   same_in d t is_held stays = grind (arith, nat_tests, was, part_of_pool, pooled_found, pooled_from)
 
-  held_now : (d : ℕ) → get (state_of new after fewer).held d ≡ filtered (λ h. not (test h.subpool)) (get (state_of st o pools).held d)
-  held_now d = held_state new after fewer now d ∙ ap (option_map (held_as (in_pools fewer d))) (held d) ∙ at (held_by st d) refl ∙ ap (filtered (λ h. not (test h.subpool))) (sym (held_state st o pools is d)) where
+  held_now : (d : ℕ) → get (state_of new after fewer).held d ≡ kept (λ h. not (test h.subpool)) (get (state_of st o pools).held d)
+  held_now d = held_state new after fewer now d ∙ ap (option_map (held_as (in_pools fewer d))) (held d) ∙ at (held_by st d) refl ∙ ap (kept (λ h. not (test h.subpool))) (sym (held_state st o pools is d)) where
     by : (t : ℕ) (b : Bool) → held_by st d ≡ Some t → test t ≡ b → option_map (held_as (in_pools fewer d)) (cond (not b) (Some t) None) ≡ cond (not b) (Some (held_as (in_pools pools d) t)) None
     by t true e f = refl
     by t false e f = ap (λ b. Some (held_as b t)) (same_in d t e f)
 
-    at : (v : Option ℕ) → held_by st d ≡ v → option_map (held_as (in_pools fewer d)) (filtered (λ t. not (test t)) v) ≡ filtered (λ h. not (test h.subpool)) (option_map (held_as (in_pools pools d)) v)
+    at : (v : Option ℕ) → held_by st d ≡ v → option_map (held_as (in_pools fewer d)) (kept (λ t. not (test t)) v) ≡ kept (λ h. not (test h.subpool)) (option_map (held_as (in_pools pools d)) v)
     at None e = refl
     at (Some t) e = by t (test t) e refl
 
   -- what may be read then might be read before, and was not touched
   still : (a : ℕ) → granted (state_of new after fewer) a ≡ true → granted (state_of st o pools) a ≡ true
   still a e = at (is_plain (get (state_of new after fewer).held (a / 8))) (in_cell (state_of new after fewer) a) refl refl e where
-    plain_was : (v : Option Holding) → is_plain (filtered (λ h. not (test h.subpool)) v) ≡ true → is_plain v ≡ true
+    plain_was : (v : Option Holding) → is_plain (kept (λ h. not (test h.subpool)) v) ≡ true → is_plain v ≡ true
     plain_was v e = kept_passes is_plain refl (λ h. not (test h.subpool)) v e
 
     at : (b c : Bool) → is_plain (get (state_of new after fewer).held (a / 8)) ≡ b → in_cell (state_of new after fewer) a ≡ c → (b || c) ≡ true → granted (state_of st o pools) a ≡ true

@@ -2,7 +2,7 @@
 use Rattle.std.proofs.Common.{◌≡◌, ℕ, ◌<◌, Bool, true, false, List, [], ◌∷◌, Option, Some, None, arith, refl, ◌==◌, bytes_eq, if◌then◌else◌, MatchBool}
 use Rattle.std.proofs.lemmas.Bool.{and_from}
 use Rattle.std.proofs.lemmas.Bool.Decides.{nat_tests}
-use Rattle.mvs_model.specs.Finite.{filtered}
+use Rattle.mvs_model.specs.Finite.{kept}
 
 -- ---- two variants are not one
 
@@ -56,11 +56,11 @@ else_some true o x e = none_some e
 else_some false o x e = e
 
 -- what a filter leaves was there, and passes
-pub kept_is : {X : Type 0} (test : X → Bool) (o : Option X) (x : X) → filtered test o ≡ Some x → (o ≡ Some x) × (test x ≡ true)
+pub kept_is : {X : Type 0} (test : X → Bool) (o : Option X) (x : X) → kept test o ≡ Some x → (o ≡ Some x) × (test x ≡ true)
 kept_is test None x e = none_some e
 kept_is test (Some y) x e = grind (arith, nat_tests, none_some)
 
 -- a test that fails nothing passes what a filter leaves only where it passes what was there
-pub kept_passes : {X : Type 0} (p : Option X → Bool) → p None ≡ false → (test : X → Bool) (o : Option X) → p (filtered test o) ≡ true → p o ≡ true
+pub kept_passes : {X : Type 0} (p : Option X → Bool) → p None ≡ false → (test : X → Bool) (o : Option X) → p (kept test o) ≡ true → p o ≡ true
 kept_passes p none test None e = e
 kept_passes p none test (Some y) e = grind (arith, nat_tests, false_true)

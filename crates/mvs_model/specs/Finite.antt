@@ -6,13 +6,13 @@ abbrev pub Changes : {K X : Type 0} → (K → Option X) → (K → Bool) → Op
 Changes {K = K} old test v new = (k : K) → new k ≡ (if test k then v else old k)
 
 -- the value where it passes the test
-abbrev pub filtered : {X : Type 0} → (X → Bool) → Option X → Option X
-filtered test None = None
-filtered test (Some x) = if test x then Some x else None
+abbrev pub kept : {X : Type 0} → (X → Bool) → Option X → Option X
+kept test None = None
+kept test (Some x) = if test x then Some x else None
 
 -- new is old without the entries that fail the test
 abbrev pub Keeps : {K X : Type 0} → (K → Option X) → (K → X → Bool) → (K → Option X) → Type 0
-Keeps {K = K} old test new = (k : K) → new k ≡ filtered (test k) (old k)
+Keeps {K = K} old test new = (k : K) → new k ≡ kept (test k) (old k)
 
 -- whether there is a value that passes the test
 abbrev pub has : {X : Type 0} → (X → Bool) → Option X → Bool

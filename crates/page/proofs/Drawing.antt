@@ -1,7 +1,7 @@
 -- Pictures and states that are changed alike.
 use Rattle.std.proofs.Common.{◌≡◌, ℕ, Bool, true, false, cond, Option, Some, None, option_map, refl, sym, ap, ◌∙◌, subst}
 use Rattle.std.specs.FinMap.{get}
-use Rattle.mvs_model.specs.Finite.{Changes, filtered}
+use Rattle.mvs_model.specs.Finite.{Changes, kept}
 use Rattle.mvs_model.specs.Job.{JobValue}
 use Rattle.mvs_model.specs.Owners.{entry}
 use Rattle.mvs_model.specs.State.{State}
@@ -23,7 +23,7 @@ module _ {X Y : Type 0} (P : X → Y → Type 0) where
   both_mapped Q g f (Some x) (Some y) h = f x y h
 
   -- tests that tell the same of what fits
-  pub both_kept : (Q : X → Y → Type 0) (s : X → Bool) (t : Y → Bool) → ((x : X) (y : Y) → P x y → s x ≡ t y) → ((x : X) (y : Y) → t y ≡ true → P x y → Q x y) → (a : Option X) (b : Option Y) → Both P a b → Both Q (filtered s a) (filtered t b)
+  pub both_kept : (Q : X → Y → Type 0) (s : X → Bool) (t : Y → Bool) → ((x : X) (y : Y) → P x y → s x ≡ t y) → ((x : X) (y : Y) → t y ≡ true → P x y → Q x y) → (a : Option X) (b : Option Y) → Both P a b → Both Q (kept s a) (kept t b)
   both_kept Q s t same f None None h = tt
   both_kept Q s t same f None (Some y) h = absurd h
   both_kept Q s t same f (Some x) None h = absurd h

@@ -5,7 +5,7 @@ use Rattle.std.specs.FinMap.{get}
 use Rattle.std.proofs.lemmas.Bool.Decides.{nat_tests}
 use Rattle.mvs_model.specs.declared.name.Name.{Name}
 use Rattle.mvs_model.specs.Changes.{End}
-use Rattle.mvs_model.specs.Finite.{has, filtered}
+use Rattle.mvs_model.specs.Finite.{has, kept}
 use Rattle.mvs_model.specs.Job.{JobValue}
 use Rattle.mvs_model.specs.Name.{same_name}
 use Rattle.mvs_model.specs.Owners.{ends_with, entry, is_among_ended}
@@ -18,10 +18,10 @@ use Rattle.page.proofs.Drawing.{both_kept}
 -- ---- what is left of a picture
 
 -- a value that stays twice
-kept_twice : {X : Type 0} (s t u : X → Bool) → ((x : X) → u x ≡ (t x && s x)) → (o : Option X) → filtered s (filtered t o) ≡ filtered u o
+kept_twice : {X : Type 0} (s t u : X → Bool) → ((x : X) → u x ≡ (t x && s x)) → (o : Option X) → kept s (kept t o) ≡ kept u o
 kept_twice s t u same None = refl
 kept_twice s t u same (Some x) = at (t x) (same x) where
-  at : (b : Bool) → u x ≡ (b && s x) → filtered s (cond b (Some x) None) ≡ cond (u x) (Some x) None
+  at : (b : Bool) → u x ≡ (b && s x) → kept s (cond b (Some x) None) ≡ cond (u x) (Some x) None
   at true e = ap (λ c. cond c (Some x) None) (sym e)
   at false e = ap (λ c. cond c (Some x) None) (sym e)
 
@@ -32,11 +32,11 @@ both_out y x xs = grind (arith, nat_tests)
 -- What is left of one picture in another, without these tasks and what they own.
 pub record IsLeft (gone : Name → Bool) (p q : Picture) : Type 0 where
   pub regions : q.regions ≡ p.regions
-  pub held : (d : ℕ) → q.held d ≡ filtered (λ m. not (gone m.label.owner)) (p.held d)
-  pub tasks : (t : Name) → q.tasks t ≡ filtered (λ _. not (gone t)) (p.tasks t)
-  pub subpools : (t : Name) (n : ℕ) → q.subpools t n ≡ filtered (λ l. not (gone t || gone l.owner)) (p.subpools t n)
+  pub held : (d : ℕ) → q.held d ≡ kept (λ m. not (gone m.label.owner)) (p.held d)
+  pub tasks : (t : Name) → q.tasks t ≡ kept (λ _. not (gone t)) (p.tasks t)
+  pub subpools : (t : Name) (n : ℕ) → q.subpools t n ≡ kept (λ l. not (gone t || gone l.owner)) (p.subpools t n)
   pub names : (n : Name) → q.names n ≡ p.names n
-  pub pools : (n : Name) → q.pools n ≡ filtered (λ k. not (gone k.label.owner)) (p.pools n)
+  pub pools : (n : Name) → q.pools n ≡ kept (λ k. not (gone k.label.owner)) (p.pools n)
 
 -- one task ends
 one_ended : (p : Picture) (t : Name) → IsLeft (λ x. same_name x t) p (ended t p)
@@ -48,7 +48,7 @@ one_ended p t = record {
   names = λ n. refl;
   pools = λ n. refl;
 } where
-  at : {X : Type 0} (b : Bool) (o : Option X) → cond b None o ≡ filtered (λ _. not b) o
+  at : {X : Type 0} (b : Bool) (o : Option X) → cond b None o ≡ kept (λ _. not b) o
   at true None = refl
   at true (Some x) = refl
   at false None = refl
@@ -62,16 +62,16 @@ both_twice a b c d e f h1 h2 = grind (arith, nat_tests)
 then_left : (one two both : Name → Bool) (p q r : Picture) → ((x : Name) → not (both x) ≡ (not (one x) && not (two x))) → IsLeft one p q → IsLeft two q r → IsLeft both p r
 then_left one two both p q r same a b = record {
   regions = b.regions ∙ a.regions;
-  held = λ d. b.held d ∙ ap (filtered (λ m. not (two m.label.owner))) (a.held d) ∙ kept_twice (λ m. not (two m.label.owner)) (λ m. not (one m.label.owner)) (λ m. not (both m.label.owner)) (λ m. same m.label.owner) (p.held d);
-  tasks = λ t. b.tasks t ∙ ap (filtered (λ _. not (two t))) (a.tasks t) ∙ kept_twice (λ _. not (two t)) (λ _. not (one t)) (λ _. not (both t)) (λ _. same t) (p.tasks t);
-  subpools = λ t n. b.subpools t n ∙ ap (filtered (λ l. not (two t || two l.owner))) (a.subpools t n)
+  held = λ d. b.held d ∙ ap (kept (λ m. not (two m.label.owner))) (a.held d) ∙ kept_twice (λ m. not (two m.label.owner)) (λ m. not (one m.label.owner)) (λ m. not (both m.label.owner)) (λ m. same m.label.owner) (p.held d);
+  tasks = λ t. b.tasks t ∙ ap (kept (λ _. not (two t))) (a.tasks t) ∙ kept_twice (λ _. not (two t)) (λ _. not (one t)) (λ _. not (both t)) (λ _. same t) (p.tasks t);
+  subpools = λ t n. b.subpools t n ∙ ap (kept (λ l. not (two t || two l.owner))) (a.subpools t n)
       ∙ kept_twice (λ l. not (two t || two l.owner)) (λ l. not (one t || one l.owner)) (λ l. not (both t || both l.owner)) (λ l. both_twice (both t) (one t) (two t) (both l.owner) (one l.owner) (two l.owner) (same t) (same l.owner)) (p.subpools t n);
   names = λ n. b.names n ∙ a.names n;
-  pools = λ n. b.pools n ∙ ap (filtered (λ k. not (two k.label.owner))) (a.pools n) ∙ kept_twice (λ k. not (two k.label.owner)) (λ k. not (one k.label.owner)) (λ k. not (both k.label.owner)) (λ k. same k.label.owner) (p.pools n);
+  pools = λ n. b.pools n ∙ ap (kept (λ k. not (two k.label.owner))) (a.pools n) ∙ kept_twice (λ k. not (two k.label.owner)) (λ k. not (one k.label.owner)) (λ k. not (both k.label.owner)) (λ k. same k.label.owner) (p.pools n);
 }
 
 -- what passes stays
-passes : {X : Type 0} (test : X → Bool) → ((x : X) → test x ≡ true) → (o : Option X) → o ≡ filtered test o
+passes : {X : Type 0} (test : X → Bool) → ((x : X) → test x ≡ true) → (o : Option X) → o ≡ kept test o
 passes test all None = refl
 passes test all (Some x) = ap (λ b. cond b (Some x) None) (sym (all x))
 
@@ -100,8 +100,8 @@ module _ (old new : JobValue) (t : Name) (e : End old.state t new.state) (names 
   -- the label of a subpool that stays goes on to mean it
   stays : (l : Label) (s : ℕ) → ends_with old.state.owners t e.fallen s ≡ false → Means old.state.owners l s → Means new.state.owners l s
   stays l s stay m = record {
-    owned = e.owners.owner s ∙ ap (filtered (λ x. not (is_among_ended t e.fallen x))) m.owned ∙ ap (λ b. cond (not b) (Some l.owner) None) out;
-    under = e.owners.table (l.owner, l.number) ∙ ap (filtered (λ s. not (is_among_ended t e.fallen l.owner || ends_with old.state.owners t e.fallen s))) m.under ∙ (λ i. cond (not (out i || stay i)) (Some s) None);
+    owned = e.owners.owner s ∙ ap (kept (λ x. not (is_among_ended t e.fallen x))) m.owned ∙ ap (λ b. cond (not b) (Some l.owner) None) out;
+    under = e.owners.table (l.owner, l.number) ∙ ap (kept (λ s. not (is_among_ended t e.fallen l.owner || ends_with old.state.owners t e.fallen s))) m.under ∙ (λ i. cond (not (out i || stay i)) (Some s) None);
   } where
     out : is_among_ended t e.fallen l.owner ≡ false
     out = sym (ap (has (is_among_ended t e.fallen)) m.owned) ∙ stay
@@ -126,7 +126,7 @@ module _ (old new : JobValue) (t : Name) (e : End old.state t new.state) (names 
     held = λ d. subst (λ x. Both (IsMark (Means new.state.owners)) x (get new.state.held d)) (sym (left.held d)) (subst (Both (IsMark (Means new.state.owners)) _) (sym (e.drops.held d))
         (both_kept (IsMark (Means old.state.owners)) (IsMark (Means new.state.owners)) _ _ (λ m h k. alike m.label h.subpool k.label)
         (λ m h b k. record { label = stays m.label h.subpool (stayed h.subpool b) k.label; pooled = k.pooled }) (p.held d) (get old.state.held d) (shows.held d)));
-    tasks = λ x. left.tasks x ∙ ap (filtered (λ _. not (is_among_ended t e.fallen x))) (shows.tasks x) ∙ sym (e.owners.tasks x);
+    tasks = λ x. left.tasks x ∙ ap (kept (λ _. not (is_among_ended t e.fallen x))) (shows.tasks x) ∙ sym (e.owners.tasks x);
     subpools = λ x n. subst (λ y. Both (Means new.state.owners) y (entry new.state.owners x n)) (sym (left.subpools x n)) (subst (Both (Means new.state.owners) _) (sym (e.owners.table (x, n)))
         (both_kept (Means old.state.owners) (Means new.state.owners) _ _ (λ l s m. both_not (is_among_ended t e.fallen x) _ _ (alike l s m))
         (λ l s b m. stays l s (stayed s (neither (is_among_ended t e.fallen x) (ends_with old.state.owners t e.fallen s) b)) m) (p.subpools x n) (entry old.state.owners x n) (shows.subpools x n)));

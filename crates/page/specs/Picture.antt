@@ -7,7 +7,7 @@ use Rattle.std.specs.FinSet as set
 use Rattle.mvs_model.specs.declared.line.Line.{Line}
 use Rattle.mvs_model.specs.declared.name.Name.{Name}
 use Rattle.mvs_model.specs.Answers.{Event}
-use Rattle.mvs_model.specs.Finite.{has, filtered}
+use Rattle.mvs_model.specs.Finite.{has, kept}
 use Rattle.mvs_model.specs.Job.{JobValue}
 use Rattle.mvs_model.specs.Name.{same_name}
 use Rattle.mvs_model.specs.Owners.{Owners, Task, entry}
@@ -67,7 +67,7 @@ same_label l m = (l.number == m.number) && same_name l.owner m.owner
 
 -- the picture without what is of subpools whose labels pass the test
 abbrev pub without : (Label → Bool) → Picture → Picture
-without test p = record p { held = λ d. filtered (λ m. not (test m.label)) (p.held d); pools = λ n. filtered (λ q. not (test q.label)) (p.pools n) }
+without test p = record p { held = λ d. kept (λ m. not (test m.label)) (p.held d); pools = λ n. kept (λ q. not (test q.label)) (p.pools n) }
 
 -- a mark and a pool with another label
 abbrev pub mark_moved : (Label → Label) → Mark → Mark
@@ -125,7 +125,7 @@ with_cell cell taken pool = record pool { taken = λ c. if c == cell then taken 
 -- the picture without a task, what it has and what it owns
 abbrev pub ended : Name → Picture → Picture
 ended task p =
-    with_task task None (record (without (λ l. same_name l.owner task) p) { subpools = λ t n. filtered (λ l. not (same_name t task || same_name l.owner task)) (p.subpools t n) })
+    with_task task None (record (without (λ l. same_name l.owner task) p) { subpools = λ t n. kept (λ l. not (same_name t task || same_name l.owner task)) (p.subpools t n) })
 
 -- the picture where an area is held by a subpool
 abbrev pub with_area : PlaceValue → Label → Picture → Picture

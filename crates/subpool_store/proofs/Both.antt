@@ -4,7 +4,7 @@ use Rattle.std.proofs.lemmas.Bool.{cases_lt, lt-ltb, le-ltb, cond-true, cond-fal
 use Rattle.std.proofs.lemmas.Bool.Decides.{nat_tests}
 use Rattle.std.specs.Ordering.{nat_cmp}
 use Rattle.std.specs.FinMap.{FinMap, get, empty, get-empty}
-use Rattle.mvs_model.specs.Finite.{Changes, filtered, has}
+use Rattle.mvs_model.specs.Finite.{Changes, kept, has}
 use Rattle.mvs_model.specs.Place.{PlaceValue, place_at}
 use Rattle.mvs_model.specs.Storage.{covers, has_address, InRegion, IsStorage, Storage, ReleaseAll, ReleaseEach, is_one_of, holder}
 use Rattle.mvs_model.proofs.Tables.{get-table, table_changes, table_some, same_maps}
@@ -150,10 +150,10 @@ module _ (b a : RegionState) (fill : ℕ) where
     bytes = λ k. bytes k (cases_lt k 16777216) (cases_lt k 2147483648);
   } where
     held : (k : ℕ) → (k < 2097152) ⊎ (2097152 ≤ k) → (k < 268435456) ⊎ (268435456 ≤ k) →
-        get (joined 268435456 2097152 b'.held a'.held) k ≡ filtered (λ t. not (is_one_of subpools t)) (get (joined 268435456 2097152 b.held a.held) k)
-    held k (inl below) small = get_low 268435456 2097152 b'.held a'.held (omega arith) k below ∙ low.held k ∙ sym (ap (filtered (λ t. not (is_one_of subpools t))) (low_holder k below))
-    held k (inr above) (inl small) = get_high 268435456 2097152 b'.held a'.held k above small ∙ high.held k ∙ sym (ap (filtered (λ t. not (is_one_of subpools t))) (high_holder k above small))
-    held k (inr above) (inr past) = get_past 268435456 2097152 b'.held a'.held k past ∙ sym (ap (filtered (λ t. not (is_one_of subpools t))) (past_holder k past))
+        get (joined 268435456 2097152 b'.held a'.held) k ≡ kept (λ t. not (is_one_of subpools t)) (get (joined 268435456 2097152 b.held a.held) k)
+    held k (inl below) small = get_low 268435456 2097152 b'.held a'.held (omega arith) k below ∙ low.held k ∙ sym (ap (kept (λ t. not (is_one_of subpools t))) (low_holder k below))
+    held k (inr above) (inl small) = get_high 268435456 2097152 b'.held a'.held k above small ∙ high.held k ∙ sym (ap (kept (λ t. not (is_one_of subpools t))) (high_holder k above small))
+    held k (inr above) (inr past) = get_past 268435456 2097152 b'.held a'.held k past ∙ sym (ap (kept (λ t. not (is_one_of subpools t))) (past_holder k past))
 
     cond_none : (t : Bool) → cond {A = Option ℕ} t None None ≡ None
     cond_none true = refl
@@ -217,6 +217,6 @@ nothing_kept b a m n some_m few_m few_n low high sound_b sound_a = record {
 pub released_alone : (old : Storage) (s : ℕ) (new : Storage) (subpools : List ℕ) → ((t : ℕ) → is_one_of subpools t ≡ eqb t s) → ReleaseEach old subpools new → ReleaseAll old s new
 released_alone old s new subpools one each = record {
   regions = each.regions;
-  held = λ d. each.held d ∙ (λ i. filtered (λ t. not (one t i)) (get old.held d));
+  held = λ d. each.held d ∙ (λ i. kept (λ t. not (one t i)) (get old.held d));
   bytes = λ a. each.bytes a ∙ (λ i. cond (has (λ t. one t i) (holder old (a / 8))) None (get old.bytes a));
 }

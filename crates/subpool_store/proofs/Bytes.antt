@@ -3,7 +3,7 @@ use Rattle.std.proofs.Common.{◌≡◌, ℕ, ◌+◌, ◌-◌, ◌*◌, ◌/◌
 use Rattle.std.proofs.lemmas.Bool.{cases_Bool, cases_lt, cond-true, cond-false}
 use Rattle.std.proofs.lemmas.List.{get_or_past}
 use Rattle.std.specs.FinMap.{get}
-use Rattle.mvs_model.specs.Finite.{Changes, Keeps, filtered, has}
+use Rattle.mvs_model.specs.Finite.{Changes, Keeps, kept, has}
 use Rattle.mvs_model.specs.Place.{PlaceValue}
 use Rattle.mvs_model.specs.Storage.{covers, has_address}
 use Rattle.mvs_model.proofs.Tables.{get-table_all}
@@ -40,14 +40,14 @@ cells_change first start end p f g v addr_is len_is some change k =
 -- a byte is the same where it is the same while its doubleword is held
 kept_at : (first : ℕ) (bits : List Bool) (pages : List (Option ℕ)) (bytes bytes' : ℕ → ℕ) (a : ℕ) →
     ((t : ℕ) → 8 * first ≤ a → cell bits pages ((a - 8 * first) / 8) ≡ Some t → bytes' (a - 8 * first) ≡ bytes (a - 8 * first)) → byte_at first bits pages bytes' a ≡ byte_at first bits pages bytes a
-kept_at first bits pages bytes bytes' a filtered = by (shifted first (cell bits pages) (a / 8)) refl where
+kept_at first bits pages bytes bytes' a kept = by (shifted first (cell bits pages) (a / 8)) refl where
   by : (o : Option ℕ) → shifted first (cell bits pages) (a / 8) ≡ o → byte_at first bits pages bytes' a ≡ byte_at first bits pages bytes a
   by None e = cond-false _ _ _ (ap is_some e) ∙ sym (cond-false _ _ _ (ap is_some e))
   by (Some t) e =
       let here = shifted_some first (cell bits pages) (a / 8) t e in
       let from : first ≤ a / 8 = here.0 in
       let index : (a - 8 * first) / 8 ≡ a / 8 - first = omega arith in
-      ap (λ x. cond (is_some (shifted first (cell bits pages) (a / 8))) (Some x) None) (filtered t (omega arith) (ap (cell bits pages) index ∙ here.1))
+      ap (λ x. cond (is_some (shifted first (cell bits pages) (a / 8))) (Some x) None) (kept t (omega arith) (ap (cell bits pages) index ∙ here.1))
 
 module _ (first : ℕ) (bits bits' : List Bool) (pages pages' : List (Option ℕ)) where
   -- what the function says of the holders is what the maps say
@@ -103,17 +103,17 @@ module _ (first : ℕ) (bits bits' : List Bool) (pages pages' : List (Option ℕ
         inner true o = refl
         inner false o = refl
 
-  pub dropped_shifted : (test : ℕ → Bool) → ((i : ℕ) → cell bits' pages' i ≡ filtered (λ t. not (test t)) (cell bits pages i)) →
-      (k : ℕ) → (k < first) ⊎ (first ≤ k) → shifted first (cell bits' pages') k ≡ filtered (λ t. not (test t)) (shifted first (cell bits pages) k)
-  dropped_shifted test cells k (inl low) = shifted_none first (cell bits' pages') k (λ h. absurd (omega arith)) ∙ sym (ap (filtered (λ t. not (test t))) (shifted_none first (cell bits pages) k (λ h. absurd (omega arith))))
-  dropped_shifted test cells k (inr high) = shifted_at first (cell bits' pages') k high ∙ cells (k - first) ∙ sym (ap (filtered (λ t. not (test t))) (shifted_at first (cell bits pages) k high))
+  pub dropped_shifted : (test : ℕ → Bool) → ((i : ℕ) → cell bits' pages' i ≡ kept (λ t. not (test t)) (cell bits pages i)) →
+      (k : ℕ) → (k < first) ⊎ (first ≤ k) → shifted first (cell bits' pages') k ≡ kept (λ t. not (test t)) (shifted first (cell bits pages) k)
+  dropped_shifted test cells k (inl low) = shifted_none first (cell bits' pages') k (λ h. absurd (omega arith)) ∙ sym (ap (kept (λ t. not (test t))) (shifted_none first (cell bits pages) k (λ h. absurd (omega arith))))
+  dropped_shifted test cells k (inr high) = shifted_at first (cell bits' pages') k high ∙ cells (k - first) ∙ sym (ap (kept (λ t. not (test t))) (shifted_at first (cell bits pages) k high))
 
   -- all that s holds goes, with its bytes
-  pub dropped_holders : (test : ℕ → Bool) → ((i : ℕ) → cell bits' pages' i ≡ filtered (λ t. not (test t)) (cell bits pages i)) →
+  pub dropped_holders : (test : ℕ → Bool) → ((i : ℕ) → cell bits' pages' i ≡ kept (λ t. not (test t)) (cell bits pages i)) →
       Keeps (get (held_of first bits pages)) (λ _ t. not (test t)) (get (held_of first bits' pages'))
-  dropped_holders test cells k = holder_at first bits' pages' k ∙ dropped_shifted test cells k (cases_lt k first) ∙ sym (ap (filtered (λ t. not (test t))) (holder_at first bits pages k))
+  dropped_holders test cells k = holder_at first bits' pages' k ∙ dropped_shifted test cells k (cases_lt k first) ∙ sym (ap (kept (λ t. not (test t))) (holder_at first bits pages k))
 
-  pub dropped_bytes : (test : ℕ → Bool) (bytes bytes' : ℕ → ℕ) → ((k t : ℕ) → cell bits' pages' (k / 8) ≡ Some t → bytes' k ≡ bytes k) → ((i : ℕ) → cell bits' pages' i ≡ filtered (λ t. not (test t)) (cell bits pages i)) →
+  pub dropped_bytes : (test : ℕ → Bool) (bytes bytes' : ℕ → ℕ) → ((k t : ℕ) → cell bits' pages' (k / 8) ≡ Some t → bytes' k ≡ bytes k) → ((i : ℕ) → cell bits' pages' i ≡ kept (λ t. not (test t)) (cell bits pages i)) →
       Changes (get (bytes_of first bits pages bytes)) (λ a. has test (get (held_of first bits pages) (a / 8))) None (get (bytes_of first bits' pages' bytes'))
   dropped_bytes test bytes bytes' stays cells a =
       get-bytes_of first bits' pages' bytes' a
@@ -122,7 +122,7 @@ module _ (first : ℕ) (bits bits' : List Bool) (pages pages' : List (Option ℕ
       ∙ inner (shifted first (cell bits pages) (a / 8))
       ∙ sym (ap (λ o. cond (has test o) None (byte_at first bits pages bytes a)) (holder_at first bits pages (a / 8)))
       ∙ sym (ap (cond (has test (get (held_of first bits pages) (a / 8))) None) (get-bytes_of first bits pages bytes a)) where
-        inner : (o : Option ℕ) → cond (is_some (filtered (λ t. not (test t)) o)) (Some (bytes (a - 8 * first))) None ≡ cond (has test o) None (cond (is_some o) (Some (bytes (a - 8 * first))) None)
+        inner : (o : Option ℕ) → cond (is_some (kept (λ t. not (test t)) o)) (Some (bytes (a - 8 * first))) None ≡ cond (has test o) None (cond (is_some o) (Some (bytes (a - 8 * first))) None)
         inner None = refl
         inner (Some t) = at (test t) where
           at : (b : Bool) → cond (is_some (cond (not b) (Some t) None)) (Some (bytes (a - 8 * first))) None ≡ cond b None (Some (bytes (a - 8 * first)))

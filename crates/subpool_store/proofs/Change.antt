@@ -3,7 +3,7 @@ use Rattle.std.proofs.Common.{◌≡◌, ℕ, ◌+◌, ◌-◌, ◌*◌, ◌/◌
 use Rattle.std.proofs.lemmas.Bool.{both_ways, cases_lt, false≢true, and_parts, cases_Bool, cond-true, cond-false, lt-ltb, le-ltb}
 use Rattle.std.proofs.lemmas.List.{get_or_past}
 use Rattle.std.proofs.lemmas.Option.{none-some}
-use Rattle.mvs_model.specs.Finite.{filtered, has}
+use Rattle.mvs_model.specs.Finite.{kept, has}
 use Rattle.page_map.specs.Owners.{owner_of, is_usable}
 use Rattle.subpool_store.specs.Bits.{in_range}
 use Rattle.subpool_store.specs.Edits.{IsMarked, IsAssigned, IsGivenUp, IsDropped}
@@ -109,7 +109,7 @@ module _ (start end : ℕ) (bits bits' : List Bool) (pages pages' : List (Option
               | inr outside ↦ given.outside (i / 512) outside
               | inl inside ↦ elim (given.inside (i / 512) inside) [
                 | inl gone ↦ absurd (both_ways _ (gone.1 i refl) set)
-                | inr filtered ↦ filtered.0
+                | inr kept ↦ kept.0
               ]
             ]
 
@@ -126,7 +126,7 @@ module _ (start end : ℕ) (bits bits' : List Bool) (pages pages' : List (Option
           | inr outside ↦ page_out i outside ∙ exact.free i (sym (given.outside (i / 512) outside) ∙ none)
           | inl inside ↦ elim (given.inside (i / 512) inside) [
             | inl gone ↦ gone.1 i refl
-            | inr filtered ↦ absurd (both_ways _ (exact.free filtered.1.0 (ap (owner_of pages) (filtered.1.1) ∙ sym filtered.0 ∙ none)) (bit_before filtered.1.0 filtered.1.2))
+            | inr kept ↦ absurd (both_ways _ (exact.free kept.1.0 (ap (owner_of pages) (kept.1.1) ∙ sym kept.0 ∙ none)) (bit_before kept.1.0 kept.1.2))
           ]
         ];
     used = λ p t owned.
@@ -136,13 +136,13 @@ module _ (start end : ℕ) (bits bits' : List Bool) (pages pages' : List (Option
               (at.0, at.1, page_out at.0 (ap (in_range (start / 512) ((end - 1) / 512 + 1)) at.1 ∙ outside) ∙ at.2)
           | inl inside ↦ elim (given.inside p inside) [
             | inl gone ↦ absurd (none-some t (sym gone.0 ∙ owned))
-            | inr filtered ↦ filtered.1
+            | inr kept ↦ kept.1
           ]
         ];
   }
 
 -- a doubleword and its page after all of s went
-dropped_at : (b : Bool) (o : Option ℕ) (test : ℕ → Bool) → cond (cond (has test o) false b) (cond (has test o) None o) None ≡ filtered (λ t. not (test t)) (cond b o None)
+dropped_at : (b : Bool) (o : Option ℕ) (test : ℕ → Bool) → cond (cond (has test o) false b) (cond (has test o) None o) None ≡ kept (λ t. not (test t)) (cond b o None)
 dropped_at true None test = refl
 dropped_at false None test = refl
 dropped_at true (Some t) test = at (test t) where
@@ -168,7 +168,7 @@ module _ (test : ℕ → Bool) (bits bits' : List Bool) (pages pages' : List (Op
   bit_is : (i : ℕ) → get_or bits' i false ≡ cond (has test (owner_of pages (i / 512))) false (get_or bits i false)
   bit_is i = dropped.each i ∙ ap (λ b. cond b false (get_or bits i false)) (all_pages (i / 512))
 
-  pub dropped_cell : (i : ℕ) → cell bits' pages' i ≡ filtered (λ t. not (test t)) (cell bits pages i)
+  pub dropped_cell : (i : ℕ) → cell bits' pages' i ≡ kept (λ t. not (test t)) (cell bits pages i)
   dropped_cell i = (λ j. cond (bit_is i j) (owner_is (i / 512) j) None) ∙ dropped_at (get_or bits i false) (owner_of pages (i / 512)) test
 
   pub dropped_exact : IsExact bits' pages'

@@ -195,7 +195,7 @@ impl Memory {
             start,
             end: start + (len / 8) as usize,
         };
-        Some((run, queue::behind(&self.region, page, queue)))
+        Some((run, queue::next_head(&self.region, page, queue)))
     }
 
     // Returns the same run as offsets in bytes: the first one, the one after the run, and the queue after it.
@@ -211,7 +211,7 @@ impl Memory {
         let Some((at, len)) = queue::next_free(&self.region, page, queue, 0) else {
             return None;
         };
-        Some((at, at + len, queue::behind(&self.region, page, queue)))
+        Some((at, at + len, queue::next_head(&self.region, page, queue)))
     }
 
     // Gives each of some bytes that are held the value.

@@ -7,7 +7,7 @@ use Rattle.std.proofs.lemmas.Bool.Decides.{nat_tests, eqb_tells}
 use Rattle.std.specs.List.Sorted.{IsStrictlySortedBy}
 use Rattle.std.specs.Ordering.{nat_cmp}
 use Rattle.slab.specs.Slab.{Slab, get, slab_len}
-use Rattle.mvs_model.specs.Finite.{has, filtered}
+use Rattle.mvs_model.specs.Finite.{has, kept}
 use Rattle.mvs_model.specs.Storage.{is_one_of}
 use Rattle.task_owner.specs.Seats.{item_at, number_of}
 use Rattle.task_owner.specs.Family.{IsFreed, falls_free, is_owner_active, is_of, is_freed_below, OwnersHave, FreedBelow, TrimsBy, IsTrimmedBy, Loses, IsLost}
@@ -111,7 +111,7 @@ module _ (freed : List ℕ) where
           ap (λ xs. item_at xs s) left_is ∙ set_apart now r s None d ∙ was.owners s
           ∙ ap (λ b. cond b None (item_at owned s)) (sym (below_to s ∙ ap (λ b. is_freed_below freed from s || b) (let t : (s == r) ≡ false = grind (arith, nat_tests) in t) ∙ or_false (is_freed_below freed from s)))
 
-    kept_again : (o : Option ℕ) → cond (has (λ s. s == r) (filtered (λ s. not (is_freed_below freed from s)) o)) None (filtered (λ s. not (is_freed_below freed from s)) o) ≡ filtered (λ s. not (is_freed_below freed to s)) o
+    kept_again : (o : Option ℕ) → cond (has (λ s. s == r) (kept (λ s. not (is_freed_below freed from s)) o)) None (kept (λ s. not (is_freed_below freed from s)) o) ≡ kept (λ s. not (is_freed_below freed to s)) o
     kept_again None = refl
     kept_again (Some s) = by (is_freed_below freed from s) ∙ ap (λ b. cond (not b) (Some s) None) (sym (below_to s)) where
       two : (c : Bool) → cond c None (Some s) ≡ cond (not c) (Some s) None
@@ -132,9 +132,9 @@ module _ (freed : List ℕ) where
       len = len ∙ was.len;
       capacity = capacity ∙ was.capacity;
     } where
-      numbers : (k : ℕ) (x y z : TaskSlot) → get old k ≡ Some x → TrimsBy (λ s. not (is_freed_below freed from s)) x y → Loses number r y z → (n : ℕ) → number_of z n ≡ filtered (λ s. not (is_freed_below freed to s)) (number_of x n)
+      numbers : (k : ℕ) (x y z : TaskSlot) → get old k ≡ Some x → TrimsBy (λ s. not (is_freed_below freed from s)) x y → Loses number r y z → (n : ℕ) → number_of z n ≡ kept (λ s. not (is_freed_below freed to s)) (number_of x n)
       numbers k x y z h t l n = l.numbers n ∙ ap (λ o. cond ((n == number) && has (λ s. s == r) o) None o) (t.numbers n) ∙ by (cases_eq n number) where
-        no_test : (o : Option ℕ) → number_of x n ≡ o → n ≢ number → has (λ s. s == r) (filtered (λ s. not (is_freed_below freed from s)) o) ≡ false
+        no_test : (o : Option ℕ) → number_of x n ≡ o → n ≢ number → has (λ s. s == r) (kept (λ s. not (is_freed_below freed from s)) o) ≡ false
         no_test None e d = refl
         no_test (Some s) e d = two (cases_eq s r) (is_freed_below freed from s) where
           two : (s ≡ r) ⊎ (s ≢ r) → (b : Bool) → has (λ s. s == r) (cond (not b) (Some s) None) ≡ false
@@ -142,11 +142,11 @@ module _ (freed : List ℕ) where
           two (inr other) true = refl
           two (inr other) false = grind (arith, nat_tests)
 
-        by : (n ≡ number) ⊎ (n ≢ number) → cond ((n == number) && has (λ s. s == r) (filtered (λ s. not (is_freed_below freed from s)) (number_of x n))) None (filtered (λ s. not (is_freed_below freed from s)) (number_of x n)) ≡ filtered (λ s. not (is_freed_below freed to s)) (number_of x n)
-        by (inl e) = ap (λ b. cond (b && has (λ s. s == r) (filtered (λ s. not (is_freed_below freed from s)) (number_of x n))) None (filtered (λ s. not (is_freed_below freed from s)) (number_of x n))) (let t : (n == number) ≡ true = grind (arith, nat_tests) in t) ∙ kept_again (number_of x n)
+        by : (n ≡ number) ⊎ (n ≢ number) → cond ((n == number) && has (λ s. s == r) (kept (λ s. not (is_freed_below freed from s)) (number_of x n))) None (kept (λ s. not (is_freed_below freed from s)) (number_of x n)) ≡ kept (λ s. not (is_freed_below freed to s)) (number_of x n)
+        by (inl e) = ap (λ b. cond (b && has (λ s. s == r) (kept (λ s. not (is_freed_below freed from s)) (number_of x n))) None (kept (λ s. not (is_freed_below freed from s)) (number_of x n))) (let t : (n == number) ≡ true = grind (arith, nat_tests) in t) ∙ kept_again (number_of x n)
         by (inr d) =
-            ap (λ b. cond (b && has (λ s. s == r) (filtered (λ s. not (is_freed_below freed from s)) (number_of x n))) None (filtered (λ s. not (is_freed_below freed from s)) (number_of x n))) (let t : (n == number) ≡ false = grind (arith, nat_tests) in t)
-            ∙ ap (λ b. cond b None (filtered (λ s. not (is_freed_below freed from s)) (number_of x n))) (sym (no_test (number_of x n) refl d))
+            ap (λ b. cond (b && has (λ s. s == r) (kept (λ s. not (is_freed_below freed from s)) (number_of x n))) None (kept (λ s. not (is_freed_below freed from s)) (number_of x n))) (let t : (n == number) ≡ false = grind (arith, nat_tests) in t)
+            ∙ ap (λ b. cond b None (kept (λ s. not (is_freed_below freed from s)) (number_of x n))) (sym (no_test (number_of x n) refl d))
             ∙ kept_again (number_of x n)
 
       at : (k : ℕ) (o : Option TaskSlot) → get old k ≡ o → (p : Option TaskSlot) → get mid k ≡ p → IsTrimmedBy (λ s. not (is_freed_below freed from s)) o p → IsLost number r p (get next k) → IsTrimmedBy (λ s. not (is_freed_below freed to s)) o (get next k)

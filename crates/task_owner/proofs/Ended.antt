@@ -7,7 +7,7 @@ use Rattle.std.specs.List.Sorted.{IsSorted, IsPermutation}
 use Rattle.slab.specs.Slab.{Slab, get}
 use Rattle.mvs_model.specs.declared.name.Name.{Name}
 use Rattle.mvs_model.specs.Name.{name_cmp}
-use Rattle.mvs_model.specs.Finite.{Keeps, filtered, has}
+use Rattle.mvs_model.specs.Finite.{Keeps, kept, has}
 use Rattle.mvs_model.specs.Storage.{is_one_of}
 use Rattle.mvs_model.proofs.Elements.{one_of_contained, contained_one_of}
 use Rattle.mvs_model.specs.Owners.{is_among_ended, ends_with, Ends, AreDescendants}
@@ -29,10 +29,10 @@ pub record EndsAt (d : TasksValue) (t : Name) (names : List Name) (subpools : Li
   pub fallen : AreDescendants d.owners t names
   pub ends : Ends d.owners t names (directory next left).owners
   pub freed : (s : ℕ) → Contains subpools s ↔ (ends_with d.owners t names s ≡ true)
-  pub identifiers : (k : ℕ) → name_at (directory next left) k ≡ filtered (λ x. not (is_among_ended t names x)) (name_at d k)
+  pub identifiers : (k : ℕ) → name_at (directory next left) k ≡ kept (λ x. not (is_among_ended t names x)) (name_at d k)
 
 -- an owner that is kept is active
-kept_active : (now : Slab TaskSlot) (o : Option Owned) (b : Bool) → b ≡ has (λ p. not (is_owner_active now p)) o → cond b None o ≡ filtered (is_owner_active now) o
+kept_active : (now : Slab TaskSlot) (o : Option Owned) (b : Bool) → b ≡ has (λ p. not (is_owner_active now p)) o → cond b None o ≡ kept (is_owner_active now) o
 kept_active now None true e = refl
 kept_active now None false e = refl
 kept_active now (Some o) b e = ap (λ c. cond c None (Some o)) e ∙ by (is_owner_active now o) where
@@ -54,7 +54,7 @@ module _ (mid next : Slab TaskSlot) (owned left : List (Option Owned)) (freed : 
         ap (λ b. b && is_one_of freed s) (let t : ltb s 4098 ≡ false = grind (arith, nat_tests) in t)
         ∙ sym (is_freed s ∙ ap (has (λ (o : Owned). not (is_owner_active mid o))) (past_end owned s (omega (arith, long))))
 
-  pub owners_left : (s : ℕ) → item_at left s ≡ filtered (is_owner_active mid) (item_at owned s)
+  pub owners_left : (s : ℕ) → item_at left s ≡ kept (is_owner_active mid) (item_at owned s)
   owners_left s = below.owners s ∙ kept_active mid (item_at owned s) (is_freed_below freed 4098 s) (all_below s ∙ is_freed s)
 
   pub entries_left : (k : ℕ) → IsTrimmed left (get mid k) (get next k)
@@ -79,7 +79,7 @@ module _ (old now next : Slab TaskSlot) (owned left : List (Option Owned)) (d : 
   named = sym (name_is old.slots owned d key id e f sound y.0 y.1)
 
   out : Keeps (item_at old.slots) (λ _ (x : TaskSlot). not (is_among_ended y.0.name fallen x.name)) (item_at now.slots)
-  out k = (falls y.0 y.1).filtered k ∙ (λ i. filtered (λ (x : TaskSlot). not (goes_sorted y.0.name names fallen same x.name i)) (get old k))
+  out k = (falls y.0 y.1).kept k ∙ (λ i. kept (λ (x : TaskSlot). not (goes_sorted y.0.name names fallen same x.name i)) (get old k))
 
   freed_is : (s : ℕ) → is_one_of freed s ≡ ends_with (directory old.slots owned).owners y.0.name fallen s
   freed_is s =

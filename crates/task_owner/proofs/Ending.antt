@@ -5,7 +5,7 @@ use Rattle.std.specs.Option.{option_map}
 use Rattle.std.specs.FinMap.{get}
 use Rattle.std.proofs.lemmas.Bool.{not-true}
 use Rattle.mvs_model.specs.declared.name.Name.{Name}
-use Rattle.mvs_model.specs.Finite.{Keeps, filtered, has}
+use Rattle.mvs_model.specs.Finite.{Keeps, kept, has}
 use Rattle.mvs_model.specs.Owners.{is_among_ended, Ends}
 use Rattle.task_owner.specs.Tasks.{name_at}
 use Rattle.task_owner.specs.Seats.{item_at, name_of_seat, number_of, seat_named, mother_of, task_of, entry_of, owner_name, directory, IsSound, MothersActive}
@@ -27,7 +27,7 @@ module _ (seats mid next : List (Option TaskSlot)) (owned left : List (Option Ow
   from_mid k x h = let r = kept_is (λ (y : TaskSlot). not (is_among_ended t fallen y.name)) (item_at seats k) x (sym (out k) ∙ h) in (r.0, not-true (is_among_ended t fallen x.name) r.1)
 
   to_mid : (k : ℕ) (x : TaskSlot) → item_at seats k ≡ Some x → item_at mid k ≡ cond (not (is_among_ended t fallen x.name)) (Some x) None
-  to_mid k x h = out k ∙ ap (filtered (λ (y : TaskSlot). not (is_among_ended t fallen y.name))) h
+  to_mid k x h = out k ∙ ap (kept (λ (y : TaskSlot). not (is_among_ended t fallen y.name))) h
 
   trimmed : (k : ℕ) (x : TaskSlot) → item_at mid k ≡ Some x → (w : TaskSlot) × (item_at next k ≡ Some w) × TrimsBy (has_owner left) x w
   trimmed k x h = subst (λ o. IsTrimmed left o (item_at next k)) h (each k)
@@ -68,7 +68,7 @@ module _ (seats mid next : List (Option TaskSlot)) (owned left : List (Option Ow
         let w = trimmed o.owner z.0 z.1 in
         let f : Some x.0 ≡ Some z.0 = sym x.1 ∙ (from_mid o.owner z.0 z.1).0 in
         let same : x.0 ≡ z.0 = cc in
-        (w.0, w.1, w.2.numbers o.number ∙ ap (filtered (has_owner left)) (ap (λ v. number_of v o.number) (sym same) ∙ x.2) ∙ passing_kept (has_owner left) s (ap is_some h));
+        (w.0, w.1, w.2.numbers o.number ∙ ap (kept (has_owner left)) (ap (λ v. number_of v o.number) (sym same) ∙ x.2) ∙ passing_kept (has_owner left) s (ap is_some h));
   }
 
   -- what is found by a name that goes, and by one that stays
@@ -100,9 +100,9 @@ module _ (seats mid next : List (Option TaskSlot)) (owned left : List (Option Ow
   mother_kept None h = refl
   mother_kept (Some m) h = name_stays m (h m refl)
 
-  tasks_at : (q : Name) → option_map (task_of next) (seat_named next q) ≡ filtered (λ _. not (is_among_ended t fallen q)) (option_map (task_of seats) (seat_named seats q))
+  tasks_at : (q : Name) → option_map (task_of next) (seat_named next q) ≡ kept (λ _. not (is_among_ended t fallen q)) (option_map (task_of seats) (seat_named seats q))
   tasks_at q = by (is_among_ended t fallen q) refl where
-    by : (b : Bool) → is_among_ended t fallen q ≡ b → option_map (task_of next) (seat_named next q) ≡ filtered (λ _. not b) (option_map (task_of seats) (seat_named seats q))
+    by : (b : Bool) → is_among_ended t fallen q ≡ b → option_map (task_of next) (seat_named next q) ≡ kept (λ _. not b) (option_map (task_of seats) (seat_named seats q))
     by true g = ap (option_map (task_of next)) (gone q g) ∙ sym (none_kept (option_map (task_of seats) (seat_named seats q)))
     by false g = two (seat_named seats q) refl ∙ sym (all_kept (option_map (task_of seats) (seat_named seats q))) where
       two : (o : Option TaskSlot) → seat_named seats q ≡ o → option_map (task_of next) (seat_named next q) ≡ option_map (task_of seats) (seat_named seats q)
@@ -121,19 +121,19 @@ module _ (seats mid next : List (Option TaskSlot)) (owned left : List (Option Ow
     by true = refl
     by false = refl
 
-  owners_at : (s : ℕ) → owner_name next (item_at left s) ≡ filtered (λ q. not (is_among_ended t fallen q)) (owner_name seats (item_at owned s))
+  owners_at : (s : ℕ) → owner_name next (item_at left s) ≡ kept (λ q. not (is_among_ended t fallen q)) (owner_name seats (item_at owned s))
   owners_at s = by (item_at owned s) refl where
-    by : (o : Option Owned) → item_at owned s ≡ o → owner_name next (item_at left s) ≡ filtered (λ q. not (is_among_ended t fallen q)) (owner_name seats (item_at owned s))
-    by None e = ap (owner_name next) (freed s ∙ ap (filtered (λ (p : Owned). is_some (item_at mid p.owner))) e) ∙ sym (ap (λ p. filtered (λ q. not (is_among_ended t fallen q)) (owner_name seats p)) e)
+    by : (o : Option Owned) → item_at owned s ≡ o → owner_name next (item_at left s) ≡ kept (λ q. not (is_among_ended t fallen q)) (owner_name seats (item_at owned s))
+    by None e = ap (owner_name next) (freed s ∙ ap (kept (λ (p : Owned). is_some (item_at mid p.owner))) e) ∙ sym (ap (λ p. kept (λ q. not (is_among_ended t fallen q)) (owner_name seats p)) e)
     by (Some o) e = two (is_among_ended t fallen x.0.name) refl ∙ sym named where
       x : (x : TaskSlot) × (item_at seats o.owner ≡ Some x) × (number_of x o.number ≡ Some s)
       x = sound.owners s o e
 
-      named : filtered (λ q. not (is_among_ended t fallen q)) (owner_name seats (item_at owned s)) ≡ cond (not (is_among_ended t fallen x.0.name)) (Some x.0.name) None
-      named = ap (λ p. filtered (λ q. not (is_among_ended t fallen q)) (owner_name seats p)) e ∙ ap (λ p. filtered (λ q. not (is_among_ended t fallen q)) (option_map (λ (y : TaskSlot). y.name) p)) x.1
+      named : kept (λ q. not (is_among_ended t fallen q)) (owner_name seats (item_at owned s)) ≡ cond (not (is_among_ended t fallen x.0.name)) (Some x.0.name) None
+      named = ap (λ p. kept (λ q. not (is_among_ended t fallen q)) (owner_name seats p)) e ∙ ap (λ p. kept (λ q. not (is_among_ended t fallen q)) (option_map (λ (y : TaskSlot). y.name) p)) x.1
 
       now : item_at left s ≡ cond (not (is_among_ended t fallen x.0.name)) (Some o) None
-      now = freed s ∙ ap (filtered (λ (p : Owned). is_some (item_at mid p.owner))) e ∙ ap (λ b. cond b (Some o) None) (owner_stays s o x.0 x.1)
+      now = freed s ∙ ap (kept (λ (p : Owned). is_some (item_at mid p.owner))) e ∙ ap (λ b. cond b (Some o) None) (owner_stays s o x.0 x.1)
 
       two : (b : Bool) → is_among_ended t fallen x.0.name ≡ b → owner_name next (item_at left s) ≡ cond (not (is_among_ended t fallen x.0.name)) (Some x.0.name) None
       two true g = ap (owner_name next) (now ∙ ap (λ b. cond (not b) (Some o) None) g) ∙ sym (ap (λ b. cond (not b) (Some x.0.name) None) g)
@@ -155,28 +155,28 @@ module _ (seats mid next : List (Option TaskSlot)) (owned left : List (Option Ow
   owner_left : (s : ℕ) (o : Owned) → item_at owned s ≡ Some o → has_owner left s ≡ not (has (is_among_ended t fallen) (owner_name seats (item_at owned s)))
   owner_left s o e =
       let x = sound.owners s o e in
-      ap is_some (freed s ∙ ap (filtered (λ (p : Owned). is_some (item_at mid p.owner))) e ∙ ap (λ b. cond b (Some o) None) (owner_stays s o x.0 x.1))
+      ap is_some (freed s ∙ ap (kept (λ (p : Owned). is_some (item_at mid p.owner))) e ∙ ap (λ b. cond b (Some o) None) (owner_stays s o x.0 x.1))
       ∙ by o (is_among_ended t fallen x.0.name) ∙ ap not (sym (ap (λ p. has (is_among_ended t fallen) (owner_name seats p)) e ∙ ap (λ p. has (is_among_ended t fallen) (option_map (λ (y : TaskSlot). y.name) p)) x.1))
     where
       by : (o : Owned) (b : Bool) → is_some (cond (not b) (Some o) None) ≡ not b
       by o true = refl
       by o false = refl
 
-  entries_at : (q : Name) (n : ℕ) → entry_of (seat_named next q) n ≡ filtered (λ s. not (is_among_ended t fallen q || has (is_among_ended t fallen) (owner_name seats (item_at owned s)))) (entry_of (seat_named seats q) n)
+  entries_at : (q : Name) (n : ℕ) → entry_of (seat_named next q) n ≡ kept (λ s. not (is_among_ended t fallen q || has (is_among_ended t fallen) (owner_name seats (item_at owned s)))) (entry_of (seat_named seats q) n)
   entries_at q n = by (is_among_ended t fallen q) refl where
-    by : (b : Bool) → is_among_ended t fallen q ≡ b → entry_of (seat_named next q) n ≡ filtered (λ s. not (b || has (is_among_ended t fallen) (owner_name seats (item_at owned s)))) (entry_of (seat_named seats q) n)
+    by : (b : Bool) → is_among_ended t fallen q ≡ b → entry_of (seat_named next q) n ≡ kept (λ s. not (b || has (is_among_ended t fallen) (owner_name seats (item_at owned s)))) (entry_of (seat_named seats q) n)
     by true g = ap (λ o. entry_of o n) (gone q g) ∙ sym (none_kept (entry_of (seat_named seats q) n))
     by false g = two (seat_named seats q) refl where
-      two : (o : Option TaskSlot) → seat_named seats q ≡ o → entry_of (seat_named next q) n ≡ filtered (λ s. not (has (is_among_ended t fallen) (owner_name seats (item_at owned s)))) (entry_of (seat_named seats q) n)
-      two None h = ap (λ o. entry_of o n) (after_none q h) ∙ sym (ap (λ o. filtered (λ s. not (has (is_among_ended t fallen) (owner_name seats (item_at owned s)))) (entry_of o n)) h)
+      two : (o : Option TaskSlot) → seat_named seats q ≡ o → entry_of (seat_named next q) n ≡ kept (λ s. not (has (is_among_ended t fallen) (owner_name seats (item_at owned s)))) (entry_of (seat_named seats q) n)
+      two None h = ap (λ o. entry_of o n) (after_none q h) ∙ sym (ap (λ o. kept (λ s. not (has (is_among_ended t fallen) (owner_name seats (item_at owned s)))) (entry_of o n)) h)
       two (Some x) h =
           ap (λ o. entry_of o n) a.3 ∙ a.4.numbers n ∙ agree (number_of x n) refl
-          ∙ sym (ap (λ o. filtered (λ s. not (has (is_among_ended t fallen) (owner_name seats (item_at owned s)))) (entry_of o n)) h)
+          ∙ sym (ap (λ o. kept (λ s. not (has (is_among_ended t fallen) (owner_name seats (item_at owned s)))) (entry_of o n)) h)
         where
           a : (k : ℕ) × (w : TaskSlot) × (item_at mid k ≡ Some x) × (seat_named next q ≡ Some w) × TrimsBy (has_owner left) x w
           a = after q g x h
 
-          agree : (o : Option ℕ) → number_of x n ≡ o → filtered (has_owner left) o ≡ filtered (λ s. not (has (is_among_ended t fallen) (owner_name seats (item_at owned s)))) o
+          agree : (o : Option ℕ) → number_of x n ≡ o → kept (has_owner left) o ≡ kept (λ s. not (has (is_among_ended t fallen) (owner_name seats (item_at owned s)))) o
           agree None e = refl
           agree (Some s) e =
               let o = sound.entries a.0 n s x (from_mid a.0 x a.2).0 e in
@@ -184,21 +184,21 @@ module _ (seats mid next : List (Option TaskSlot)) (owned left : List (Option Ow
 
   pub ends : Ends (directory seats owned).owners t fallen (directory next left).owners
   ends = record {
-    tasks = λ q. view-task next left q ∙ tasks_at q ∙ ap (filtered (λ _. not (is_among_ended t fallen q))) (sym (view-task seats owned q));
+    tasks = λ q. view-task next left q ∙ tasks_at q ∙ ap (kept (λ _. not (is_among_ended t fallen q))) (sym (view-task seats owned q));
     table = λ e.
-        view-entry next left e.0 e.1 ∙ entries_at e.0 e.1 ∙ ap (filtered (λ s. not (is_among_ended t fallen e.0 || has (is_among_ended t fallen) (owner_name seats (item_at owned s))))) (sym (view-entry seats owned e.0 e.1))
-        ∙ (λ i. filtered (λ s. not (is_among_ended t fallen e.0 || has (is_among_ended t fallen) (sym (view-owner seats owned s) i))) (get (directory seats owned).owners.table e));
-    owner = λ s. view-owner next left s ∙ owners_at s ∙ ap (filtered (λ q. not (is_among_ended t fallen q))) (sym (view-owner seats owned s));
+        view-entry next left e.0 e.1 ∙ entries_at e.0 e.1 ∙ ap (kept (λ s. not (is_among_ended t fallen e.0 || has (is_among_ended t fallen) (owner_name seats (item_at owned s))))) (sym (view-entry seats owned e.0 e.1))
+        ∙ (λ i. kept (λ s. not (is_among_ended t fallen e.0 || has (is_among_ended t fallen) (sym (view-owner seats owned s) i))) (get (directory seats owned).owners.table e));
+    owner = λ s. view-owner next left s ∙ owners_at s ∙ ap (kept (λ q. not (is_among_ended t fallen q))) (sym (view-owner seats owned s));
   }
 
   -- the names at the identifiers
-  pub names_end : (id : ℕ) → name_at (directory next left) id ≡ filtered (λ q. not (is_among_ended t fallen q)) (name_at (directory seats owned) id)
-  names_end id = view-name next left id ∙ by (item_at seats id) refl ∙ ap (filtered (λ q. not (is_among_ended t fallen q))) (sym (view-name seats owned id)) where
-    by : (o : Option TaskSlot) → item_at seats id ≡ o → name_of_seat next id ≡ filtered (λ q. not (is_among_ended t fallen q)) (name_of_seat seats id)
-    by None e = ap (option_map (λ x. x.name)) none ∙ sym (ap (λ p. filtered (λ q. not (is_among_ended t fallen q)) (option_map (λ (x : TaskSlot). x.name) p)) e) where
+  pub names_end : (id : ℕ) → name_at (directory next left) id ≡ kept (λ q. not (is_among_ended t fallen q)) (name_at (directory seats owned) id)
+  names_end id = view-name next left id ∙ by (item_at seats id) refl ∙ ap (kept (λ q. not (is_among_ended t fallen q))) (sym (view-name seats owned id)) where
+    by : (o : Option TaskSlot) → item_at seats id ≡ o → name_of_seat next id ≡ kept (λ q. not (is_among_ended t fallen q)) (name_of_seat seats id)
+    by None e = ap (option_map (λ x. x.name)) none ∙ sym (ap (λ p. kept (λ q. not (is_among_ended t fallen q)) (option_map (λ (x : TaskSlot). x.name) p)) e) where
       none : item_at next id ≡ None
-      none = subst (λ o. IsTrimmed left o (item_at next id)) (out id ∙ ap (filtered (λ (y : TaskSlot). not (is_among_ended t fallen y.name))) e) (each id)
-    by (Some x) e = two (is_among_ended t fallen x.name) refl ∙ sym (ap (λ p. filtered (λ q. not (is_among_ended t fallen q)) (option_map (λ (x : TaskSlot). x.name) p)) e) where
+      none = subst (λ o. IsTrimmed left o (item_at next id)) (out id ∙ ap (kept (λ (y : TaskSlot). not (is_among_ended t fallen y.name))) e) (each id)
+    by (Some x) e = two (is_among_ended t fallen x.name) refl ∙ sym (ap (λ p. kept (λ q. not (is_among_ended t fallen q)) (option_map (λ (x : TaskSlot). x.name) p)) e) where
       two : (b : Bool) → is_among_ended t fallen x.name ≡ b → name_of_seat next id ≡ cond (not (is_among_ended t fallen x.name)) (Some x.name) None
       two true g =
           ap (option_map (λ x. x.name)) (subst (λ o. IsTrimmed left o (item_at next id)) (to_mid id x e ∙ ap (λ b. cond (not b) (Some x) None) g) (each id))

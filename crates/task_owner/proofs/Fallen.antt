@@ -12,7 +12,7 @@ use Rattle.std.proofs.lemmas.Bool.{or_cases, not-false, or_right}
 use Rattle.slab.specs.Slab.{Slab}
 use Rattle.mvs_model.specs.declared.name.Name.{Name}
 use Rattle.mvs_model.specs.Name.{name_cmp, same_name}
-use Rattle.mvs_model.specs.Finite.{Keeps, filtered}
+use Rattle.mvs_model.specs.Finite.{Keeps, kept}
 use Rattle.mvs_model.specs.Owners.{Task, is_among_ended, IsMother, Descends, subtask, further, AreDescendants}
 use Rattle.mvs_model.proofs.Orders.{name_cmp_total, same_name_is, same_name_self}
 use Rattle.task_owner.specs.Seats.{item_at, seat_named, mother_of, task_of, directory, IsSound, MothersActive}
@@ -126,7 +126,7 @@ module _ (seats : List (Option TaskSlot)) (owned : List (Option Owned)) (t : ℕ
       r = attached n q mother
 
       mother_out : item_at mid r.mother_key ≡ None
-      mother_out = out r.mother_key ∙ ap (filtered (λ (x : TaskSlot). not (is_among_ended y.name names x.name))) r.mother_here ∙ ap (λ b. cond (not b) (Some r.mother_seat) None) (ap (is_among_ended y.name names) r.mother_name ∙ g)
+      mother_out = out r.mother_key ∙ ap (kept (λ (x : TaskSlot). not (is_among_ended y.name names x.name))) r.mother_here ∙ ap (λ b. cond (not b) (Some r.mother_seat) None) (ap (is_among_ended y.name names) r.mother_name ∙ g)
 
       two : (same_name q y.name ≡ true) ⊎ (list_any (same_name q) names ≡ true) → list_any (same_name q) names ≡ true
       two (inl e) = absurd (not_itself (subst (Descends (directory seats owned).owners y.name) (same_name_is q y.name e) d))
@@ -134,7 +134,7 @@ module _ (seats : List (Option TaskSlot)) (owned : List (Option Owned)) (t : ℕ
 
       by : (o : Option TaskSlot) → item_at mid r.key ≡ o → list_any (same_name q) names ≡ true
       by None e =
-          let lost : is_among_ended y.name names r.seat.name ≡ true = not-false (is_among_ended y.name names r.seat.name) (dropped_fails (λ (x : TaskSlot). not (is_among_ended y.name names x.name)) r.seat (ap (filtered (λ (x : TaskSlot). not (is_among_ended y.name names x.name))) (sym r.here) ∙ sym (out r.key) ∙ e)) in
+          let lost : is_among_ended y.name names r.seat.name ≡ true = not-false (is_among_ended y.name names r.seat.name) (dropped_fails (λ (x : TaskSlot). not (is_among_ended y.name names x.name)) r.seat (ap (kept (λ (x : TaskSlot). not (is_among_ended y.name names x.name))) (sym r.here) ∙ sym (out r.key) ∙ e)) in
           two (or_cases (same_name q y.name) (list_any (same_name q) names) (ap (is_among_ended y.name names) (sym r.name) ∙ lost))
       by (Some x) e =
           let was = kept_is (λ (z : TaskSlot). not (is_among_ended y.name names z.name)) (item_at seats r.key) x (sym (out r.key) ∙ e) in

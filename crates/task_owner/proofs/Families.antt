@@ -8,7 +8,7 @@ use Rattle.std.proofs.lemmas.Bool.{not-true, or_cases, not-false, or_parts, or_r
 use Rattle.slab.specs.Slab.{Slab, get, slab_len, Updates}
 use Rattle.mvs_model.specs.declared.name.Name.{Name}
 use Rattle.mvs_model.specs.Name.{same_name}
-use Rattle.mvs_model.specs.Finite.{filtered}
+use Rattle.mvs_model.specs.Finite.{kept}
 use Rattle.mvs_model.specs.Owners.{is_among_ended}
 use Rattle.mvs_model.proofs.Orders.{same_name_is, same_name_self}
 use Rattle.task_owner.specs.Seats.{Distinct, MothersActive}
@@ -56,21 +56,21 @@ module _ (old : Slab TaskSlot) (t : ℕ) (first : TaskSlot) (distinct : Distinct
   -- the first
   pub falls_first : (now : Slab TaskSlot) (names : List Name) → names ≡ [] → Updates old now t None → slab_len now + 1 ≡ slab_len old → now.capacity ≡ old.capacity → Falls old t first.name names now
   falls_first now names empty u len capacity = subst (λ ns. Falls old t first.name ns now) (sym empty) (record {
-    filtered = λ k. kept_at k (same_or_not k t);
+    kept = λ k. kept_at k (same_or_not k t);
     below = λ q h. absurd (let e : false ≡ true = h in cc);
     once = λ q. omega arith;
     len = omega arith;
     capacity = capacity;
   }) where
-    kept_at : (k : ℕ) → (k ≡ t) ⊎ (k ≢ t) → get now k ≡ filtered (λ y. not (is_among_ended first.name [] y.name)) (get old k)
+    kept_at : (k : ℕ) → (k ≡ t) ⊎ (k ≢ t) → get now k ≡ kept (λ y. not (is_among_ended first.name [] y.name)) (get old k)
     kept_at k (inl e) =
         ap (get now) e ∙ u.changed ∙ ap (λ b. cond (not (b || false)) (Some first) None) (sym (same_name_self first.name))
-        ∙ ap (filtered (λ (y : TaskSlot). not (is_among_ended first.name [] y.name))) (sym (ap (get old) e ∙ at))
+        ∙ ap (kept (λ (y : TaskSlot). not (is_among_ended first.name [] y.name))) (sym (ap (get old) e ∙ at))
     kept_at k (inr d) = u.others k d ∙ by (get old k) refl where
-      by : (o : Option TaskSlot) → get old k ≡ o → o ≡ filtered (λ y. not (is_among_ended first.name [] y.name)) o
+      by : (o : Option TaskSlot) → get old k ≡ o → o ≡ kept (λ y. not (is_among_ended first.name [] y.name)) o
       by None h = refl
       by (Some y) h = two (name_cases y.name first.name) where
-        two : ((same_name y.name first.name ≡ true) × (y.name ≡ first.name)) ⊎ ((same_name y.name first.name ≡ false) × (y.name ≢ first.name)) → Some y ≡ filtered (λ z. not (is_among_ended first.name [] z.name)) (Some y)
+        two : ((same_name y.name first.name ≡ true) × (y.name ≡ first.name)) ⊎ ((same_name y.name first.name ≡ false) × (y.name ≢ first.name)) → Some y ≡ kept (λ z. not (is_among_ended first.name [] z.name)) (Some y)
         two (inl r) = absurd (d (distinct k t y first h at r.1))
         two (inr r) = ap (λ b. cond (not (b || false)) (Some y) None) (sym r.0)
 
@@ -83,11 +83,11 @@ module _ (old : Slab TaskSlot) (t : ℕ) (first : TaskSlot) (distinct : Distinct
     absent : list_any (same_name x.name) names ≡ false
     absent = (or_parts (same_name x.name first.name) (list_any (same_name x.name) names) (not-true (is_among_ended first.name names x.name) was.1)).1
 
-    kept_more : (k : ℕ) → (k ≡ key) ⊎ (k ≢ key) → get next k ≡ filtered (λ y. not (is_among_ended first.name (names ++ x.name ∷ []) y.name)) (get old k)
+    kept_more : (k : ℕ) → (k ≡ key) ⊎ (k ≢ key) → get next k ≡ kept (λ y. not (is_among_ended first.name (names ++ x.name ∷ []) y.name)) (get old k)
     kept_more k (inl e) =
         ap (get next) e ∙ u.changed
         ∙ ap (λ b. cond (not b) (Some x) None) (sym (goes_more first.name names x.name x.name ∙ ap (λ b. is_among_ended first.name names x.name || b) (same_name_self x.name) ∙ or_right (is_among_ended first.name names x.name) true refl))
-        ∙ ap (filtered (λ (y : TaskSlot). not (is_among_ended first.name (names ++ x.name ∷ []) y.name))) (sym (ap (get old) e ∙ was.0))
+        ∙ ap (kept (λ (y : TaskSlot). not (is_among_ended first.name (names ++ x.name ∷ []) y.name))) (sym (ap (get old) e ∙ was.0))
     kept_more k (inr d) = u.others k d ∙ r.kept k ∙ same_kept (λ (y : TaskSlot). not (is_among_ended first.name names y.name)) (λ (y : TaskSlot). not (is_among_ended first.name (names ++ x.name ∷ []) y.name)) (get old k) agree where
       agree : (y : TaskSlot) → get old k ≡ Some y → not (is_among_ended first.name names y.name) ≡ not (is_among_ended first.name (names ++ x.name ∷ []) y.name)
       agree y h = by (name_cases y.name x.name) where
@@ -101,7 +101,7 @@ module _ (old : Slab TaskSlot) (t : ℕ) (first : TaskSlot) (distinct : Distinct
       z = of_some (get old m) (mothers key m x was.0 mother)
 
       fell : is_among_ended first.name names z.0.name ≡ true
-      fell = not-false (is_among_ended first.name names z.0.name) (dropped_fails (λ (y : TaskSlot). not (is_among_ended first.name names y.name)) z.0 (ap (filtered (λ (y : TaskSlot). not (is_among_ended first.name names y.name))) (sym z.1) ∙ sym (r.kept m) ∙ gone))
+      fell = not-false (is_among_ended first.name names z.0.name) (dropped_fails (λ (y : TaskSlot). not (is_among_ended first.name names y.name)) z.0 (ap (kept (λ (y : TaskSlot). not (is_among_ended first.name names y.name))) (sym z.1) ∙ sym (r.kept m) ∙ gone))
 
       by : (same_name z.0.name first.name ≡ true) ⊎ (list_any (same_name z.0.name) names ≡ true) → Below old.slots t key
       by (inl p) =
@@ -114,7 +114,7 @@ module _ (old : Slab TaskSlot) (t : ℕ) (first : TaskSlot) (distinct : Distinct
 
     pub falls_more : (next_names : List Name) → next_names ≡ names ++ x.name ∷ [] → slab_len next + 1 ≡ slab_len now → next.capacity ≡ now.capacity → Falls old t first.name next_names next
     falls_more next_names e len capacity = subst (λ ns. Falls old t first.name ns next) (sym e) (record {
-      filtered = λ k. kept_more k (same_or_not k key);
+      kept = λ k. kept_more k (same_or_not k key);
       below = λ q h. below q (or_cases (list_any (same_name q) names) (same_name q x.name || false) (sym (list_any-append (same_name q) names (x.name ∷ [])) ∙ h));
       once = λ q. once_more q x.name names (r.once q) absent;
       len = (let long : length (names ++ x.name ∷ []) ≡ length names + 1 = length-append names (x.name ∷ []) in let before = r.len in omega arith);

@@ -4,7 +4,7 @@ use Rattle.std.specs.List.{list_any}
 use Rattle.slab.specs.Slab.{Slab, get, slab_len}
 use Rattle.mvs_model.specs.declared.name.Name.{Name}
 use Rattle.mvs_model.specs.Name.{same_name}
-use Rattle.mvs_model.specs.Finite.{Keeps, has, filtered}
+use Rattle.mvs_model.specs.Finite.{Keeps, has, kept}
 use Rattle.mvs_model.specs.Owners.{is_among_ended}
 use Rattle.mvs_model.specs.Storage.{is_one_of}
 use Rattle.task_owner.specs.Seats.{item_at, number_of}
@@ -22,7 +22,7 @@ pub data Below (seats : List (Option TaskSlot)) (t : ℕ) : ℕ → Type 0 where
 
 -- The task of this name, at t, and those of the names are out, and each of the names is that of one descendant.
 pub record Falls (old : Slab TaskSlot) (t : ℕ) (name : Name) (names : List Name) (now : Slab TaskSlot) : Type 0 where
-  pub filtered : Keeps (get old) (λ _ x. not (is_among_ended name names x.name)) (get now)
+  pub kept : Keeps (get old) (λ _ x. not (is_among_ended name names x.name)) (get now)
   pub below : (q : Name) → list_any (same_name q) names ≡ true → (k : ℕ) × (x : TaskSlot) × (get old k ≡ Some x) × (x.name ≡ q) × Below old.slots t k
   pub once : (q : Name) → count_by (same_name q) names ≤ 1
   pub len : slab_len now + length names + 1 ≡ slab_len old
@@ -61,7 +61,7 @@ pub record TrimsBy (test : ℕ → Bool) (old now : TaskSlot) : Type 0 where
   pub name : now.name ≡ old.name
   pub mother : now.mother ≡ old.mother
   pub residence : now.residence ≡ old.residence
-  pub numbers : (n : ℕ) → number_of now n ≡ filtered test (number_of old n)
+  pub numbers : (n : ℕ) → number_of now n ≡ kept test (number_of old n)
 
 -- the same where there is a task
 abbrev pub IsTrimmedBy : (ℕ → Bool) → Option TaskSlot → Option TaskSlot → Type 0

@@ -5,7 +5,7 @@ ghost use Rattle.std.specs.List.{Contains};
 ghost use Rattle.std.specs.List.Sorted.{IsStrictlySortedBy};
 ghost use Rattle.std.specs.Ordering.{nat_cmp};
 ghost use Rattle.std.specs.FinMap.{get, len};
-ghost use Rattle.mvs_model.specs.Finite.{has, filtered};
+ghost use Rattle.mvs_model.specs.Finite.{has, kept};
 ghost use Rattle.mvs_model.specs.Gifts.{gives};
 ghost use Rattle.mvs_model.specs.Consistent.{OwnersConsistent};
 ghost use Rattle.mvs_model.specs.Numbers.{most_subpools, most_tasks, subpool_numbers, task_numbers};
@@ -111,7 +111,7 @@ impl Tasks {
     pub fn find(&self, name: &Name) -> Option<TaskId>
         ensures active { is_some result ≡ is_active self.now.owners name.now }
         ensures named { IfSome result (λ id. name_at self.now id ≡ Some name.now) }
-        ensures filtered { OwnersConsistent self.now.owners }
+        ensures kept { OwnersConsistent self.now.owners }
     {
         match find_key(&self.active, *name) {
             Some(key) => Some(TaskId { key }),
@@ -438,7 +438,7 @@ impl Tasks {
         ensures rising { IsStrictlySortedBy nat_cmp result.freed }
         ensures names { (id : ℕ)
             → name_at self.new id
-            ≡ filtered (λ x. not (is_among_ended (name_of self.old t) result.fallen x))
+            ≡ kept (λ x. not (is_among_ended (name_of self.old t) result.fallen x))
             (name_at self.old id) }
     {
         let mut freed = SubpoolSet::empty();
@@ -471,7 +471,7 @@ impl Tasks {
         ensures label { MatchOption result (get self.now.owners.owner subpool ≡ None)
             (λ r. (get self.now.owners.owner subpool ≡ Some r.1)
             × (entry self.now.owners r.1 r.0 ≡ Some subpool)) }
-        ensures filtered { OwnersConsistent self.now.owners }
+        ensures kept { OwnersConsistent self.now.owners }
     {
         match self.owned[subpool.get() as usize] {
             Some(owned) => Some((

@@ -1,7 +1,7 @@
 use Rattle.std.proofs.Common.{ap, ◌∙◌, arith}
 use Rattle.std.specs.Prelude.{not}
 use Rattle.std.specs.FinMap.{get}
-use Rattle.mvs_model.specs.Finite.{filtered}
+use Rattle.mvs_model.specs.Finite.{kept}
 use Rattle.mvs_model.specs.Storage.{is_one_of}
 use Rattle.cell_pool.specs.Roots.{Root}
 use Rattle.cell_pool.proofs.Named.{distinct_kept, named_kept}
@@ -23,4 +23,4 @@ pub returns : goal.returns
 returns c n =
     let s = c.self.inside in
     named_kept s.entries.slots c.remove_each.new.entries.slots (λ _ r. not (is_one_of c.args.subpools.now r.subpool)) c.self.invariant.0 c.remove_each.ensures.kept n
-    ∙ ap (λ m. filtered (λ (r : Root). not (is_one_of c.args.subpools.now r.subpool)) (get m n)) c.self.view_is
+    ∙ ap (λ m. kept (λ (r : Root). not (is_one_of c.args.subpools.now r.subpool)) (get m n)) c.self.view_is
