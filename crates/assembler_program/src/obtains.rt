@@ -257,7 +257,7 @@ impl<W: Write> Writing<W> {
         self.put_length_list(&label, lengths)
     }
 
-    // Sets a name to the area whose address is in a word, so many bytes behind the one to which register 3 points.
+    // Sets a name to the area whose address is in a word, a number of bytes after the one that register 3 points to.
     fn set_item(&mut self, offset: u32, length: u32, area: &Name) -> Result<(), ProgramFault> {
         let operands = format!(in self.cards.alloc(); "1,{offset}(,3)")?;
         self.cards.code("L", &operands)?;

@@ -8,7 +8,7 @@ use mvs_model::name::Name;
 use mvs_model::want::Loc;
 use std::io::Write;
 
-/// The parts of a pool that is to be built.
+/// The parts of a pool that will be built.
 #[derive(Clone, Copy)]
 struct PoolPlan {
     number: u8,

@@ -130,7 +130,7 @@ impl<W: Write> Writing<W> {
         Ok(())
     }
 
-    // Three words for each of so many names of areas or pools: address, length, and whether it is set.
+    // Three words for each of a number of names of areas or pools: address, length, and whether it is set.
     fn put_places(&mut self, letter: &str, count: usize) -> Result<(), ProgramFault> {
         let alloc = self.cards.alloc();
         for number in 1..=count {

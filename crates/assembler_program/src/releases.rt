@@ -123,7 +123,7 @@ impl<W: Write> Writing<W> {
         self.cards.go("RC0")
     }
 
-    /// A release, of which kind ever.
+    /// A release of any kind.
     pub fn release(
         &mut self,
         entry: &StepEntry,

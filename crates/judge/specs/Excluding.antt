@@ -59,13 +59,13 @@ Agrees old bytes left text new =
 abbrev pub Excludes : WalkValue → List ℕ → List ℕ → Type 0
 Excludes old bytes left = (step : Option JobValue) (more : List (List ℕ)) (outcome : Outcome) → Alike old.step step → MayPrint old.number step (bytes ∷ more) left outcome → ⊥
 
--- Whether a text goes on with an answer that begins with one of these.
+-- Whether a text continues with an answer that begins with one of these.
 abbrev pub IsBegun : ℕ → Name → List (List ℕ) → List ℕ → Bool → Type 0
 IsBegun number t fronts text b =
     (b ≡ true → (rest : List ℕ) × (text ≡ head number t ++ rest) × BeginsOneOf fronts rest)
     × ((rest : List ℕ) → text ≡ head number t ++ rest → BeginsOneOf fronts rest → b ≡ true)
 
--- whether it goes on with an answer that places decide
+-- whether it continues with an answer that places decide
 abbrev pub IsBegunOpen : ℕ → Name → Statement → List ℕ → Bool → Type 0
 IsBegunOpen number t s text b = (b ≡ true → BeginsOpen number t s text) × (BeginsOpen number t s text → b ≡ true)
 
@@ -98,7 +98,7 @@ abbrev pub LineShowsSome : Line → Type 0
 LineShowsSome line.Nothing = Unit {0}
 LineShowsSome (line.Statement t s) = ShowsSome s
 
--- what a line prints of a text: so many bytes, or none, since no run prints it; all of it, where the job ends at a fault; or what places
+-- what a line prints of a text: a number of bytes, or none, since no run prints it; all of it, where the job ends at a fault; or what places
 -- decide
 abbrev pub IsVerdict : WalkValue → List ℕ → List ℕ → WalkValue → LineVerdict → Type 0
 IsVerdict old bytes left new (verdict.Agrees n) = (text : List ℕ) × (n ≡ length text) × Agrees old bytes left text new × IsServed (bytes ∷ []) old text true new
@@ -106,7 +106,7 @@ IsVerdict old bytes left new verdict.Excluded = Excludes old bytes left
 IsVerdict old bytes left new verdict.Ends = IsServed (bytes ∷ []) old left false new
 IsVerdict old bytes left new verdict.Undecided = IsUndecidedAt old.number old.step bytes left
 
--- whether a text goes on with an answer that a line can have, where places decide it
+-- whether a text continues with an answer that a line can have, where places decide it
 abbrev pub IsBegunLine : ℕ → Line → List ℕ → Bool → Type 0
 IsBegunLine number line.Nothing text b = Unit {0}
 IsBegunLine number (line.Statement t s) text b = IsBegunOpen number t s text b

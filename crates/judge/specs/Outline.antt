@@ -66,7 +66,7 @@ is_settled s NoName = true
 is_settled (says.Request k) x = request_settled k x
 is_settled _ x = false
 
--- how the line of an abend goes on after its task
+-- how the line of an abend continues after its task
 abbrev pub abend_opening : Code → List ℕ
 abend_opening code = codes "ABEND " ++ code_text code ++ codes "\n"
 

@@ -27,7 +27,7 @@ use std::alloc::Global;
 /// What a line prints of an output.
 #[derive(Clone, Copy, Debug, PartialEq, Eq)]
 pub enum LineVerdict {
-    /// It prints so many bytes of it, and so does each run that prints the output.
+    /// It prints the next bytes of it, this number, and so does each run that prints the output.
     Agrees(usize),
     /// No run prints it.
     Excluded,
@@ -79,7 +79,7 @@ fn is_shown(read: &Line) -> bool
     }
 }
 
-// Returns whether an output goes on with an answer that a line can have, where places decide it.
+// Returns whether an output continues with an answer that a line can have, where places decide it.
 fn begins_line(
     alloc: Global,
     line_number: u32,

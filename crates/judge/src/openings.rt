@@ -1,4 +1,4 @@
-//! Whether an output goes on with an answer that a statement can have, where places decide it.
+//! Whether an output continues with an answer that a statement can have, where places decide it.
 
 ghost use Rattle.std.specs.Prelude.{◌≡◌, ◌-◌, ◌++◌, ◌∷◌, [], IfOk, codes, length, take};
 ghost use Rattle.mvs_model.specs.Codes as table;
@@ -52,7 +52,7 @@ fn print_head(alloc: Global, line_number: u32, task: &Name) -> Result<Vec<u8>, O
     Ok(shortened(line))
 }
 
-// Returns whether the output goes on with an answer that begins with this.
+// Returns whether the output continues with an answer that begins with this.
 fn begins_front(alloc: Global, continued: &Continued, front: &[u8]) -> Result<bool, OutOfMemory>
     ensures { IfOk result
         (BeginsBy continued.now.text.now
@@ -63,7 +63,7 @@ fn begins_front(alloc: Global, continued: &Continued, front: &[u8]) -> Result<bo
     Ok(begins(continued.text, all.as_slice()))
 }
 
-// Returns whether it goes on with an abend with this code.
+// Returns whether it continues with an abend with this code.
 fn begins_code(alloc: Global, continued: &Continued, code: Code) -> Result<bool, OutOfMemory>
     ensures { IfOk result
         (BeginsBy continued.now.text.now
@@ -78,7 +78,7 @@ fn begins_code(alloc: Global, continued: &Continued, code: Code) -> Result<bool,
     )
 }
 
-// Returns whether it goes on with the answer to a request that fails.
+// Returns whether it continues with the answer to a request that fails.
 fn begins_failed(
     alloc: Global,
     continued: &Continued,
@@ -96,7 +96,7 @@ fn begins_failed(
     }
 }
 
-// Returns whether it goes on with the answer of a request that obtains, granted with this beginning.
+// Returns whether it continues with the answer of a request that obtains, granted with this beginning.
 fn begins_obtain(
     alloc: Global,
     continued: &Continued,
@@ -113,7 +113,7 @@ fn begins_obtain(
     Ok(is_granted | is_failed)
 }
 
-// Returns whether it goes on with the answer of a release.
+// Returns whether it continues with the answer of a release.
 fn begins_release(alloc: Global, continued: &Continued, form: Form) -> Result<bool, OutOfMemory>
     ensures { IfOk result
         (IsBegun continued.now.line_number continued.now.task
@@ -126,7 +126,7 @@ fn begins_release(alloc: Global, continued: &Continued, form: Form) -> Result<bo
     Ok(is_granted | (is_failed | is_off))
 }
 
-// Returns whether it goes on with the answer of CPOOL BUILD.
+// Returns whether it continues with the answer of CPOOL BUILD.
 fn begins_build(alloc: Global, continued: &Continued) -> Result<bool, OutOfMemory>
     ensures { IfOk result
         (IsBegun continued.now.line_number continued.now.task
@@ -139,7 +139,7 @@ fn begins_build(alloc: Global, continued: &Continued) -> Result<bool, OutOfMemor
     Ok(is_granted | (is_short | is_many))
 }
 
-// Returns whether it goes on with this, or with an abend with this code.
+// Returns whether it continues with this, or with an abend with this code.
 fn begins_either(
     alloc: Global,
     continued: &Continued,
@@ -155,7 +155,7 @@ fn begins_either(
     Ok(is_granted | is_abend)
 }
 
-// Returns whether it goes on with the answer of a conditional CPOOL GET.
+// Returns whether it continues with the answer of a conditional CPOOL GET.
 fn begins_cell(alloc: Global, continued: &Continued) -> Result<bool, OutOfMemory>
     ensures { IfOk result
         (IsBegun continued.now.line_number continued.now.task
@@ -166,7 +166,7 @@ fn begins_cell(alloc: Global, continued: &Continued) -> Result<bool, OutOfMemory
     Ok(is_granted | is_refused)
 }
 
-// Returns whether it goes on with the answer of a request.
+// Returns whether it continues with the answer of a request.
 fn begins_request(
     alloc: Global,
     continued: &Continued,
@@ -222,7 +222,7 @@ fn begins_request(
     }
 }
 
-// Returns whether it goes on with an answer that begins with this.
+// Returns whether it continues with an answer that begins with this.
 fn begins_with(alloc: Global, continued: &Continued, front: &[u8]) -> Result<bool, OutOfMemory>
     ensures { IfOk result
         (IsBegun continued.now.line_number continued.now.task (front.now ∷ [])
@@ -232,7 +232,7 @@ fn begins_with(alloc: Global, continued: &Continued, front: &[u8]) -> Result<boo
     Ok(is_begun)
 }
 
-/// Returns whether an output goes on with an answer that a statement can have, where places decide it.
+/// Returns whether an output continues with an answer that a statement can have, where places decide it.
 pub fn begins_open(
     alloc: Global,
     continued: &Continued,

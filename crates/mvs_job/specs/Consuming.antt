@@ -68,7 +68,7 @@ abbrev pub Accepts : {S X : Type 0} → Piece → Known S → Option (List ℕ) 
 Accepts piece knows before after s history e result =
     MatchResult result (λ _. WritesPiece piece before after history e × knows.has s (history ++ e ∷ [])) (λ why. WritesUntil piece before after history e why × knows.had s history)
 
--- It does so whatever entries it had, for each entry that its arguments describe: it has looked at the line, and then it heard of the
+-- It does so whatever entries it had, for each entry that its arguments describe: it has looked at the line, and then it saw the
 -- refusal of its request, if there was one.
 abbrev pub AcceptsLine : {S X : Type 0} → Piece → Hearing S → (S → Option JobValue → List ℕ → Type 0) → Known S → Option (List ℕ) → Option (List ℕ) → S → S → ℕ → List ℕ → WalkValue → LineEvent → Result X Stop → Type 0
 AcceptsLine {S = S} piece heard sees knows before after s s' number line w t result =

@@ -12,7 +12,7 @@ use Rattle.mvs_job.specs.Granting.{IsReadIn, before_line}
 use Rattle.mvs_job.specs.NamedAddress.{IsNamingOf, NameOrigins, reason_address}
 use Rattle.mvs_job.specs.Why.{IsSurvey, KeepsWhy}
 
--- What is kept of a refusal that is heard of: why, and the name that has the address of the reason.
+-- What is kept of a refusal that is seen: why, and the name that has the address of the reason.
 pub record KeepsExplained (old : Explained) (job : JobValue) (t : Name) (request : Request) (refusal : Refusal) (new : Explained) : Type 0 where
   pub why : KeepsWhy old.why job t request refusal new.why
   pub naming : IsNamingOf job old.lines (option_and_then (reason_address new.why.request) new.why.reason) new.naming

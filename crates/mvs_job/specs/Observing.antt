@@ -1,4 +1,4 @@
--- What an observer hears of the request of a line.
+-- What an observer sees of the request of a line.
 use Rattle.std.specs.Prelude.{◌≡◌, ◌⊎◌, ◌||◌, ℕ, List, Option, Some, Bool, true, false, MatchOption}
 use Rattle.std.specs.Bool.{MatchBool}
 use Rattle.mvs_model.specs.declared.code.Code.{Code}
@@ -31,7 +31,7 @@ use Rattle.mvs_job.specs.declared.walk.LineEvent.{LineEvent}
 use Rattle.mvs_job.specs.declared.walk.LineEvent.TheVariants as told
 use Rattle.mvs_job.specs.LineEvents.{WalkValue, region_card}
 
--- What an observer is after it has heard of a refusal: of a task's request in a job, for something, and of what a member of a list
+-- What an observer is after it has seen a refusal: of a task's request in a job, for something, and of what a member of a list
 -- lacks.
 abbrev pub Hearing : Type 0 → Type 1
 Hearing O = O → JobValue → Name → Request → Refusal → Shortfall → O → Type 0
@@ -97,8 +97,8 @@ is_end (answer.Subpools lines) = false
 is_end (answer.Map runs) = false
 is_end (answer.Region card) = false
 
--- A task's request in a job was answered so by its step: it passes and is done, and nothing is heard; or it is refused and settled,
--- and this is heard.
+-- A task's request in a job was answered so by its step: it passes and is done, and nothing is seen; or it is refused and settled,
+-- and this is seen.
 abbrev pub ObservesRequest : {O : Type 0} → Hearing O → O → JobValue → Name → Request → Reply → State → O → Type 0
 ObservesRequest heard before job t request reply new after =
     ((after ≡ before) × IsPassed job.state t request × Does job.state t request reply new)
@@ -119,7 +119,7 @@ Fails heard before job t request answer after =
     (refusal : Refusal) × (left : Shortfall) × IsRefused job.state t request refusal × LeftFor job t request refusal left × (is_failure answer ≡ true)
     × (is_end answer ≡ true → (code : Code) × (reply_to request refusal ≡ Abend code)) × heard before job t request refusal left after
 
--- An observer of a task's statement in a job, which is answered so: it hears of the request that is made, if that is refused.
+-- An observer of a task's statement in a job, which is answered so: it sees the request that is made, if that is refused.
 abbrev pub Observes : {O : Type 0} → Hearing O → O → JobValue → Name → Statement → Answer → O → Type 0
 Observes heard before job t (says.Request a) answer after =
     MatchBool (is_active job.state.owners t)

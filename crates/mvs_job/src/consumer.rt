@@ -21,8 +21,8 @@ pub enum End {
     Exhausted(Option<bool>),
 }
 
-/// Writes of a run, entry by entry. For each line it is called three times: it looks at the line before that is executed, it hears
-/// of the refusal of the line's request, if there is one, and it accepts the entry.
+/// Writes of a run, entry by entry. For each line it is called three times: it looks at the line before that is executed, it observes
+/// the refusal of the line's request, if there is one, and it accepts the entry.
 pub trait Consumer: Observer {
     // What it writes for an entry, by the entries before it.
     ghost piece: { Piece };

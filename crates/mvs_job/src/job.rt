@@ -227,7 +227,7 @@ impl Job {
         self.step.write(place, bytes)
     }
 
-    // Attempts a task's request. Where it is refused, the observer hears of that before it is settled.
+    // Attempts a task's request. If it is refused, the observer sees that before it is settled.
     fn settle_or_do<O: Observer>(
         &mut self,
         task: &Name,
@@ -295,7 +295,7 @@ impl Job {
 
     /// Executes a statement of the step, which is not REGION. Its request and the reply are written over `request` and `reply`,
     /// which are large; the reply has the names of the tasks that ended with one that abended. Areas and cells are placed at the
-    /// hinted addresses if the machine allows that. The observer hears of a request that is refused.
+    /// hinted addresses if the machine allows that. The observer sees a request that is refused.
     pub fn serve<O: Observer>(
         &mut self,
         task: &Name,

@@ -1,4 +1,4 @@
-//! Observers of requests that are refused: they hear of a refusal before it is settled, since an abend changes the job.
+//! Observers of requests that are refused: they see a refusal before it is settled, since an abend changes the job.
 
 ghost use Rattle.std.specs.Prelude.{◌≡◌};
 ghost use Rattle.mvs_model.specs.Causes.{IsRefused};
@@ -14,7 +14,7 @@ use mvs_model::request::Request;
 pub trait Observer {
     ghost use Rattle.mvs_job.specs.Observing.{Hearing};
 
-    // What it is after it has heard of a refusal, from what it was before.
+    // What it is after it has seen a refusal, from what it was before.
     ghost heard: { Hearing Self };
 
     /// Is called when a task's request is refused, before that is settled: the job is as before the request. `left` is what a member

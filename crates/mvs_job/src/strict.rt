@@ -37,7 +37,7 @@ pub enum SkipReason {
 
 /// An observer of lines that were not executed.
 pub trait SkipObserver {
-    // The lines that were heard of, where that is known.
+    // The lines that were reported, where that is known.
     ghost heard: { Self → Option (List Skipped) };
 
     /// Is called for a line, with its text without the newline and its number. The job is as before the line.
@@ -184,7 +184,7 @@ impl<'a, C: Consumer, H: SkipObserver> Consumer for Strict<'a, C, H> {
     }
 }
 
-/// Runs a script, gives each entry of the run to a consumer, and lets each line be heard of that was not executed. The script has
+/// Runs a script, gives each entry of the run to a consumer, and reports each line that was not executed. The script has
 /// at most 16,777,215 bytes.
 pub fn run_observed<W: Write, H: SkipObserver, C: Consumer>(
     alloc: Global,
@@ -196,12 +196,12 @@ pub fn run_observed<W: Write, H: SkipObserver, C: Consumer>(
 ) -> Result<StrictOutcome, Stop>
     requires script { length script.now ≤ most_script_bytes }
     requires new { (C.knows consumer.old).has consumer.old [] }
-    // What is written is what the consumer writes for a trace of the script, in which each line was executed, or not; and what is heard
+    // What is written is what the consumer writes for a trace of the script, in which each line was executed, or not; and what is reported
     // of is each line that was not, by its number, its text and the cause, in their order, and nothing else.
     ensures run { IfOk result
         (λ end. RunsObserved C.piece (W.contents writer.old.inner) (W.contents writer.new.inner)
         (H.heard hearer.old) (H.heard hearer.new) script.now end.outcome end.all_served) }
-    // Else it is what a run writes that stops so, and what is heard of is each of the lines before that was not executed.
+    // Else it is what a run writes that stops so, and what is reported is each of the lines before that was not executed.
     ensures stop { IfErr result
         (λ stop. LeavesText C.piece (W.contents writer.old.inner) (W.contents writer.new.inner)
         script.now (Err stop)) }
@@ -218,7 +218,7 @@ pub fn run_observed<W: Write, H: SkipObserver, C: Consumer>(
     })
 }
 
-/// Runs a script, prints what it prints, and lets each line be heard of that was not served. It takes 16,777,215 bytes at most.
+/// Runs a script, prints what it prints, and reports each line that was not executed. It takes 16,777,215 bytes at most.
 pub fn run_strictly<W: Write, H: SkipObserver>(
     alloc: Global,
     script: &[u8],
@@ -227,7 +227,7 @@ pub fn run_strictly<W: Write, H: SkipObserver>(
     hearer: &mut H,
 ) -> Result<StrictOutcome, Stop>
     requires { length script.now ≤ most_script_bytes }
-    // What is written is the printing of a run of the script, in which each line was served, or not; and what is heard of is each line that
+    // What is written is the printing of a run of the script, in which each line was executed, or not; and what is reported is each line that
     // was not, by its number, its text and the cause, in their order, and nothing else.
     ensures run { IfOk result
         (λ end. PrintsStrictly (W.contents writer.old.inner) (W.contents writer.new.inner)
@@ -236,7 +236,7 @@ pub fn run_strictly<W: Write, H: SkipObserver>(
     ensures stop { IfErr result
         (λ stop. PrintedUpTo stop (W.contents writer.old.inner) (W.contents writer.new.inner)
         script.now) }
-    // And what is heard of is each of the lines before that was not served.
+    // And what is reported is each of the lines before that was not executed.
     ensures heard { IfErr result
         (λ stop. ObservesFront (H.heard hearer.old) (H.heard hearer.new) script.now) }
     ensures ok { OnOk result (writer.new.failed ≡ writer.old.failed) }

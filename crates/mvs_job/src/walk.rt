@@ -235,7 +235,7 @@ impl Walk {
         self.observed_line(line, told, &mut Unobserved)
     }
 
-    /// Executes one line as `line` does, and lets an observer hear of its request where that is refused.
+    /// Executes one line as `line` does, and shows its request to an observer if that is refused.
     pub fn observed_line<O: Observer>(
         &mut self,
         line: &[u8],
@@ -250,7 +250,7 @@ impl Walk {
         ensures observed { IfOk result
             (λ answered. ObservesLine O.heard observer.old self.old.step line.now answered self.new
             observer.new) }
-        // Where memory is exhausted, it hears nothing.
+        // If memory is exhausted, it sees nothing.
         ensures unheard { OnErr result (observer.new ≡ observer.old) }
         ensures full_answer { IfOk result (IsAvailable self.new) }
         ensures number { self.new.number ≡ self.old.number + 1 }

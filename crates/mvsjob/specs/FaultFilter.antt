@@ -57,7 +57,7 @@ passed first line = if is_faulty first line then [] else line ++ 10 ∷ []
 abbrev pub is_first_after : Bool → List ℕ → Bool
 is_first_after first line = if is_faulty first line then first else first && is_blank_or_comment line
 
--- what is passed on of a line of which some bytes were read, and of the bytes that are left
+-- what is passed on of the bytes of a line that were read, and of those that are left
 abbrev pub passed_of : Bool → List ℕ → List ℕ → List ℕ
 passed_of first line [] = if is_empty line then [] else passed first line
 passed_of first line (b ∷ left) = if b == 10 then passed first line ++ passed_of (is_first_after first line) [] left else passed_of first (line ++ b ∷ []) left

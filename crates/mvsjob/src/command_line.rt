@@ -357,7 +357,7 @@ fn with_rule_text<'a>(command: Command<'a>, alloc: Global) -> Result<Command<'a>
     )
 }
 
-// Makes the command: a file and nineteen options, all of which are optional.
+// Makes the command: a file and nineteen options, all optional.
 fn command<'a>(alloc: Global) -> Result<Command<'a>, AllocError>
     ensures { IfOk result (λ c. (ps : Parsers) × AreParsers ps × (app_of c ≡ command ps)) }
 {
@@ -511,14 +511,14 @@ fn recipe(matches: &ArgMatches<'_>) -> Recipe
     }
 }
 
-// The code of which the text is asked for.
+// The code whose text is requested.
 fn coded<'a>(matches: &ArgMatches<'a>) -> &'a str
     ensures { result.now ≡ unwrap_or (first_value (found_of matches.now) (codes "code")) [] }
 {
     matches.get_str("code").unwrap_or("")
 }
 
-// Returns the number of the rule of which the text is asked for.
+// Returns the number of the rule whose text is requested.
 fn rule_number(matches: &ArgMatches<'_>) -> u32
     ensures { (text : LineText) (n : ℕ) → first_value (found_of matches.now) (codes "rule") ≡ Some text
         → IsNumber text n → n ≤ 74 → result ≡ n }

@@ -62,7 +62,7 @@ pub struct Settings<'a> {
     pub placement: Placement,
     /// The name of the file with the output that is judged; empty where none is.
     pub judged: &'a str,
-    /// The code of which the text is written; empty if none is.
+    /// The code whose text is written; empty if there is none.
     pub code: &'a str,
     pub mode: Mode,
     /// How answers that were compared are reported.

@@ -73,7 +73,7 @@ static WHOLE: [(&'static str, &'static str); 8] = [
     ("STORAGE RELEASE", ",COND=NO"),
 ];
 
-/// How an area is to be obtained.
+/// How an area will be obtained.
 #[derive(Clone, Copy, Debug, PartialEq, Eq)]
 pub enum Manner {
     /// In any form, mostly without boundaries.
@@ -149,7 +149,7 @@ pub fn obtain_area(
     Ok(ExpectedChange::Grants(place, area))
 }
 
-/// Returns an area that is to be obtained.
+/// Returns an area that will be obtained.
 pub fn new_area(dice: &mut Dice, task: Task) -> KnownArea {
     KnownArea {
         task,

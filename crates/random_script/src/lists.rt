@@ -132,7 +132,7 @@ fn write_addresses(
     line.push_str(")")
 }
 
-/// Writes a release of a list: an area and those behind it that are of the same task and subpool number.
+/// Writes a release of a list: an area and those after it that are of the same task and subpool number.
 pub fn release_list(
     line: &mut String,
     dice: &mut Dice,
