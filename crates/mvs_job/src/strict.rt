@@ -197,7 +197,7 @@ pub fn run_observed<W: Write, H: SkipObserver, C: Consumer>(
     requires script { length script.now ≤ most_script_bytes }
     requires new { (C.knows consumer.old).has consumer.old [] }
     // What is written is what the consumer writes for a trace of the script, in which each line was executed, or not; and what is reported
-    // of is each line that was not, by its number, its text and the cause, in their order, and nothing else.
+    // is each line that was not, by its number, its text and the cause, in their order, and nothing else.
     ensures run { IfOk result
         (λ end. RunsObserved C.piece (W.contents writer.old.inner) (W.contents writer.new.inner)
         (H.heard hearer.old) (H.heard hearer.new) script.now end.outcome end.all_served) }
