@@ -13,7 +13,7 @@ returns-in-Ok-clause-places t c =
     first_granted c.args.store.now.storage c.obtain.new.self.storage c.grant_each.new.store.storage c.args.subpool c.args.start c.length-item.result (others c.args.lengths.now) c.args.lengths.now c.args.hints.now c.in-Some-obtain.place _ c.in-Ok.places
     (first_and_others c.args.lengths.now c.length-item.result c.in-len1-up.len_at_least c.length-item.is) c.obtain.ensures.storage
     (subst (λ w. Grant c.args.store.now.storage c.args.subpool w c.in-Some-obtain.place c.obtain.new.self.storage) c.fixed-want.ensures c.in-Some-obtain.ensures.grant)
-    (takes_first c.args.store.now.storage c.args.subpool c.fixed-want.result _ c.first_hint.result c.args.hints.now c.in-Some-obtain.place c.fixed-want.ensures c.first_hint.ensures c.in-Some-obtain.ensures.hints)
+    (takes_first c.args.store.now.storage c.args.subpool c.fixed-want.result _ c.first_hint.result c.args.hints.now c.in-Some-obtain.place c.fixed-want.ensures c.first_hint.ensures c.in-Some-obtain.ensures.hint)
     (subst (λ hints. (more : List PlaceValue) × (c.in-Ok.places ≡ (so_far c.args.granted ++ c.in-Some-obtain.place ∷ []) ++ more) × GrantsEach c.obtain.new.self.storage c.args.subpool (list_wants (others c.args.lengths.now) c.args.start) hints more c.grant_each.new.store.storage) c.later_hints.ensures
     (subst (λ before. (more : List PlaceValue) × (c.in-Ok.places ≡ before ++ more) × GrantsEach c.obtain.new.self.storage c.args.subpool (list_wants (others c.args.lengths.now) c.args.start) c.later_hints.result.now more c.grant_each.new.store.storage) c.with_place.ensures c.in-Ok.ensures.places))
 

@@ -22,14 +22,14 @@ returns-else-is_ok-clause-answer c = rw (← c.self.view_is)
 pub returns-in-Some-clause-hints : goal.returns-in-Some-clause-hints
 returns-in-Some-clause-hints c = rw (← c.self.view_is)
     (pool_takes c.self.inside.pools c.build.new.self c.self.inside.store.storage c.build.new.store.storage c.self.inside.tasks.owners c.self.inside.tasks.owners (name_of c.self.inside.tasks c.args.t) c.args.pool.now c.args.number c.in-Some.subpool _ c.self.invariant
-    (its_subpool _ _ _ _ (sym c.subpool.ensures ∙ c.in-Some.is)) c.args.hints c.build.result c.build.ensures.hints)
+    (its_subpool _ _ _ _ (sym c.subpool.ensures ∙ c.in-Some.is)) c.args.hints c.build.result c.build.ensures.hint)
 
 pub returns-then-is_ok-clause-hints : goal.returns-then-is_ok-clause-hints
 returns-then-is_ok-clause-hints c = rw (← c.self.view_is)
     (pool_takes c.self.inside.pools c.build-built.new.self c.self.inside.store.storage c.build-built.new.store.storage c.self.inside.tasks.owners c.bind.new.self.owners (name_of c.self.inside.tasks c.args.t) c.args.pool.now c.args.number c.spare-subpool.result _ c.self.invariant
-    (new_subpool _ _ _ _ (sym c.subpool.ensures ∙ c.in-None.is) c.spare-subpool.ensures) c.args.hints c.build-built.result c.build-built.ensures.hints)
+    (new_subpool _ _ _ _ (sym c.subpool.ensures ∙ c.in-None.is) c.spare-subpool.ensures) c.args.hints c.build-built.result c.build-built.ensures.hint)
 
 pub returns-else-is_ok-clause-hints : goal.returns-else-is_ok-clause-hints
 returns-else-is_ok-clause-hints c = rw (← c.self.view_is)
     (pool_takes c.self.inside.pools c.build-built.new.self c.self.inside.store.storage c.build-built.new.store.storage c.self.inside.tasks.owners c.self.inside.tasks.owners (name_of c.self.inside.tasks c.args.t) c.args.pool.now c.args.number c.spare-subpool.result _ c.self.invariant
-    (new_subpool _ _ _ _ (sym c.subpool.ensures ∙ c.in-None.is) c.spare-subpool.ensures) c.args.hints c.build-built.result c.build-built.ensures.hints)
+    (new_subpool _ _ _ _ (sym c.subpool.ensures ∙ c.in-None.is) c.spare-subpool.ensures) c.args.hints c.build-built.result c.build-built.ensures.hint)

@@ -55,7 +55,7 @@ returns-in-Some-clause-hints c = rw (← c.self.view_is) (
     let has = sym c.subpool.ensures ∙ c.in-Some.is in
     let t = effective_task o (name_of c.self.inside.tasks c.args.t) c.args.number in
     subst (λ (w : WantValue). IfSome c.obtain.result (λ p. (a : ℕ) → c.args.hints ≡ Some a → FollowsHint st t c.args.number w a p)) wanted
-    (area_takes c.self.inside.pools c.self.inside.store.storage o t c.args.number c.in-Some.subpool c.want-want.result c.args.hints c.obtain.result c.self.invariant (its_subpool o t c.args.number c.in-Some.subpool has) c.obtain.ensures.hints))
+    (area_takes c.self.inside.pools c.self.inside.store.storage o t c.args.number c.in-Some.subpool c.want-want.result c.args.hints c.obtain.result c.self.invariant (its_subpool o t c.args.number c.in-Some.subpool has) c.obtain.ensures.hint))
 
 pub returns-in-Some-obtain-clause-hints : goal.returns-in-Some-obtain-clause-hints
 returns-in-Some-obtain-clause-hints c = rw (← c.self.view_is) (
@@ -65,4 +65,4 @@ returns-in-Some-obtain-clause-hints c = rw (← c.self.view_is) (
     let none = sym c.subpool.ensures ∙ c.in-None.is in
     let t = effective_task o (name_of c.self.inside.tasks c.args.t) c.args.number in
     subst (λ (w : WantValue). (a : ℕ) → c.args.hints ≡ Some a → FollowsHint st t c.args.number w a c.in-Some-obtain.place) wanted
-    (area_takes c.self.inside.pools c.self.inside.store.storage o t c.args.number c.spare-subpool.result c.want-want.result c.args.hints (Some c.in-Some-obtain.place) c.self.invariant (new_subpool o t c.args.number c.spare-subpool.result none c.spare-subpool.ensures) c.in-Some-obtain.ensures.hints))
+    (area_takes c.self.inside.pools c.self.inside.store.storage o t c.args.number c.spare-subpool.result c.want-want.result c.args.hints (Some c.in-Some-obtain.place) c.self.invariant (new_subpool o t c.args.number c.spare-subpool.result none c.spare-subpool.ensures) c.in-Some-obtain.ensures.hint))
