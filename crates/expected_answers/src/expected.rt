@@ -113,7 +113,7 @@ impl<'a> AnswerPairs<'a> {
     fn step(&mut self, alloc: Global) -> Result<Option<AnswerPair<'a>>, AllocError>
         requires some { 0 < length self.old.script.now }
         requires room { self.old.number + 1 < 2 ^ 32 }
-        ensures expected_answers { IfOk result
+        ensures answers { IfOk result
             (λ found. expected_answers self.old.number (lines_of self.old.script.now) (lines_of self.old.printed.now)
             ≡ onto found (expected_answers self.new.number (lines_of self.new.script.now) (lines_of self.new.printed.now))) }
         ensures number { OnOk result (self.new.number ≡ self.old.number + 1) }
@@ -141,7 +141,7 @@ impl<'a> AnswerPairs<'a> {
     /// Returns the next answer, if there is one.
     pub fn next(&mut self, alloc: Global) -> Result<Option<AnswerPair<'a>>, AllocError>
         requires { self.old.number + length self.old.script.now < 2 ^ 32 }
-        ensures expected_answers { IfOk result
+        ensures answers { IfOk result
             (λ found. expected_answers self.old.number (lines_of self.old.script.now) (lines_of self.old.printed.now)
             ≡ onto found (expected_answers self.new.number (lines_of self.new.script.now) (lines_of self.new.printed.now))) }
         ensures end { IfOk result

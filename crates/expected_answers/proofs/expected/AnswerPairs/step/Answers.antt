@@ -7,8 +7,8 @@ use Rattle.expected_answers.proofs.Cutting.{first_line, next_of, some_left}
 use Rattle.expected_answers.proofs.Walking.{if_ok, none_left, step_answers, step_end, step_more}
 use Rattle.expected_answers.proofs.expected.AnswerPairs.step.Goals as goal
 
-pub returns-in-Some-clause-asked : goal.returns-in-Some-clause-asked
-returns-in-Some-clause-asked c =
+pub returns-in-Some-clause-answers : goal.returns-in-Some-clause-answers
+returns-in-Some-clause-answers c =
     let number = c.args.self.now.number in
     let script = c.args.self.now.script.now in
     let printed = lines_of c.args.self.now.printed.now in
@@ -19,8 +19,8 @@ returns-in-Some-clause-asked c =
     let got = c.in_ok-or_nothing-in-Some.ensures ∙ ap or_nothing texts in
     step_answers number script c.unwrap_or-self.result.now c.split_once.result.0.now c.parted_at.result.0.now printed (lines_of c.in_ok-self.field-0.now) cut c.in_ok-self.ensures.rest c.in-Some.answers.now c.trimmed.result.now c.in_ok-or_nothing-in-Some.field-0.items split_once c.trimmed.ensures got
 
-pub returns-in-None-clause-asked : goal.returns-in-None-clause-asked
-returns-in-None-clause-asked c =
+pub returns-in-None-clause-answers : goal.returns-in-None-clause-answers
+returns-in-None-clause-answers c =
     let number = c.args.self.now.number in
     let script = c.args.self.now.script.now in
     let line = c.split_once.result.0.now in
@@ -30,8 +30,8 @@ returns-in-None-clause-asked c =
     let last = none_left c.unwrap_or-self.result.now c.is_empty.result c.is_empty.ensures c.if-is_empty.true in
     if_ok c.expected_at_end.result _ _ c.expected_at_end.ensures (λ found is. step_end number script c.unwrap_or-self.result.now line c.parted_at.result.0.now (lines_of c.args.self.now.printed.now) (lines_of c.in_ok-self.field-0.now) cut c.in_ok-self.ensures.rest found split_once last is)
 
-pub returns-clause-asked : goal.returns-clause-asked
-returns-clause-asked c =
+pub returns-clause-answers : goal.returns-clause-answers
+returns-clause-answers c =
     let number = c.args.self.now.number in
     let script = c.args.self.now.script.now in
     let next = next_of script c.split_once.result.1 _ c.unwrap_or-self.result refl c.split_once.ensures.after c.unwrap_or-self.ensures in
