@@ -1,3 +1,4 @@
 pub mod Handles
+pub mod Scanning
 pub mod Told
 pub mod Unwritten
