@@ -305,8 +305,8 @@ MVS_API uint32_t mvs_map(mvs_session *session, uint32_t from, mvs_map_run *run);
 
 /* Returns the first run of held doublewords that begins at or after an address. The next one begins at address + length or later.
  * Areas of one subpool that are adjacent are one run. MVS_STATUS_OK; MVS_STATUS_NO_MORE, MVS_STATUS_WRONG_SIZE or
- * MVS_STATUS_NO_SESSION, and then *run does not change. The call looks at each doubleword, so a walk to the end takes some
- * milliseconds. */
+ * MVS_STATUS_NO_SESSION, and then *run does not change. The call looks at the map, and at each doubleword of the assigned pages from
+ * there on up to the end of the run. */
 MVS_API uint32_t mvs_held(mvs_session *session, uint32_t from, mvs_held_run *run);
 
 /* Frees a session, if there is one; then there is none. The pointer of mvs_free may be null; that of mvs_free_session, the function of

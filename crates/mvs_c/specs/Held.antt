@@ -1,18 +1,27 @@
 -- The runs of held doublewords.
-use Rattle.std.specs.Prelude.{◌≡◌, ◌≢◌, ◌⊎◌, ℕ, ◌+◌, ◌-◌, ◌*◌, ◌^◌, ◌<◌, ◌≤◌, false, true, List, replicate, Option, None, MatchOption}
+use Rattle.std.specs.Prelude.{◌≡◌, ◌≢◌, ◌⊎◌, ℕ, ◌+◌, ◌-◌, ◌*◌, ◌/◌, ◌^◌, ◌<◌, ◌≤◌, false, true, List, replicate, Option, None, Some, IsSome, MatchOption}
+use Rattle.std.specs.FinMap.{get}
 use Rattle.mvs_model.specs.declared.reason.Holder.{Holder}
 use Rattle.mvs_model.specs.declared.reason.Holder.TheVariants.{Nobody, Subpool, Unowned, Part}
-use Rattle.mvs_model.specs.Numbers.{first_doubleword_below, first_doubleword_above, most_pages_below, most_pages_above, page_doublewords}
+use Rattle.mvs_model.specs.Numbers.{first_page_below, first_page_above, page_doublewords}
 use Rattle.mvs_model.specs.Reasons.{Holds}
+use Rattle.mvs_model.specs.Reports.{page_subpool}
 use Rattle.mvs_model.specs.State.{State}
+use Rattle.mvs_model.specs.Storage.{Regions}
 use Rattle.mvs_c.specs.declared.held.HeldFields.{HeldFields}
 use Rattle.mvs_c.specs.declared.held.HeldRun.{HeldRun}
 use Rattle.mvs_c.specs.Opens.{OpenValue}
 
--- The doubleword is in the greatest region below, or in the greatest one above.
-abbrev pub IsInRegions : ℕ → Type 0
-IsInRegions d = ((first_doubleword_below ≤ d) × (d < first_doubleword_below + page_doublewords * most_pages_below))
-    ⊎ ((first_doubleword_above ≤ d) × (d < first_doubleword_above + page_doublewords * most_pages_above))
+-- The page is in a region.
+abbrev pub IsRegionPage : Regions → ℕ → Type 0
+IsRegionPage r page = ((first_page_below ≤ page) × (page < first_page_below + r.below)) ⊎ ((first_page_above ≤ page) × (page < first_page_above + r.above))
+
+-- The doubleword is on a page of the regions that is assigned to a subpool with an owner: REPORT MAP shows the owner.
+pub record IsMapped (st : State) (d : ℕ) : Type 0 where
+  pub page : IsRegionPage st.regions (d / page_doublewords)
+  pub subpool : ℕ
+  pub assigned : page_subpool st (d / page_doublewords) ≡ Some subpool
+  pub owned : IsSome (get st.owners.owner subpool)
 
 -- Something else holds the doubleword, or nothing.
 abbrev pub IsHeldOtherwise : State → ℕ → Holder → Type 0
@@ -34,17 +43,21 @@ pub record EndsRun (st : State) (first end : ℕ) (h : Holder) : Type 0 where
   pub alike : (d : ℕ) → first ≤ d → d < end → Holds st d h
   pub ends : end < 2 ^ 28 → IsHeldOtherwise st end h
 
--- The run is the first one that begins in the regions at or after an address.
+-- No run begins at the mapped doublewords from one on, before another.
+abbrev pub NoRunBetween : State → ℕ → ℕ → Type 0
+NoRunBetween st from end = (d : ℕ) → IsMapped st d → from ≤ d → d < end → BeginsNoRun st d
+
+-- The run is the first one that begins at or after an address.
 pub record IsHeldRun (st : State) (from : ℕ) (run : HeldRun) : Type 0 where
   pub placed : from ≤ 8 * run.first
   pub begins : BeginsRun st run.first run.holder
   pub ends : EndsRun st run.first (run.first + run.count) run.holder
   pub low : run.first + run.count ≤ 2 ^ 28
-  pub none_before : (d : ℕ) → IsInRegions d → from ≤ 8 * d → d < run.first → BeginsNoRun st d
+  pub none_before : (d : ℕ) → IsMapped st d → from ≤ 8 * d → d < run.first → BeginsNoRun st d
 
--- No run begins in the regions at or after an address.
+-- No run begins at or after an address.
 abbrev pub IsHeldEnd : State → ℕ → Type 0
-IsHeldEnd st from = (d : ℕ) → IsInRegions d → from ≤ 8 * d → BeginsNoRun st d
+IsHeldEnd st from = (d : ℕ) → IsMapped st d → from ≤ 8 * d → BeginsNoRun st d
 
 -- What is found of the first run at or after an address.
 pub record FindsHeld (o : OpenValue) (from : ℕ) (found : Option HeldRun) : Type 0 where

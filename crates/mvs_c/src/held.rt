@@ -1,25 +1,25 @@
 //! The runs of held doublewords: areas of subpools, and parts of cell pools.
 
-ghost use Rattle.std.specs.Prelude.{◌≡◌, ◌≢◌, ◌<◌, ◌≤◌, ◌+◌, ◌*◌, ◌^◌, ℕ, Option, IfSome, MatchBool, MatchOption};
+ghost use Rattle.std.specs.Prelude.{◌≡◌, ◌≢◌, ◌<◌, ◌≤◌, ◌+◌, ◌*◌, ◌^◌, ℕ, Option, IfSome, IsSome, MatchBool, MatchOption};
 ghost use Rattle.mvs_model.specs.Reasons.{Holds};
+ghost use Rattle.mvs_model.specs.View.{IsBounded};
 ghost use Rattle.mvs_c.specs.Access.{ReturnsOne};
-ghost use Rattle.mvs_c.specs.Held.{BeginsNoRun, BeginsRun, EndsRun, FindsHeld, IsHeldEnd, IsHeldRun, IsInRegions, held_bytes, held_value};
+ghost use Rattle.mvs_c.specs.Held.{BeginsNoRun, BeginsRun, EndsRun, FindsHeld, IsHeldEnd, IsHeldRun, IsMapped, NoRunBetween, held_bytes, held_value};
 
 use crate::access::addr_of;
 use crate::open::Open;
 use crate::status::{NO_MORE, OK};
-use mvs_model::numbers::{FIRST_DOUBLEWORD_ABOVE, FIRST_DOUBLEWORD_BELOW};
+use mvs_model::numbers::{FIRST_PAGE_ABOVE, FIRST_PAGE_BELOW, MOST_PAGES_ABOVE, PAGE_BYTES};
 use mvs_model::place::Addr;
 use mvs_model::reason::Holder;
+use mvs_model::report::MapRun;
 use request_forms::Machine;
 
 /// The number of doublewords that have an address.
 const DOUBLEWORDS: u32 = 1 << 28;
 
-/// The first doublewords after the greatest regions.
-const END_BELOW: u32 = FIRST_DOUBLEWORD_BELOW + 512 * 2_048;
-
-const END_ABOVE: u32 = FIRST_DOUBLEWORD_ABOVE + 512 * 8_192;
+/// The first page after the greatest region above.
+const END_PAGE: u32 = FIRST_PAGE_ABOVE + MOST_PAGES_ABOVE;
 
 /// The number of bytes of a run for C.
 const HELD_BYTES: u32 = 36;
@@ -122,27 +122,55 @@ fn run_end(machine: &Machine, first: u32, holder: &Holder) -> u32
     DOUBLEWORDS
 }
 
-// Returns the first doubleword of the regions from one on at which a run begins, and what holds it.
-fn first_in_regions(machine: &Machine, from: u32) -> Option<(u32, Holder)>
+// Returns the first doubleword from one on at which a run begins on adjacent pages, and what holds it; None if they are not assigned.
+fn first_on_pages(machine: &Machine, pages: &MapRun, from: u32) -> Option<(u32, Holder)>
+    requires some { 8 ≤ pages.now.addr }
+    requires low { pages.now.addr + pages.now.len ≤ 0x3000000 }
     ensures { MatchOption result
-        ((d : ℕ) → IsInRegions d → from ≤ d → BeginsNoRun machine.now.state d)
-        (λ r. (from ≤ r.0) × (r.0 < 2 ^ 28) × BeginsRun machine.now.state r.0 r.1
-        × ((d : ℕ) → IsInRegions d → from ≤ d → d < r.0 → BeginsNoRun machine.now.state d)) }
+        (IsSome pages.now.holder → (d : ℕ) → pages.now.addr ≤ 8 * d
+        → 8 * d < pages.now.addr + pages.now.len → from ≤ d → BeginsNoRun machine.now.state d)
+        (λ r. (from ≤ r.0) × (8 * r.0 < pages.now.addr + pages.now.len) × BeginsRun machine.now.state r.0 r.1
+        × ((d : ℕ) → pages.now.addr ≤ 8 * d → from ≤ d → d < r.0 → BeginsNoRun machine.now.state d)) }
 {
-    let below = from.max(FIRST_DOUBLEWORD_BELOW).min(END_BELOW);
-    if let Some(found) = first_run(machine, below, END_BELOW) {
-        return Some(found);
+    if pages.holder.is_none() {
+        return None;
     }
-    let above = from.max(FIRST_DOUBLEWORD_ABOVE).min(END_ABOVE);
-    first_run(machine, above, END_ABOVE)
+    let end = (pages.addr.get() + pages.len + 7) / 8;
+    let first = from.max(pages.addr.get() / 8);
+    if first >= end {
+        return None;
+    }
+    first_run(machine, first, end)
+}
+
+// Returns the first doubleword from one on at which a run begins, and what holds it.
+fn first_on_map(machine: &Machine, from: u32) -> Option<(u32, Holder)>
+    requires { IsBounded machine.now.state.regions }
+    ensures { MatchOption result
+        ((d : ℕ) → IsMapped machine.now.state d → from ≤ d → BeginsNoRun machine.now.state d)
+        (λ r. (from ≤ r.0) × (r.0 < 2 ^ 28) × BeginsRun machine.now.state r.0 r.1
+        × NoRunBetween machine.now.state from r.0) }
+{
+    let mut page = FIRST_PAGE_BELOW;
+    for i in 0..END_PAGE {
+        let Some(pages) = machine.map_run(Addr::new(PAGE_BYTES * page)) else {
+            return None;
+        };
+        if let Some(found) = first_on_pages(machine, &pages, from) {
+            return Some(found);
+        }
+        page = (pages.addr.get() + pages.len) / PAGE_BYTES;
+    }
+    None
 }
 
 // Returns the first run that begins at or after an address.
 fn held_run(machine: &Machine, from: Addr) -> Option<HeldRun>
+    requires { IsBounded machine.now.state.regions }
     ensures { MatchOption result (IsHeldEnd machine.now.state from)
         (IsHeldRun machine.now.state from) }
 {
-    let Some((first, holder)) = first_in_regions(machine, (from.get() + 7) / 8) else {
+    let Some((first, holder)) = first_on_map(machine, (from.get() + 7) / 8) else {
         return None;
     };
     let end = run_end(machine, first, &holder);
