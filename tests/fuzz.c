@@ -222,7 +222,7 @@ static void reports(player *p) {
         from = run.address + run.length;
     }
     MUST(status == (p->is_there ? MVS_STATUS_NO_MORE : MVS_STATUS_NO_SESSION));
-    status = mvs_held(&p->session, from = (uint32_t)byte() << 16, &held);
+    status = mvs_held(&p->session, from = (uint32_t)byte() << 18, &held);
     MUST((status == MVS_STATUS_NO_SESSION) == !p->is_there);
     if (status == MVS_STATUS_OK) MUST(held.length && held.length % 8 == 0 && held.address % 8 == 0 && held.address >= from);
     status = mvs_fallen(&p->session, byte() < 9 ? (size_t)-1 : byte() % 40, fallen);
