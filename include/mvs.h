@@ -29,7 +29,7 @@
 #include <string.h>
 
 /* The version of these calls. A program runs with a library if the thousands agree and the library's version is not less. */
-#define MVS_VERSION 2000
+#define MVS_VERSION 2001
 
 /* What comes before each declaration of a function of the library. In libmvs.a these are hidden: a plugin that contains it does not
  * export them. */
@@ -206,6 +206,19 @@ typedef struct mvs_map_run {
 
 #define MVS_MAP_RUN_INIT { sizeof(mvs_map_run), 0, 0, false, 0, {0} }
 
+/* Adjacent doublewords that are held alike: by areas of one subpool, or by parts of one cell pool. */
+typedef struct mvs_held_run {
+    uint32_t size;
+    uint32_t address;
+    uint32_t length;
+    bool pooled;      /* whether they are in parts of a cell pool */
+    uint32_t number;  /* if not: the number that the owner has for the subpool */
+    uint8_t owner[8]; /* and the owner, padded with blanks */
+    uint8_t pool[8];  /* if so: the cell pool, padded with blanks */
+} mvs_held_run;
+
+#define MVS_HELD_RUN_INIT { sizeof(mvs_held_run), 0, 0, false, 0, {0}, {0} }
+
 /* What REGION begins: the pages of a step, and its job step task. */
 typedef struct mvs_region {
     uint32_t size;
@@ -289,6 +302,12 @@ MVS_API uint32_t mvs_subpool(mvs_session *session, const uint8_t task[8], uint8_
 /* Returns the first run of pages that begins at or after an address. MVS_STATUS_OK; MVS_STATUS_NO_MORE, MVS_STATUS_WRONG_SIZE or
  * MVS_STATUS_NO_SESSION, and then *run does not change. */
 MVS_API uint32_t mvs_map(mvs_session *session, uint32_t from, mvs_map_run *run);
+
+/* Returns the first run of held doublewords that begins at or after an address. The next one begins at address + length or later.
+ * Areas of one subpool that are adjacent are one run. MVS_STATUS_OK; MVS_STATUS_NO_MORE, MVS_STATUS_WRONG_SIZE or
+ * MVS_STATUS_NO_SESSION, and then *run does not change. The call looks at the map, and at each doubleword of the assigned pages from
+ * there on up to the end of the run. */
+MVS_API uint32_t mvs_held(mvs_session *session, uint32_t from, mvs_held_run *run);
 
 /* Frees a session, if there is one; then there is none. The pointer of mvs_free may be null; that of mvs_free_session, the function of
  * the library that it calls, may not. */

@@ -142,6 +142,14 @@ public:
         return runs;
     }
 
+    /* Returns the runs of held doublewords. */
+    std::vector<mvs_held_run> held_runs() {
+        std::vector<mvs_held_run> runs;
+        mvs_held_run run = MVS_HELD_RUN_INIT;
+        for (uint32_t from = 0; mvs_held(&held, from, &run) == MVS_STATUS_OK; from = run.address + run.length) runs.push_back(run);
+        return runs;
+    }
+
     /* The session for the functions of mvs.h. */
     mvs_session *get() { return &held; }
 

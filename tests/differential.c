@@ -288,6 +288,14 @@ static void compare_pages(const request *r) {
     }
 }
 
+static void compare_held(const request *r) {
+    mvs_held_run one = MVS_HELD_RUN_INIT, other = MVS_HELD_RUN_INIT;
+    uint32_t from = any_address(), status = mvs_held(&by_values, from, &one);
+    if (status != mvs_held(&by_lines, from, &other)) fail("number of held runs", r);
+    if (one.address != other.address || one.length != other.length || one.pooled != other.pooled || one.number != other.number) fail("held runs", r);
+    if (memcmp(one.owner, other.owner, 8) != 0 || memcmp(one.pool, other.pool, 8) != 0) fail("holder of held runs", r);
+}
+
 static void compare_subpools(const request *r, const char *name) {
     mvs_subpool_line one = MVS_SUBPOOL_LINE_INIT, other = MVS_SUBPOOL_LINE_INIT;
     uint8_t field[8];
@@ -431,7 +439,7 @@ static void sequence(void) {
         makers[below(sizeof makers / sizeof makers[0])](&r);
         serve(&r);
         if (one_in(4)) store(&r);
-        if (one_in(6)) compare_pages(&r), compare_bytes(&r), compare_subpools(&r, TASKS[below(5)]);
+        if (one_in(6)) compare_pages(&r), compare_bytes(&r), compare_held(&r), compare_subpools(&r, TASKS[below(5)]);
         if (is_over()) begin_step();
     }
     uint32_t status = mvs_end(&by_values, &one);

@@ -210,6 +210,7 @@ static void bytes(player *p) {
 static void reports(player *p) {
     mvs_subpool_line line = MVS_SUBPOOL_LINE_INIT;
     mvs_map_run run = MVS_MAP_RUN_INIT;
+    mvs_held_run held = MVS_HELD_RUN_INIT;
     uint8_t field[8], fallen[8] = {0};
     uint32_t from = 0, status;
     name(field);
@@ -221,6 +222,9 @@ static void reports(player *p) {
         from = run.address + run.length;
     }
     MUST(status == (p->is_there ? MVS_STATUS_NO_MORE : MVS_STATUS_NO_SESSION));
+    status = mvs_held(&p->session, from = (uint32_t)byte() << 18, &held);
+    MUST((status == MVS_STATUS_NO_SESSION) == !p->is_there);
+    if (status == MVS_STATUS_OK) MUST(held.length && held.length % 8 == 0 && held.address % 8 == 0 && held.address >= from);
     status = mvs_fallen(&p->session, byte() < 9 ? (size_t)-1 : byte() % 40, fallen);
     MUST((status == MVS_STATUS_NO_SESSION) == !p->is_there);
 }

@@ -428,6 +428,43 @@ static int whole(void) {
     return 0;
 }
 
+/* Whether a run is at an address, of a length, and is areas of JOB under this number, or parts of a pool. */
+static bool is_held(const mvs_held_run *run, uint32_t address, uint32_t length, uint32_t number, const char *pool) {
+    const uint8_t *owner = named(pool ? "" : "JOB");
+    if (run->address != address || run->length != length || run->pooled != (pool != NULL) || run->number != number) return false;
+    if (memcmp(run->owner, owner, 8) != 0) return false;
+    return memcmp(run->pool, named(pool ? pool : ""), 8) == 0;
+}
+
+/* The runs of held doublewords. */
+static int held_runs(void) {
+    mvs_held_run run = MVS_HELD_RUN_INIT;
+    mvs_ask obtain = asked(MVS_ASK_OBTAIN, "JOB"), release = asked(MVS_ASK_RELEASE, "JOB"), pool = asked(MVS_ASK_POOL_BUILD, "JOB");
+    run.number = 7, run.size--;
+    if (mvs_held(&session, 0, &run) != MVS_STATUS_WRONG_SIZE || run.number != 7) return 220;
+    run.size++;
+    if (mvs_held(&session, 0, &run) != MVS_STATUS_NO_SESSION || run.number != 7) return 221;
+    if (mvs_new(&session, MVS_PLACE_LOW) != MVS_STATUS_OK || mvs_held(&session, 0, &run) != MVS_STATUS_NO_MORE) return 222;
+    if (answered("JOB REGION BELOW=2,ABOVE=1") != MVS_EVENT_STEP_BEGAN || mvs_held(&session, 0, &run) != MVS_STATUS_NO_MORE || run.number != 7) return 223;
+    obtain.length = 24, obtain.subpool = 2, obtain.form = MVS_FORM_RC;
+    if (requested(obtain) != MVS_EVENT_GRANTED || event.address != 0x6000 || requested(obtain) != MVS_EVENT_GRANTED || event.address != 0x6018) return 224;
+    if (mvs_held(&session, 0, &run) != MVS_STATUS_OK || !is_held(&run, 0x6000, 48, 2, NULL)) return 225;
+    if (mvs_held(&session, 0x6001, &run) != MVS_STATUS_NO_MORE || mvs_held(&session, 0x80000000u, &run) != MVS_STATUS_NO_MORE) return 226;
+    release.form = MVS_FORM_RC, release.subpool = 2, release.length = 8, release.address = 0x6010;
+    if (requested(release) != MVS_EVENT_RC_0) return 227;
+    if (mvs_held(&session, 0, &run) != MVS_STATUS_OK || !is_held(&run, 0x6000, 16, 2, NULL)) return 228;
+    if (mvs_held(&session, run.address + run.length, &run) != MVS_STATUS_OK || !is_held(&run, 0x6018, 24, 2, NULL)) return 229;
+    memcpy(pool.name, "POOL    ", 8);
+    pool.subpool = 3, pool.length = 8, pool.primary = 2;
+    if (requested(pool) != MVS_EVENT_RC_0 || mvs_held(&session, run.address + run.length, &run) != MVS_STATUS_OK) return 230;
+    if (!is_held(&run, 0x7000, 40, 0, "POOL")) return 231;
+    obtain.location = MVS_LOCATION_ANY, obtain.length = 4096;
+    if (requested(obtain) != MVS_EVENT_GRANTED || mvs_held(&session, run.address + run.length, &run) != MVS_STATUS_OK) return 232;
+    if (!is_held(&run, 0x1000000, 4096, 2, NULL) || mvs_held(&session, run.address + run.length, &run) != MVS_STATUS_NO_MORE) return 233;
+    mvs_free(&session);
+    return 0;
+}
+
 int main(void) {
     int failed = without_session();
     if (!failed) failed = events();
@@ -440,5 +477,6 @@ int main(void) {
     if (!failed) failed = surface();
     if (!failed) failed = tried();
     if (!failed) failed = begun();
+    if (!failed) failed = held_runs();
     return failed;
 }

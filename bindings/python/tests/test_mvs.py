@@ -61,6 +61,7 @@ class SessionTest(unittest.TestCase):
         pages = list(self.session.pages())
         self.assertEqual(pages[0], mvs.Run(0x6000, 4096, 7, "JOB"))
         self.assertEqual([run.owner for run in pages[1:]], [None, None])
+        self.assertEqual(list(self.session.held_runs()), [mvs.HeldRun(0x6000, 104, 7, "JOB", None)])
         self.assertEqual(self.session.release_whole("JOB", 7).kind, mvs.EventKind.RC_0)
 
     def test_lists(self):
@@ -112,6 +113,7 @@ class SessionTest(unittest.TestCase):
         self.assertEqual(self.session.build_pool("JOB", "P", cell=12, primary=1).kind, mvs.EventKind.RC_0)
         cell = self.session.get_cell("JOB", "P", conditional=True)
         self.assertEqual((cell.kind, cell.length), (mvs.EventKind.CELL, 12))
+        self.assertEqual(list(self.session.held_runs()), [mvs.HeldRun(0x6000, 40, 0, None, "P")])
         self.assertEqual(self.session.get_cell("JOB", "P", conditional=True).kind, mvs.EventKind.NO_CELL)
         self.assertEqual(self.session.free_cell("JOB", "P", cell.address).kind, mvs.EventKind.RC_0)
         self.assertEqual(self.session.end_task("JOB").kind, mvs.EventKind.ENDED)

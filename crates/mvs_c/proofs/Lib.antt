@@ -1,3 +1,5 @@
 pub mod Handles
+pub mod Mapped
+pub mod Scanning
 pub mod Told
 pub mod Unwritten

@@ -4,6 +4,7 @@ pub mod Events
 pub mod Exports
 pub mod Fields
 pub mod Handle
+pub mod Held
 pub mod Lists
 pub mod Opens
 pub mod Regions

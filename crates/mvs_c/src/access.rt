@@ -65,8 +65,8 @@ impl RunFields {
     }
 }
 
-// An address of 31 bits; None where a number is none.
-fn addr_of(number: u32) -> Option<Addr>
+/// Returns an address of 31 bits, or None if the number is none.
+pub fn addr_of(number: u32) -> Option<Addr>
     ensures { MatchOption result (2 ^ 31 ≤ number) (λ addr. (number < 2 ^ 31) × (addr ≡ number)) }
 {
     if number < ADDRESSES {

@@ -7,6 +7,8 @@ ghost use Rattle.mvs_c.specs.Access.{AnswersSubpool, FindsRun, Reads, ReturnsOne
 ghost use Rattle.mvs_c.specs.Opens.{TakesLine, events_of, new_open, text_of};
 ghost use Rattle.mvs_c.specs.Asks.{Asks};
 ghost use Rattle.mvs_c.specs.Events.{event_bytes};
+ghost use Rattle.mvs_c.specs.Held.{FindsHeld, held_bytes, held_value};
+ghost use Rattle.mvs_c.specs.declared.held.HeldRun.{HeldRun};
 ghost use Rattle.mvs_c.specs.Regions.{region_bytes, region_line};
 ghost use Rattle.mvs_c.specs.Lists.{AsksList, area_values, listed};
 ghost use Rattle.mvs_c.specs.Exports.{AnswersValues, AnswersEnd, AnswersLine, AnswersList, AnswersRequest, HandsOver, IsPlaceNumber, TriesLine, WithSession, line_status, outcome_status};
@@ -17,6 +19,7 @@ use crate::buffer::hand_over;
 use crate::event::{Event, end_event, fault_event, line_event, refused_event, reply_event};
 use crate::field::RequestField;
 use crate::handle::Handle;
+use crate::held::{HeldFields, copy_held};
 use crate::list::{ListArea, write_listed};
 use crate::open::Open;
 use crate::region::RegionFields;
@@ -33,7 +36,7 @@ use std::alloc::Global;
 use std::mem;
 
 /// The version of these calls.
-const VERSION: u32 = 2_000;
+const VERSION: u32 = 2_001;
 
 /// The status of an outcome.
 pub fn outcome_status(outcome: Outcome) -> u32
@@ -192,7 +195,7 @@ fn show(alloc: Global, held: &Open, out: &mut [u8], wanted: &mut usize) -> u32
 /// Returns the version of these calls.
 #[unsafe(no_mangle)]
 pub extern "C" fn mvs_version() -> u32
-    ensures { result ≡ 2000 }
+    ensures { result ≡ 2001 }
 {
     VERSION
 }
@@ -506,6 +509,34 @@ pub extern "C" fn mvs_map(
         return NO_SESSION;
     };
     let status = access::copy_run(&held, from, told);
+    put(alloc, session, held);
+    status
+}
+
+/// Returns the first run of held doublewords at or after an address.
+#[unsafe(no_mangle)]
+pub extern "C" fn mvs_held(
+    alloc: Global,
+    session: &mut Handle,
+    from: u32,
+    run: &mut HeldFields,
+) -> u32
+    ensures session { session.new.open ≡ session.old.open }
+    ensures size { run.old.size ≢ held_bytes → (result ≡ 64) × (run.new ≡ run.old) }
+    ensures none { run.old.size ≡ held_bytes → session.old.open ≡ None
+        → (result ≡ 20) × (run.new ≡ run.old) }
+    ensures run { run.old.size ≡ held_bytes
+        → IfSome session.old.open
+        (λ old. (found : Option HeldRun) × FindsHeld old from found
+        × ReturnsOne found held_value run.old run.new result) }
+{
+    if !run.is_sized() {
+        return WRONG_SIZE;
+    }
+    let Some(held) = take_out(alloc, session) else {
+        return NO_SESSION;
+    };
+    let status = copy_held(&held, from, run);
     put(alloc, session, held);
     status
 }

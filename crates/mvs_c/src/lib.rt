@@ -9,6 +9,7 @@ mod event;
 mod exports;
 mod field;
 mod handle;
+mod held;
 mod last;
 mod list;
 mod open;

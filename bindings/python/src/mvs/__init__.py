@@ -38,6 +38,7 @@ from ._library import (
     RawArea,
     RawAsk,
     RawEvent,
+    RawHeld,
     RawRegion,
     RawRun,
     RawSession,
@@ -57,6 +58,7 @@ __all__ = [
     "EventKind",
     "FieldError",
     "Form",
+    "HeldRun",
     "Location",
     "Page",
     "Place",
@@ -151,6 +153,21 @@ class Run:
     length: int
     number: int
     owner: Union[str, None]
+
+
+@dataclass(frozen=True)
+class HeldRun:
+    """Adjacent doublewords that are held alike.
+
+    They are areas of the subpool that `owner` has under `number` (`pool` is None), or are in parts of the cell pool `pool` (`owner` is
+    None).
+    """
+
+    address: int
+    length: int
+    number: int
+    owner: Union[str, None]
+    pool: Union[str, None]
 
 
 @dataclass(frozen=True)
@@ -473,6 +490,18 @@ class Session:
             self._check(status)
             owner = bytes(raw.owner).decode("ascii").rstrip()
             yield Run(raw.address, raw.length, raw.number, owner if raw.assigned else None)
+            address = raw.address + raw.length
+
+    def held_runs(self) -> Iterator[HeldRun]:
+        """Iterates over the runs of doublewords that are held alike, in the order of their addresses."""
+        raw, address = RawHeld(size=ctypes.sizeof(RawHeld)), 0
+        while True:
+            status = Status(library.mvs_held(self._session, address, raw))
+            if status is Status.NO_MORE:
+                return
+            self._check(status)
+            owner, pool = (bytes(name).decode("ascii").rstrip() for name in (raw.owner, raw.pool))
+            yield HeldRun(raw.address, raw.length, raw.number, None if raw.pooled else owner, pool if raw.pooled else None)
             address = raw.address + raw.length
 
     @property

@@ -7,7 +7,7 @@ import ctypes.util
 import enum
 import os
 
-VERSION = 2000
+VERSION = 2001
 """The version of the calls that this module was written for."""
 
 
@@ -181,6 +181,20 @@ class RawRun(ctypes.Structure):
     ]
 
 
+class RawHeld(ctypes.Structure):
+    """mvs_held_run."""
+
+    _fields_ = [
+        ("size", ctypes.c_uint32),
+        ("address", ctypes.c_uint32),
+        ("length", ctypes.c_uint32),
+        ("pooled", ctypes.c_bool),
+        ("number", ctypes.c_uint32),
+        ("owner", ctypes.c_char * 8),
+        ("pool", ctypes.c_char * 8),
+    ]
+
+
 class RawSession(ctypes.Structure):
     """mvs_session."""
 
@@ -214,6 +228,7 @@ _FUNCTIONS = {
     "mvs_fallen": [_SESSION, ctypes.c_size_t, ctypes.c_char_p],
     "mvs_subpool": [_SESSION, ctypes.c_char_p, ctypes.c_uint8, _POINTER(RawSubpool)],
     "mvs_map": [_SESSION, ctypes.c_uint32, _POINTER(RawRun)],
+    "mvs_held": [_SESSION, ctypes.c_uint32, _POINTER(RawHeld)],
     "mvs_free_session": [_SESSION],
     "mvs_run_into": [ctypes.c_uint32, ctypes.c_char_p, ctypes.c_size_t, ctypes.c_char_p, ctypes.c_size_t, _SIZE],
 }

@@ -5,7 +5,7 @@ use core::ffi::{c_char, c_void};
 use core::mem::size_of;
 
 /// The version of the calls that these declarations are for: `MVS_VERSION`.
-pub const MVS_VERSION: u32 = 2_000;
+pub const MVS_VERSION: u32 = 2_001;
 
 pub const MVS_STATUS_OK: u32 = 0;
 pub const MVS_STATUS_SOME_ABEND: u32 = 8;
@@ -234,6 +234,35 @@ impl Default for mvs_map_run {
     }
 }
 
+/// `mvs_held_run` of `mvs.h`.
+#[repr(C)]
+#[derive(Clone, Copy, Debug, PartialEq, Eq)]
+#[allow(non_camel_case_types)]
+pub struct mvs_held_run {
+    pub size: u32,
+    pub address: u32,
+    pub length: u32,
+    pub pooled: bool,
+    pub number: u32,
+    pub owner: [u8; 8],
+    pub pool: [u8; 8],
+}
+
+impl Default for mvs_held_run {
+    /// All fields are 0, except the size.
+    fn default() -> Self {
+        Self {
+            size: size_of::<Self>() as u32,
+            address: 0,
+            length: 0,
+            pooled: false,
+            number: 0,
+            owner: [0; 8],
+            pool: [0; 8],
+        }
+    }
+}
+
 /// `mvs_region` of `mvs.h`.
 #[repr(C)]
 #[derive(Clone, Copy, Debug, PartialEq, Eq)]
@@ -284,6 +313,7 @@ unsafe extern "C" {
     pub fn mvs_fallen(session: *mut mvs_session, index: usize, name: *mut [u8; 8]) -> u32;
     pub fn mvs_subpool(session: *mut mvs_session, task: *const [u8; 8], from: u8, line: *mut mvs_subpool_line) -> u32;
     pub fn mvs_map(session: *mut mvs_session, from: u32, run: *mut mvs_map_run) -> u32;
+    pub fn mvs_held(session: *mut mvs_session, from: u32, run: *mut mvs_held_run) -> u32;
     pub fn mvs_free_session(session: *mut mvs_session);
     pub fn mvs_run_into(place: u32, script: *const c_char, length: usize, out: *mut c_char, room: usize, wanted: *mut usize) -> u32;
 }

@@ -26,4 +26,4 @@ mod session;
 
 pub use numbers::{EventKind, Form, Location, Place, Status, StepEnd};
 pub use request::{Area, Name, Obtain, Pool, Region, Request, Subtask};
-pub use session::{run, version, Error, Event, Pages, Run, Session, Subpool, Subpools};
+pub use session::{run, version, Error, Event, HeldRun, HeldRuns, Holder, Pages, Run, Session, Subpool, Subpools};

@@ -2,7 +2,7 @@
 
 use crate::numbers::{EventKind, Form, Place, Status, StepEnd};
 use crate::request::{Area, Name, Region, Request};
-use mvs_sys::{mvs_area, mvs_ask, mvs_event, mvs_map_run, mvs_region, mvs_session, mvs_subpool_line};
+use mvs_sys::{mvs_area, mvs_ask, mvs_event, mvs_held_run, mvs_map_run, mvs_region, mvs_session, mvs_subpool_line};
 use std::ffi::c_char;
 use std::{fmt, mem, ptr};
 
@@ -113,6 +113,24 @@ pub struct Run {
     pub area: Area,
     /// The task that owns their subpool, and its number there; None if they are free.
     pub owner: Option<(Name, u32)>,
+}
+
+/// What holds doublewords.
+#[derive(Clone, Copy, Debug, PartialEq, Eq)]
+pub enum Holder {
+    /// Areas of the subpool that this task owns, and has under this number.
+    Subpool(Name, u32),
+    /// Parts of this cell pool.
+    Pool(Name),
+}
+
+/// Adjacent doublewords that are held alike.
+#[derive(Clone, Copy, Debug, PartialEq, Eq)]
+pub struct HeldRun {
+    /// The doublewords.
+    pub area: Area,
+    /// What holds them.
+    pub holder: Holder,
 }
 
 /// Returns the version of the library's calls: 2000 is 2.0.
@@ -316,6 +334,11 @@ impl Session {
     pub fn pages(&mut self) -> Pages<'_> {
         Pages { session: self, from: 0 }
     }
+
+    /// Iterates over the runs of doublewords that are held alike, in the order of their addresses.
+    pub fn held_runs(&mut self) -> HeldRuns<'_> {
+        HeldRuns { session: self, from: 0 }
+    }
 }
 
 impl Drop for Session {
@@ -386,6 +409,35 @@ impl Iterator for Pages<'_> {
                 length: run.length,
             },
             owner: run.assigned.then_some((Name::of(run.owner), run.number)),
+        })
+    }
+}
+
+/// The runs of held doublewords: [`Session::held_runs`].
+#[derive(Debug)]
+pub struct HeldRuns<'a> {
+    session: &'a mut Session,
+    from: u32,
+}
+
+impl Iterator for HeldRuns<'_> {
+    type Item = HeldRun;
+
+    fn next(&mut self) -> Option<HeldRun> {
+        let mut run = mvs_held_run::default();
+        // SAFETY: as in `Session`.
+        served(unsafe { mvs_sys::mvs_held(&mut self.session.raw, self.from, &mut run) }).ok()?;
+        self.from = run.address + run.length;
+        Some(HeldRun {
+            area: Area {
+                address: run.address,
+                length: run.length,
+            },
+            holder: if run.pooled {
+                Holder::Pool(Name::of(run.pool))
+            } else {
+                Holder::Subpool(Name::of(run.owner), run.number)
+            },
         })
     }
 }

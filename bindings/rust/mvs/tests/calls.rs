@@ -1,5 +1,7 @@
 //! Each call of the crate, and what it refuses. The replies of the library itself are tested in C.
-use mvs::{Area, Error, EventKind, Form, Location, Name, Obtain, Place, Pool, Region, Request, Session, Status, StepEnd, Subtask};
+use mvs::{
+    Area, Error, EventKind, Form, HeldRun, Holder, Location, Name, Obtain, Place, Pool, Region, Request, Session, Status, StepEnd, Subtask,
+};
 
 fn job() -> Name {
     Name::new("JOB").unwrap()
@@ -69,6 +71,18 @@ fn storage() {
             },
             Some((job(), 7))
         )
+    );
+    let held: Vec<_> = session.held_runs().collect();
+    let area = Area {
+        address: 0x0100_0000,
+        length: 4096,
+    };
+    assert_eq!(
+        held,
+        [HeldRun {
+            area,
+            holder: Holder::Subpool(job(), 7)
+        }]
     );
     let whole = Request::ReleaseWhole {
         form: Form::Ru,
