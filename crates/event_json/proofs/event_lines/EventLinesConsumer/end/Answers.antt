@@ -7,4 +7,4 @@ use Rattle.event_json.proofs.event_lines.EventLinesConsumer.end.Goals as goal
 pub returns-in-Exhausted-clause-accepted : goal.returns-in-Exhausted-clause-accepted
 returns-in-Exhausted-clause-accepted g c first =
     rw (c.in-Exhausted.is)
-    (accepts_end _ _ first c.args.self.now c.args.self.now c.args.line_number _ (end.Exhausted c.in-Exhausted.ended) c.write_ended.result (ended c.in-Exhausted.ended) (λ e is. is.1) (step_end c.in-Exhausted.ended, ended_lines c.in-Exhausted.ended, c.write_ended.ensures.bytes))
+    (λ history e is in_step known. accepts_end _ _ first c.args.self.now c.args.self.now c.args.line_number (end.Exhausted c.in-Exhausted.ended) c.write_ended.result (ended c.in-Exhausted.ended) (λ e is. is.1) (step_end c.in-Exhausted.ended, ended_lines c.in-Exhausted.ended, c.write_ended.ensures.bytes) history e is)
