@@ -10,7 +10,7 @@ use Rattle.mvs_job.specs.declared.consumer.End.{End}
 use Rattle.mvs_job.specs.declared.printing.Stop.{Stop}
 use Rattle.mvs_job.specs.declared.printing.Stop.TheVariants as stop
 use Rattle.mvs_job.specs.declared.walk.LineEvent.{LineEvent}
-use Rattle.mvs_job.specs.Consuming.{AcceptsEnd, AcceptsLine, IsEnd, WrittenAfter, keeps_nothing}
+use Rattle.mvs_job.specs.Consuming.{AcceptsLast, AcceptsLine, IsEnd, WrittenAfter, keeps_nothing}
 use Rattle.mvs_job.specs.Observing.{Hearing}
 use Rattle.mvs_job.specs.LineEvents.{WalkValue, ended, events_of_line}
 use Rattle.mvs_job.specs.Trace.{Entry, events_of}
@@ -55,10 +55,10 @@ module _ {S : Type 0} (heard : Hearing S) (sees : S → Option JobValue → List
   accepts_line (Err stop.Write) (text, are, f) mid history e is seen observed known = ((text, subst (λ v. AreLinesOf v text) (sym is.events) are, f), tt)
   accepts_line (Err stop.Memory) (needs, kept) mid history e is seen observed known = ((subst EndsWithAnswer (sym is.events) needs, kept), tt)
 
-pub accepts_end : {S X : Type 0} (before after : Option (List ℕ)) (first s s' : S) (n : ℕ) (w : WalkValue) (how : End) (r : Result X Failed) (events : List Event) → ((e : Entry) → IsEnd n how e → e.events ≡ events) → WritesLast before after events r
-    → AcceptsEnd {S = S} {X = X} event_lines (keeps_nothing first) before after s s' n w how r
-accepts_end before after first s s' n w how (Ok x) events same (text, are, a) history e is in_step known = ((text, subst (λ v. AreLinesOf v text) (sym (same e is)) are, a), tt)
-accepts_end before after first s s' n w how (Err failed) events same (text, are, f) history e is in_step known = ((text, subst (λ v. AreLinesOf v text) (sym (same e is)) are, f), tt)
+pub accepts_end : {S X : Type 0} (before after : Option (List ℕ)) (first s s' : S) (n : ℕ) (how : End) (r : Result X Failed) (events : List Event) → ((e : Entry) → IsEnd n how e → e.events ≡ events) → WritesLast before after events r
+    → (history : List Entry) (e : Entry) → IsEnd n how e → AcceptsLast {S = S} {X = X} event_lines (keeps_nothing first) before after s' history e r
+accepts_end before after first s s' n how (Ok x) events same (text, are, a) history e is = ((text, subst (λ v. AreLinesOf v text) (sym (same e is)) are, a), tt)
+accepts_end before after first s s' n how (Err failed) events same (text, are, f) history e is = ((text, subst (λ v. AreLinesOf v text) (sym (same e is)) are, f), tt)
 
 -- ---- a run
 

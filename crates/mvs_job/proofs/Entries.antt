@@ -2,6 +2,7 @@
 use Rattle.std.proofs.Common.{◌≡◌, ℕ, inl, inr, List, [], ◌∷◌, Option, Bool, refl, sym, ap, subst}
 use Rattle.mvs_model.specs.declared.line.Fault.{Fault}
 use Rattle.mvs_model.specs.declared.outcome.Outcome.{Outcome}
+use Rattle.mvs_model.specs.Job.{JobValue}
 use Rattle.mvs_model.specs.Memory.{StopsForMemory}
 use Rattle.mvs_model.specs.Runs.{machine}
 use Rattle.mvs_model.specs.Walk.{Closes}

@@ -20,7 +20,7 @@ use Rattle.mvs_job.specs.declared.consumer.End.TheVariants as end
 use Rattle.mvs_job.specs.declared.explained.Explained.{Explained}
 use Rattle.mvs_job.specs.declared.walk.LineEvent.{LineEvent}
 use Rattle.mvs_job.specs.declared.walk.LineEvent.TheVariants as told
-use Rattle.mvs_job.specs.Consuming.{AcceptsEnd, IsEnd, IsEntry, IsOfLine}
+use Rattle.mvs_job.specs.Consuming.{AcceptsLast, IsEnd, IsEntry, IsOfLine}
 use Rattle.mvs_job.specs.Explained.{ExplainedArePrintings, IsExplained, IsExplainedAs, SetsNames, explained, set_after, set_by_entries, set_from}
 use Rattle.mvs_job.specs.Explaining.{IsExplanationText, explanation_text, text_of_event, without_starred}
 use Rattle.mvs_job.specs.Granting.{IsReadIn, reports_grant}
@@ -189,10 +189,10 @@ end_set n how e is history = at e.before ∙ sym (set_then no_lines history e) w
   at None = refl
   at (Some job) = end_kind n how e is (λ k. set_by_entries history ≡ set_after (Some job) (set_by_entries history) e k) refl (λ said. refl)
 
-pub explains_end : {X : Type 0} (before after : Option (List ℕ)) (first x : Explained) (n : ℕ) (w : WalkValue) (how : End) (result : Result X Failed) (events : List Event) → ((e : Entry) → IsEnd n how e → e.events ≡ events) → WritesAll before after result (printing events)
-    → AcceptsEnd {S = Explained} {X = X} explained (knows_set first) before after x x n w how result
-explains_end before after first x n w how (Ok y) events same p history e is in_step known = ((printing events, end_text n w how e is (set_by_entries history) (printing events) (ap printing (sym (same e is))), p), known ∙ end_set n w how e is history)
-explains_end before after first x n w how (Err failed) events same p history e is in_step known = ((printing events, end_text n w how e is (set_by_entries history) (printing events) (ap printing (sym (same e is))), p), tt)
+pub explains_end : {X : Type 0} (before after : Option (List ℕ)) (first x : Explained) (n : ℕ) (how : End) (result : Result X Failed) (events : List Event) → ((e : Entry) → IsEnd n how e → e.events ≡ events) → WritesAll before after result (printing events)
+    → (history : List Entry) (e : Entry) → IsEnd n how e → (knows_set first).has x history → AcceptsLast {S = Explained} {X = X} explained (knows_set first) before after x history e result
+explains_end before after first x n how (Ok y) events same p history e is known = ((printing events, end_text n how e is (set_by_entries history) (printing events) (ap printing (sym (same e is))), p), known ∙ end_set n how e is history)
+explains_end before after first x n how (Err failed) events same p history e is known = ((printing events, end_text n how e is (set_by_entries history) (printing events) (ap printing (sym (same e is))), p), tt)
 
 -- ---- a run
 

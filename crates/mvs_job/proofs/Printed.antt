@@ -24,7 +24,7 @@ use Rattle.mvs_job.specs.declared.printing.Stop.{Stop}
 use Rattle.mvs_job.specs.declared.printing.Stop.TheVariants as stop
 use Rattle.mvs_job.specs.declared.run.RunFault.{RunFault}
 use Rattle.mvs_job.specs.declared.run.RunFault.TheVariants.{Read, Write, Memory, ReadTooLong}
-use Rattle.mvs_job.specs.Consuming.{AcceptsEnd, AcceptsLine, IsAny, IsEnd, IsFront, IsShort, IsWritten, Known, Leaves, RunsEntry, RunsNext, WritesPiece, WrittenAfter, keeps_nothing}
+use Rattle.mvs_job.specs.Consuming.{AcceptsLast, AcceptsLine, IsAny, IsEnd, IsFront, IsShort, IsWritten, Known, Leaves, RunsEntry, RunsNext, WritesPiece, WrittenAfter, keeps_nothing}
 use Rattle.mvs_job.specs.Exchanging.{Exchanges}
 use Rattle.mvs_job.specs.Printed.{printed}
 use Rattle.mvs_job.specs.Serving.{RunsLine}
@@ -43,10 +43,10 @@ printed_events history (e ∷ entries) text (one, rest, first, is, cut) =
 
 -- ---- a call that prints the events of an entry
 
-pub prints_end : {S X : Type 0} (before after : Option (List ℕ)) (first s s' : S) (n : ℕ) (w : WalkValue) (how : End) (result : Result X Failed) (events : List Event) → ((e : Entry) → IsEnd n how e → e.events ≡ events) → WritesAll before after result (printing events)
-    → AcceptsEnd {S = S} {X = X} printed (keeps_nothing first) before after s s' n w how result
-prints_end before after first s s' n w how (Ok x) events same p history e is in_step known = ((printing events, ap printing (sym (same e is)), p), tt)
-prints_end before after first s s' n w how (Err failed) events same p history e is in_step known = ((printing events, ap printing (sym (same e is)), p), tt)
+pub prints_end : {S X : Type 0} (before after : Option (List ℕ)) (first s s' : S) (n : ℕ) (how : End) (result : Result X Failed) (events : List Event) → ((e : Entry) → IsEnd n how e → e.events ≡ events) → WritesAll before after result (printing events)
+    → (history : List Entry) (e : Entry) → IsEnd n how e → AcceptsLast {S = S} {X = X} printed (keeps_nothing first) before after s' history e result
+prints_end before after first s s' n how (Ok x) events same p history e is = ((printing events, ap printing (sym (same e is)), p), tt)
+prints_end before after first s s' n how (Err failed) events same p history e is = ((printing events, ap printing (sym (same e is)), p), tt)
 
 module _ {S : Type 0} (heard : Hearing S) (sees : S → Option JobValue → List ℕ → Type 0) (before after : Option (List ℕ)) (first s s' : S) (n : ℕ) (line : List ℕ) (w : WalkValue) (t : LineEvent) where
   pub prints_line : {X : Type 0} (x : X) → Appends before after (printing (events_of_line n w t)) → AcceptsLine {S = S} {X = X} printed heard sees (keeps_nothing first) before after s s' n line w t (Ok x)
