@@ -5,7 +5,7 @@ use Rattle.expected_answers.specs.declared.expected.AnswerVerdict.{AnswerVerdict
 use Rattle.expected_answers.specs.declared.expected.AnswerVerdict.TheVariants.{Right, Wrong, Open, Empty}
 use Rattle.expected_answers.specs.declared.report.Counts.{Counts}
 use Rattle.expected_answers.specs.declared.report.Format.{Format}
-use Rattle.expected_answers.specs.declared.report.Format.TheVariants.{LineText, Tap, Junit}
+use Rattle.expected_answers.specs.declared.report.Format.TheVariants.{Text, Tap, Junit}
 use Rattle.expected_answers.specs.ExpectedAnswers.{ExpectedAnswer, is_missing, is_right, is_wrong, number_of, verdict_of}
 
 -- ---- bytes
@@ -96,7 +96,7 @@ junit_case name line None = junit_begin name line ++ codes "\"/>\n"
 junit_case name line (Some message) = junit_begin name line ++ junit_message message
 
 abbrev pub case_of : Format → List ℕ → ℕ → Option ℕ → Option (List ℕ) → List ℕ
-case_of LineText name index line message = text_case name line message
+case_of Text name index line message = text_case name line message
 case_of Tap name index line message = tap_case index line message
 case_of Junit name index line message = junit_case name line message
 
@@ -154,12 +154,12 @@ abbrev pub suite_numbers : Counts → List ℕ
 suite_numbers n = codes "\" tests=\"" ++ (decimal (tests n) ++ (codes "\" failures=\"" ++ (decimal (failures n) ++ codes "\">\n")))
 
 abbrev pub head : Format → List ℕ → Counts → List ℕ
-head LineText name n = []
+head Text name n = []
 head Tap name n = codes "TAP version 13\n1.." ++ (decimal (tests n) ++ codes "\n")
 head Junit name n = codes "<?xml version=\"1.0\" encoding=\"UTF-8\"?>\n<testsuites>\n<testsuite name=\"" ++ (name ++ suite_numbers n)
 
 abbrev pub foot : Format → Counts → List ℕ
-foot LineText n = sum_of n
+foot Text n = sum_of n
 foot Tap n = codes "# " ++ sum_of n
 foot Junit n = codes "</testsuite>\n</testsuites>\n"
 

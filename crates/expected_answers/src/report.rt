@@ -16,7 +16,7 @@ use std::alloc::{AllocError, Global};
 #[derive(Clone, Copy, Debug, PartialEq, Eq)]
 pub enum Format {
     /// A line for each answer that is not right, and a line with the numbers.
-    LineText,
+    Text,
     /// The Test Anything Protocol, version 13.
     Tap,
     /// XML as JUnit writes it.
@@ -261,7 +261,7 @@ fn push_case(
         ≡ report.old.items ++ case_of format name.now case.entry.index case.entry.line (option_map (λ m. m.now) case.entry.message)) }
 {
     match format {
-        Format::LineText => match case.message {
+        Format::Text => match case.message {
             Some(message) => push_text_case(report, name, case.line, message),
             None => Ok(()),
         },
@@ -497,7 +497,7 @@ fn push_head(
     ensures { OnOk result (report.new.items ≡ report.old.items ++ head format name.now counts.now) }
 {
     match format {
-        Format::LineText => Ok(()),
+        Format::Text => Ok(()),
         Format::Tap => push_plan(report, counts),
         Format::Junit => push_suite(report, name, counts),
     }
@@ -509,7 +509,7 @@ fn push_foot(report: &mut Vec<u8>, format: Format, counts: &Counts) -> Result<()
     ensures { OnOk result (report.new.items ≡ report.old.items ++ foot format counts.now) }
 {
     match format {
-        Format::LineText => push_sum(report, counts),
+        Format::Text => push_sum(report, counts),
         Format::Tap => {
             push(report, b"# ")?;
             push_sum(report, counts)
@@ -524,7 +524,7 @@ fn name_in(alloc: Global, format: Format, name: &[u8]) -> Result<Vec<u8>, AllocE
 {
     let shown = shown_name(alloc, name)?;
     match format {
-        Format::LineText | Format::Tap => Ok(shown),
+        Format::Text | Format::Tap => Ok(shown),
         Format::Junit => {
             let mut written = Vec::new(alloc);
             push_escaped(&mut written, &shown)?;

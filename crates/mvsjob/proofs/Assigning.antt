@@ -1,6 +1,6 @@
 -- What clap gives the words of the program's command.
 use Rattle.std.proofs.Common.{◌≡◌, ◌∙◌, ◌⊎◌, inl, inr, sym, ap, refl, true, List, Result, Ok, Err, IfOk}
-use Rattle.clap.specs.Words.{App, HasMatchesOf, IsAmong, Kinds, LineText, app_of, fault_of, first_of, first_value, found_of, is_simple, is_simple_and_free, matches_of}
+use Rattle.clap.specs.Words.{App, HasMatchesOf, IsAmong, Kinds, Text, app_of, fault_of, first_of, first_value, found_of, is_simple, is_simple_and_free, matches_of}
 use Rattle.clap.proofs.OnLiterals.{clap_on_literals}
 use Rattle.clap.proofs.WalkLemmas.{first_value-rows}
 use Rattle.clap.specs.declared.builder.command.Command.{Command}
@@ -18,13 +18,13 @@ unfolding clap_on_literals
 command_is_free ps = refl
 
 -- the kinds of an error are those that clap finds, or it is want of memory
-pub kinds_found : (words : List LineText) (ps : Parsers) (a : App) → AreParsers ps → a ≡ command ps → (kind : ErrorKind) → (kind ≡ OutOfMemory) ⊎ IsAmong kind (fault_of a words)
+pub kinds_found : (words : List Text) (ps : Parsers) (a : App) → AreParsers ps → a ≡ command ps → (kind : ErrorKind) → (kind ≡ OutOfMemory) ⊎ IsAmong kind (fault_of a words)
     → (kind ≡ OutOfMemory) ⊎ ((kinds : Kinds) × FindsWrong words kinds × IsAmong kind kinds)
 kinds_found words ps a is same kind (inl memory) = inl memory
 kinds_found words ps a is same kind (inr among) = inr (fault_of a words, (ps, is, ap (λ a. fault_of a words) (sym same)), among)
 
 -- the first value of an argument in its matches
-pub value_found : (c : Command) (words : List LineText) (ps : Parsers) (m : ArgMatches) → app_of c ≡ command ps → HasMatchesOf (app_of c) words m → (name : LineText) → first_value (found_of m) name ≡ assigned ps words name
+pub value_found : (c : Command) (words : List Text) (ps : Parsers) (m : ArgMatches) → app_of c ≡ command ps → HasMatchesOf (app_of c) words m → (name : Text) → first_value (found_of m) name ≡ assigned ps words name
 value_found c words ps m is has name =
     let rows = (has (ap is_simple is ∙ command_is_simple ps)).0 ∙ ap (λ a. matches_of a words) is in
     first_value-rows (found_of m) name ∙ ap (first_of name) rows

@@ -1,6 +1,6 @@
 -- What the words of the command line say, the program's name first. (this project's choice)
 use Rattle.std.specs.Prelude.{◌≡◌, ◌≢◌, ◌<◌, ◌≤◌, ◌^◌, ℕ, List, [], ◌∷◌, codes, map, Option, Some, None, true}
-use Rattle.clap.specs.Words.{App, Kinds, LineText, fault_of, first_of, matches_of, new_app, new_rule, takes, with_rule}
+use Rattle.clap.specs.Words.{App, Kinds, Text, fault_of, first_of, matches_of, new_app, new_rule, takes, with_rule}
 use Rattle.clap.specs.Simple.{on_top}
 use Rattle.clap.specs.Walk.{Rule}
 use Rattle.clap.specs.declared.builder.action.ArgAction.TheVariants.{SetTrue}
@@ -19,7 +19,7 @@ use Rattle.mvsjob.specs.declared.options.Mode.{Mode}
 use Rattle.mvsjob.specs.declared.options.Mode.TheVariants.{Run, Check, Judge, Blank, Ask, Assemble, Random, Code, Rule as RuleOf}
 
 -- A value has to be one of these.
-abbrev pub IsOneOf : List LineText → ValueParser → Type 0
+abbrev pub IsOneOf : List Text → ValueParser → Type 0
 IsOneOf values (Names names) = map (λ name. name.now) names.now ≡ values
 IsOneOf values _ = ⊥
 
@@ -32,19 +32,19 @@ pub record Parsers : Type 0 where
   pub code : ValueParser
 
 -- the values of `--place`
-abbrev pub places : List LineText
+abbrev pub places : List Text
 places = codes "low" ∷ codes "high" ∷ []
 
 -- the values of `--format`
-abbrev pub formats : List LineText
+abbrev pub formats : List Text
 formats = codes "text" ∷ codes "tap" ∷ codes "junit" ∷ []
 
 -- the values of `--profile`
-abbrev pub profiles : List LineText
+abbrev pub profiles : List Text
 profiles = codes "storage" ∷ codes "tasks" ∷ codes "pools" ∷ codes "tidy" ∷ codes "faults" ∷ codes "lists" ∷ codes "boundaries" ∷ codes "whole" ∷ codes "all" ∷ []
 
 -- the values of `--color`
-abbrev pub colors : List LineText
+abbrev pub colors : List Text
 colors = codes "auto" ∷ codes "always" ∷ codes "never" ∷ []
 
 pub record AreParsers (ps : Parsers) : Type 0 where
@@ -55,11 +55,11 @@ pub record AreParsers (ps : Parsers) : Type 0 where
   pub code : IsOneOf names ps.code
 
 -- an option without a value
-abbrev pub flag_rule : LineText → Rule
+abbrev pub flag_rule : Text → Rule
 flag_rule name = record (new_rule name) { long = Some name; action = Some SetTrue }
 
 -- an option with a value, for which the help has one name
-abbrev pub value_rule : LineText → ValueParser → Rule
+abbrev pub value_rule : Text → ValueParser → Rule
 value_rule name parser = record (new_rule name) { long = Some name; parser = Some parser; value_names = 1 }
 
 -- a command that has a version, for which `-V` and `--version` ask
@@ -100,15 +100,15 @@ command ps =
     (value_rule (codes "profile") ps.profile))) (value_rule (codes "color") ps.color)) (value_rule (codes "code") ps.code))
 
 -- what of the words clap gives to an argument
-abbrev pub assigned : Parsers → List LineText → LineText → Option LineText
+abbrev pub assigned : Parsers → List Text → Text → Option Text
 assigned ps words name = first_of name (matches_of (command ps) words)
 
 -- A text is a number.
-abbrev pub IsNumber : LineText → ℕ → Type 0
+abbrev pub IsNumber : Text → ℕ → Type 0
 IsNumber text n = IsNumeral 10 (without_leading_plus text) × (digits_value 10 (without_leading_plus text) ≡ n)
 
 -- A random script is of the profile that `--profile` names, and of storage where it names none.
-pub record IsProfile (said : Option LineText) (profile : Profile) : Type 0 where
+pub record IsProfile (said : Option Text) (profile : Profile) : Type 0 where
   pub tasks : said ≡ Some (codes "tasks") → profile ≡ Tasks
   pub pools : said ≢ Some (codes "tasks") → said ≡ Some (codes "pools") → profile ≡ Pools
   pub tidy : said ≢ Some (codes "tasks") → said ≢ Some (codes "pools") → said ≡ Some (codes "tidy") → profile ≡ Tidy
@@ -120,18 +120,18 @@ pub record IsProfile (said : Option LineText) (profile : Profile) : Type 0 where
   pub storage : said ≢ Some (codes "tasks") → said ≢ Some (codes "pools") → said ≢ Some (codes "tidy") → said ≢ Some (codes "faults") → said ≢ Some (codes "lists") → said ≢ Some (codes "boundaries") → said ≢ Some (codes "whole") → said ≢ Some (codes "all") → profile ≡ Storage
 
 -- It has the seed that `--random` has, and the lines that `--lines` has, or 100.
-pub record IsRecipe (random lines profile : Option LineText) (recipe : Recipe) : Type 0 where
-  pub seed : (text : LineText) (n : ℕ) → random ≡ Some text → IsNumber text n → n < 2 ^ 64 → recipe.seed ≡ n
-  pub count : (text : LineText) (n : ℕ) → lines ≡ Some text → IsNumber text n → n ≤ 1000000 → recipe.lines ≡ n
+pub record IsRecipe (random lines profile : Option Text) (recipe : Recipe) : Type 0 where
+  pub seed : (text : Text) (n : ℕ) → random ≡ Some text → IsNumber text n → n < 2 ^ 64 → recipe.seed ≡ n
+  pub count : (text : Text) (n : ℕ) → lines ≡ Some text → IsNumber text n → n ≤ 1000000 → recipe.lines ≡ n
   pub usual : lines ≡ None → recipe.lines ≡ 100
   pub made : IsProfile profile recipe.profile
 
 -- A random script is made if `--random` is given; else an output is judged with `--judge`; else answers are compared with
 -- `--check`, removed with `--blank`, WHERE statements added with `--ask`, or a program written with `--assemble`; else the script
 -- is run.
-pub record IsScriptMode (random lines profile judge check blank ask assemble : Option LineText) (mode : Mode) : Type 0 where
-  pub makes : (seed : LineText) → random ≡ Some seed → (recipe : Recipe) × (mode ≡ Random recipe) × IsRecipe random lines profile recipe
-  pub judges : (output : LineText) → random ≡ None → judge ≡ Some output → mode ≡ Judge
+pub record IsScriptMode (random lines profile judge check blank ask assemble : Option Text) (mode : Mode) : Type 0 where
+  pub makes : (seed : Text) → random ≡ Some seed → (recipe : Recipe) × (mode ≡ Random recipe) × IsRecipe random lines profile recipe
+  pub judges : (output : Text) → random ≡ None → judge ≡ Some output → mode ≡ Judge
   pub checks : random ≡ None → judge ≡ None → check ≡ Some (codes "true") → mode ≡ Check
   pub blanks : random ≡ None → judge ≡ None → check ≢ Some (codes "true") → blank ≡ Some (codes "true") → mode ≡ Blank
   pub asks : random ≡ None → judge ≡ None → check ≢ Some (codes "true") → blank ≢ Some (codes "true") → ask ≡ Some (codes "true") → mode ≡ Ask
@@ -139,27 +139,27 @@ pub record IsScriptMode (random lines profile judge check blank ask assemble : O
   pub runs : random ≡ None → judge ≡ None → check ≢ Some (codes "true") → blank ≢ Some (codes "true") → ask ≢ Some (codes "true") → assemble ≢ Some (codes "true") → mode ≡ Run
 
 -- The text of a code is printed if `--code` is given; else that of the rule that `--rule` names; else a script is served.
-pub record IsMode (code rule random lines profile judge check blank ask assemble : Option LineText) (mode : Mode) : Type 0 where
-  pub coded : (name : LineText) → code ≡ Some name → mode ≡ Code
-  pub ruled : (text : LineText) (n : ℕ) → code ≡ None → rule ≡ Some text → IsNumber text n → n ≤ 74 → mode ≡ RuleOf n
+pub record IsMode (code rule random lines profile judge check blank ask assemble : Option Text) (mode : Mode) : Type 0 where
+  pub coded : (name : Text) → code ≡ Some name → mode ≡ Code
+  pub ruled : (text : Text) (n : ℕ) → code ≡ None → rule ≡ Some text → IsNumber text n → n ≤ 74 → mode ≡ RuleOf n
   pub scripted : code ≡ None → rule ≡ None → IsScriptMode random lines profile judge check blank ask assemble mode
 
 -- Answers are coloured where `--color` says `always`, not where it says `never`, and else as it is found out.
-pub record IsColor (said : Option LineText) (color : Color) : Type 0 where
+pub record IsColor (said : Option Text) (color : Color) : Type 0 where
   pub always : said ≡ Some (codes "always") → color ≡ Always
   pub never : said ≢ Some (codes "always") → said ≡ Some (codes "never") → color ≡ Never
   pub auto : said ≢ Some (codes "always") → said ≢ Some (codes "never") → color ≡ Auto
 
 -- Clap takes the words.
-abbrev pub IsTaken : List LineText → Type 0
+abbrev pub IsTaken : List Text → Type 0
 IsTaken words = (ps : Parsers) → AreParsers ps → takes (command ps) words ≡ true
 
 -- Clap finds this wrong with the words: the kinds of error that it may give, and none where it takes them.
-abbrev pub FindsWrong : List LineText → Kinds → Type 0
+abbrev pub FindsWrong : List Text → Kinds → Type 0
 FindsWrong words kinds = (ps : Parsers) × AreParsers ps × (fault_of (command ps) words ≡ kinds)
 
 -- A report is in the form that `--format` names, and text where it names none.
-pub record IsFormat (said : Option LineText) (format : Format) : Type 0 where
+pub record IsFormat (said : Option Text) (format : Format) : Type 0 where
   pub tap : said ≡ Some (codes "tap") → format ≡ form.Tap
   pub junit : said ≢ Some (codes "tap") → said ≡ Some (codes "junit") → format ≡ form.Junit
-  pub text : said ≢ Some (codes "tap") → said ≢ Some (codes "junit") → format ≡ form.LineText
+  pub text : said ≢ Some (codes "tap") → said ≢ Some (codes "junit") → format ≡ form.Text

@@ -2,7 +2,7 @@
 
 ghost use Rattle.std.specs.Prelude.{◌≡◌, ◌↔◌, ◌⊎◌, ◌<◌, ◌≤◌, ◌^◌, ℕ, [], None, Some, IfOk, IfErr, IsTrue, codes, map, string_bytes};
 ghost use Rattle.std.specs.Option.{unwrap_or};
-ghost use Rattle.clap.specs.Words.{IsAmong, Kinds, LineText, app_of, first_value, found_of, kind_of, new_app, new_rule, with_rule};
+ghost use Rattle.clap.specs.Words.{IsAmong, Kinds, Text, app_of, first_value, found_of, kind_of, new_app, new_rule, with_rule};
 ghost use Rattle.clap.specs.declared.error.kind.ErrorKind.TheVariants.{OutOfMemory};
 ghost use Rattle.clap.specs.declared.builder.value_parser.ValueParser.{ValueParser as Parser};
 ghost use Rattle.mvsjob.specs.CommandLine.{AreParsers, FindsWrong, IsColor, IsFormat, IsMode, IsNumber, IsOneOf, IsProfile, IsRecipe, IsScriptMode, IsTaken, Parsers, answers_app, assigned, checking_app, colors, command, formats, flag_rule, judging_app, places, profiles, random_app, rule_app, output_app, value_rule, versioned};
@@ -446,7 +446,7 @@ fn format(matches: &ArgMatches<'_>) -> Format
     } else if has_value(matches, "format", "junit") {
         Format::Junit
     } else {
-        Format::LineText
+        Format::Text
     }
 }
 
@@ -477,7 +477,7 @@ fn profile(matches: &ArgMatches<'_>) -> Profile
 
 // Returns the number of an option, or another number where it has none.
 fn number_of(matches: &ArgMatches<'_>, name: &str, usual: u64) -> u64
-    ensures number { (text : LineText) (n : ℕ) → first_value (found_of matches.now) name.now ≡ Some text
+    ensures number { (text : Text) (n : ℕ) → first_value (found_of matches.now) name.now ≡ Some text
         → IsNumber text n → n < 2 ^ 64 → result ≡ n }
     ensures usual { first_value (found_of matches.now) name.now ≡ None → result ≡ usual }
 {
@@ -520,7 +520,7 @@ fn coded<'a>(matches: &ArgMatches<'a>) -> &'a str
 
 // Returns the number of the rule whose text is requested.
 fn rule_number(matches: &ArgMatches<'_>) -> u32
-    ensures { (text : LineText) (n : ℕ) → first_value (found_of matches.now) (codes "rule") ≡ Some text
+    ensures { (text : Text) (n : ℕ) → first_value (found_of matches.now) (codes "rule") ≡ Some text
         → IsNumber text n → n ≤ 74 → result ≡ n }
 {
     u32::try_from(number_of(matches, "rule", 0)).unwrap_or(0)
