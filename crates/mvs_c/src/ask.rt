@@ -409,7 +409,7 @@ impl RawRequest {
         let Some(loc) = location_in(form, self.location) else {
             return Err(RequestField::Location);
         };
-        let ask = want::RawRequest::fixed(most, start, loc).at_least(least);
+        let ask = want::AreaRequest::fixed(most, start, loc).at_least(least);
         let ask = match within {
             Some(within) => ask.within(within),
             None => ask,
