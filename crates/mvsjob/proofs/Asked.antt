@@ -47,7 +47,7 @@ module _ (start before one two now : Option (List ℕ)) (script text line next :
   module _ (l : Line) (said : LineOf first line l) where
     on : after ≡ questions (Some l) ++ with_queries (first && is_blank_or_comment line) (lines_of next)
     unfolding is_faulty
-    on = ap (λ f. if f then [] else questions (line_meaning line) ++ with_queries (first && is_blank_or_comment line) (lines_of next)) (ap is_some said.no_fault) ∙ ap (λ o. questions o ++ with_queries (first && is_blank_or_comment line) (lines_of next)) said.has_value
+    on = ap (λ f. if f then [] else questions (line_meaning line) ++ with_queries (first && is_blank_or_comment line) (lines_of next)) (ap is_some said.no_fault) ∙ ap (λ o. questions o ++ with_queries (first && is_blank_or_comment line) (lines_of next)) said.says
 
     behind : with_queries true (lines_of script) ≡ (((s.0 ++ line) ++ 10 ∷ []) ++ questions (Some l)) ++ with_queries (first && is_blank_or_comment line) (lines_of next)
     behind = whole ∙ ap (λ t. ((s.0 ++ line) ++ 10 ∷ []) ++ t) on ∙ sym (append_assoc ((s.0 ++ line) ++ 10 ∷ []) (questions (Some l)) (with_queries (first && is_blank_or_comment line) (lines_of next)))

@@ -36,7 +36,7 @@ kind_said bytes l e = at (is_blank_or_comment bytes) e where
   at false f = ap not (sym (with_says (task_in bytes) (form_in (operation_in bytes) (operands_of bytes)) (operands_of bytes) (row_of (operation_in bytes) (operands_of bytes)) l f))
 
 pub nothing_said : (first : Bool) (bytes : List ℕ) (l : Line) → l ≡ line.Nothing → LineOf first bytes l → true ≡ is_blank_or_comment bytes
-nothing_said first bytes l e is = sym (kind_said bytes l is.has_value ∙ ap (λ l. not (is_statement l)) e)
+nothing_said first bytes l e is = sym (kind_said bytes l is.says ∙ ap (λ l. not (is_statement l)) e)
 
 some_same : (p q : ℕ × Fault) → Some p ≡ Some q → p ≡ q
 some_same p q e = cc

@@ -3,7 +3,7 @@ use Rattle.std.specs.Prelude.{ℕ, Bool, if◌then◌else◌, ◌&&◌, List, []
 use Rattle.std.specs.List.{flat_map}
 use Rattle.mvs_model.specs.declared.line.Line.{Line}
 use Rattle.mvs_model.specs.declared.line.Line.TheVariants as line
-use Rattle.mvs_model.specs.declared.line.Statement.TheVariants as has_value
+use Rattle.mvs_model.specs.declared.line.Statement.TheVariants as says
 use Rattle.mvs_model.specs.declared.line.SourceRequest.{SourceRequest}
 use Rattle.mvs_model.specs.declared.line.SourceRequest.TheVariants as written
 use Rattle.mvs_model.specs.declared.name.Name.{Name}
@@ -24,7 +24,7 @@ questions_after t _ = []
 
 -- the questions after a line, by what it says
 abbrev pub questions : Option Line → List ℕ
-questions (Some (line.Statement t (has_value.Request a))) = questions_after t a
+questions (Some (line.Statement t (says.Request a))) = questions_after t a
 questions _ = []
 
 -- some lines, each with its questions after it, up to the first that has a fault. `first` says whether no statement came before

@@ -1,7 +1,7 @@
 use Rattle.std.proofs.Common.{arith}
 use Rattle.mvsjob.proofs.Coming.{read_byte, read_end, room_of}
 use Rattle.mvsjob.proofs.Counting.{same_end}
-use Rattle.mvsjob.proofs.faultless.FaultlessSource.read.Goals as goal
+use Rattle.mvsjob.proofs.faultless.FaultFilterSource.read.Goals as goal
 
 pub returns-in-Some-clause-bytes : goal.returns-in-Some-clause-bytes
 returns-in-Some-clause-bytes g c =
