@@ -456,8 +456,8 @@ def of_completion():
     yield "a folder", completed("-I", "s") == ["s390"]
 
 
-def run_script(program, script):
-    return subprocess.run([program], input=script, capture_output=True, text=True, timeout=600).stdout
+def run_script(program, script, *words):
+    return subprocess.run([program, *words], input=script, capture_output=True, text=True, timeout=600).stdout
 
 
 def of_document(program):
@@ -475,16 +475,14 @@ def of_document(program):
         yield "one path", converted() == path
         lines, begun = path.splitlines(), iter(replaced.splitlines())
         lines = [next(begun) if line.startswith("*?") else line for line in lines]
-        lines.insert(-1, "ORDERS REPORT SP")
-        yield "the leak", report in run_script(program, "\n".join(lines) + "\n")
+        yield "the leak", run_script(program, "\n".join(lines) + "\n", "--leaks").endswith(f"STEP ENDED RC 0\n{report}")
         numbered = source.splitlines()
         numbered[17] = fix.rstrip("\n")
         file.write_text("\n".join(numbered) + "\n")
         lines, begun = converted().splitlines(), iter(replaced.splitlines())
         lines = [next(begun) if line.startswith("*?") else line for line in lines]
-        lines.insert(-1, "ORDERS REPORT SP")
-        printed = run_script(program, "\n".join(lines) + "\n")
-        yield "the fix", "ORDERS ENDED" in printed and not re.search(r"PLAIN [1-9]|ABEND", printed)
+        printed = run_script(program, "\n".join(lines) + "\n", "--leaks")
+        yield "the fix", "ORDERS ENDED" in printed and "Never released" not in printed and "ABEND" not in printed
 
 
 def is_assembled(program, path):
