@@ -275,15 +275,7 @@ def is_shown(number, shown):
     return len(sheets) == 1 and number in cited(sheets[0])
 
 
-def is_written_out(path):
-    """Whether docs/FROM-ASSEMBLER.md has the statements of a solution."""
-    statements = "".join(line.partition(" => ")[0].rstrip() + "\n" for line in path.read_text().splitlines())
-    return f"```\n{statements}```\n" in (TOP / "docs/FROM-ASSEMBLER.md").read_text()
-
-
 def results(program):
-    for name in ("63_payroll", "64_messages"):
-        yield f"{name} in FROM-ASSEMBLER.md", is_written_out(FOLDER / f"{name}.job")
     for path in solutions():
         yield path.name, is_answered(program, path)
         yield f"{path.name}, an answer changed", is_told(program, path)
