@@ -321,7 +321,7 @@ not_two : {P : Type 0} (x y : Event) (more : List Event) → ◌≡◌ {A = List
 not_two x y more e some = absurd (some (let f : [] ≡ more = cc in sym f))
 
 -- what a statement was answered by its step
-answered_does : (number : ℕ) (job later : JobValue) (t : Name) (s : Statement) (y : Answer) → Serves machine number (Some job) (line.Statement t s) (AnswerTo number t y ∷ []) (Some later) → Does Any job t s y later × (region_card t s ≡ None)
+pub answered_does : (number : ℕ) (job later : JobValue) (t : Name) (s : Statement) (y : Answer) → Serves machine number (Some job) (line.Statement t s) (AnswerTo number t y ∷ []) (Some later) → Does Any job t s y later × (region_card t s ≡ None)
 answered_does number job later t (says.Region below above fill residence) y h = absurd (let e = h.0 in cc)
 answered_does number job later t (says.Request q) y (z, last, does, e, f) = (subst (λ x. Does Any job t (says.Request q) x later) (sym (one_event y z number t e)) (subst (Does Any job t (says.Request q) z) (sym (some_job later last f)) does), refl)
 answered_does number job later t (says.Where name) y (z, last, does, e, f) = (subst (λ x. Does Any job t (says.Where name) x later) (sym (one_event y z number t e)) (subst (Does Any job t (says.Where name) z) (sym (some_job later last f)) does), refl)

@@ -74,7 +74,7 @@ module _ (n : ℕ) (line : List ℕ) (w : WalkValue) (e : Entry) where
   said_by (told.Answered t a) entry = executed_said (told.Answered t a) entry.events entry.after entry.of_line
 
   -- the job before the line
-  abbrev before_it : WalkValue
+  abbrev pub before_it : WalkValue
   before_it = record { step = e.before; number = n; reply = w.reply }
 
   told_so : (t : LineEvent) → Said n line t w e → ServesAs before_it line t w
@@ -82,6 +82,10 @@ module _ (n : ℕ) (line : List ℕ) (w : WalkValue) (e : Entry) where
   told_so told.Nothing (said, of, serves, kind, number, bytes) = (said, of, serves)
   told_so (told.StepBegan end card) (said, of, serves, kind, number, bytes) = (said, of, serves)
   told_so (told.Answered t a) (said, of, serves, kind, number, bytes) = (said, of, serves)
+
+  -- it is executed so
+  pub entry_serves : (t : LineEvent) → IsEntry n line w t e → ServesAs before_it line t w
+  entry_serves t entry = told_so t (said_by t entry)
 
   -- ---- what is printed of it
 

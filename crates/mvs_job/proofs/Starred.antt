@@ -1,6 +1,6 @@
 -- What is left of a text without its lines that begin with an asterisk.
 use Rattle.std.proofs.Common.{◌≡◌, ◌≢◌, ℕ, zero, suc, ◌+◌, ◌==◌, List, [], ◌∷◌, ◌++◌, get_or, take, codes, decimal, append_assoc, append-nil, arith, Bool, true, false, not, cond, Option, Some, None, inl, inr, ◌⊎◌, refl, sym, ap, ◌∙◌, subst}
-use Rattle.std.specs.Prelude.{slice_index}
+use Rattle.std.specs.Prelude.{slice_index, Ok}
 use Rattle.std.specs.List.{flat_map, filter, before_first, position_or_len, AllByRecursion}
 use Rattle.std.proofs.lemmas.List.Elements.{filter-append}
 use Rattle.std.proofs.lemmas.List.Sums.{fails_before_first, prefix_len-le-length}
@@ -30,24 +30,26 @@ use Rattle.job_script.specs.NamingTexts.{naming_words}
 use Rattle.mvs_job.specs.declared.name_origins.NamedAddress.{NamedAddress}
 use Rattle.mvs_job.specs.NamedAddress.{IsNamed, NameOrigins, naming_text}
 use Rattle.mvs_job.specs.Why.{spoken}
-use Rattle.mvs_job.specs.Consuming.{WrittenAfter}
+use Rattle.mvs_job.specs.Consuming.{Piece, WritesText, WrittenAfter}
 use Rattle.mvs_job.specs.Explained.{ExplainedArePrintings, IsExplainedAs, explained, set_by_entries}
 use Rattle.mvs_job.specs.Explaining.{IsExplanationText, IsExplanation, NoLineIsStarred, reason_text, without_starred}
 use Rattle.mvs_job.specs.Trace.{Closed, Entry, Executed, Exhausted, Faulty, Kind, events_of}
+use Rattle.mvs_model.specs.declared.outcome.Outcome.{Outcome}
+use Rattle.mvs_model.specs.Runs.{IsPrinting}
 use Rattle.mvs_job.proofs.Tracing.{traces_are_runs}
 use Rattle.mvs_job.proofs.Feeding.{all_before, lines_cut, lines_ended}
 
 -- ---- texts that end in a line feed
 
 -- The last byte is a line feed.
-abbrev IsClosed : List ℕ → Type 0
+abbrev pub IsClosed : List ℕ → Type 0
 IsClosed text = (front : List ℕ) × (text ≡ front ++ 10 ∷ [])
 
 -- The same, or there is no byte.
-abbrev IsEnded : List ℕ → Type 0
+abbrev pub IsEnded : List ℕ → Type 0
 IsEnded text = (text ≡ []) ⊎ IsClosed text
 
-closed_behind : (front text : List ℕ) → IsClosed text → IsClosed (front ++ text)
+pub closed_behind : (front text : List ℕ) → IsClosed text → IsClosed (front ++ text)
 closed_behind front text c = (front ++ c.0, ap (λ x. front ++ x) c.1 ∙ sym (append_assoc front c.0 (10 ∷ [])))
 
 ended_both : (one other : List ℕ) → IsEnded one → IsEnded other → IsEnded (one ++ other)
@@ -60,7 +62,7 @@ ended_each f (x ∷ xs) each = ended_both (f x) (flat_map f xs) (each x) (ended_
 
 -- ---- what is printed ends so
 
-reply_closed : (number : ℕ) (t : Name) (text : List ℕ) → IsClosed (reply_line number t text)
+pub reply_closed : (number : ℕ) (t : Name) (text : List ℕ) → IsClosed (reply_line number t text)
 reply_closed number t text = (decimal number ++ codes " " ++ trimmed t ++ codes " " ++ text, refl)
 
 data_ended : (number : ℕ) (t : Name) (lines offset : ℕ) (bytes : List ℕ) → IsEnded (data_lines number t lines offset bytes)
@@ -88,13 +90,13 @@ answer_ended number t Ended = inr (reply_closed number t _)
 answer_ended number t Done = inr (reply_closed number t _)
 answer_ended number t (Region card) = inr (reply_closed number t _)
 
-event_ended : (event : Event) → IsEnded (text_of event)
+pub event_ended : (event : Event) → IsEnded (text_of event)
 event_ended (AnswerTo number t answer) = answer_ended number t answer
 event_ended (StepEnded true) = inr (codes "STEP ENDED RC 8", refl)
 event_ended (StepEnded false) = inr (codes "STEP ENDED RC 0", refl)
 event_ended (Faulted number fault) = inr (closed_behind (decimal number ++ codes " JS0" ++ decimal (fault_number fault)) (codes "\nJOB FAULT RC 12\n") (codes "\nJOB FAULT RC 12", refl))
 
-printing_ended : (events : List Event) → IsEnded (printing events)
+pub printing_ended : (events : List Event) → IsEnded (printing events)
 printing_ended events = ended_each text_of events event_ended
 
 -- ---- the lines of such a text
@@ -119,7 +121,7 @@ text_both [] other = refl
 text_both (l ∷ one) other = ap (λ x. l ++ 10 ∷ x) (text_both one other) ∙ sym (append_assoc l (10 ∷ ended_text one) (ended_text other))
 
 -- what is left of two texts one behind the other
-left_both : (one other : List ℕ) → IsEnded one → without_starred (one ++ other) ≡ without_starred one ++ without_starred other
+pub left_both : (one other : List ℕ) → IsEnded one → without_starred (one ++ other) ≡ without_starred one ++ without_starred other
 left_both one other ended =
     let k = lines_in one ended in
     let kept : List ℕ → Bool = λ l. not (slice_index l 0 == 42) in
@@ -133,10 +135,10 @@ left_both one other ended =
 -- ---- what is left out
 
 -- Of the text in front of another one nothing is left.
-abbrev IsLeftOut : List ℕ → Type 0
+abbrev pub IsLeftOut : List ℕ → Type 0
 IsLeftOut text = (more : List ℕ) → without_starred (text ++ more) ≡ without_starred more
 
-none_left_out : (text : List ℕ) → text ≡ [] → IsLeftOut text
+pub none_left_out : (text : List ℕ) → text ≡ [] → IsLeftOut text
 none_left_out text e more = ap (λ x. without_starred (x ++ more)) e
 
 unended : (text : List ℕ) → IsUnended (before_first (λ b. b == 10) text)
@@ -152,7 +154,7 @@ begins_so text =
     let more : 1 + position_or_len (λ b. b == 10) text ≡ suc (position_or_len (λ b. b == 10) text) = omega arith in
     ap (λ n. slice_index (take n (42 ∷ text)) 0) more
 
-line_out : (one_line_text : List ℕ) → IsLeftOut (one_line (codes "* " ++ one_line_text))
+pub line_out : (one_line_text : List ℕ) → IsLeftOut (one_line (codes "* " ++ one_line_text))
 line_out one_line_text = starred_out (before_first (λ b. b == 10) (codes "* " ++ one_line_text)) (unended (codes "* " ++ one_line_text)) (begins_so (codes " " ++ one_line_text))
 
 reason_out : (t : Name) (request : Request) (reason : LineReason) → IsLeftOut (reason_line t request reason)
@@ -172,7 +174,7 @@ explanation_out None l events why e = none_left_out why e
 explanation_out (Some job) l events why (inl (one_line_text, is, (r, of, e))) = subst IsLeftOut (sym e) (text_out job one_line_text r)
 explanation_out (Some job) l events why (inr (fault, is, e)) = none_left_out why e
 
-out_both : (one other : List ℕ) → IsLeftOut one → IsLeftOut other → IsLeftOut (one ++ other)
+pub out_both : (one other : List ℕ) → IsLeftOut one → IsLeftOut other → IsLeftOut (one ++ other)
 out_both one other a b more = ap without_starred (append_assoc one other more) ∙ a (other ++ more) ∙ b more
 
 subpool_out : (e : Name × List Name) (s : OwnedSubpool) → IsLeftOut (subpool_line e s)
@@ -182,7 +184,7 @@ subpool_out e s = at (is_among_ended e.0 e.1 s.owner) s.had where
   at false true = line_out (stays_text s.number s.owner e.0)
   at false false = none_left_out [] refl
 
-each_out : {X : Type 0} (f : X → List ℕ) → ((x : X) → IsLeftOut (f x)) → (xs : List X) → IsLeftOut (flat_map f xs)
+pub each_out : {X : Type 0} (f : X → List ℕ) → ((x : X) → IsLeftOut (f x)) → (xs : List X) → IsLeftOut (flat_map f xs)
 each_out f each [] = none_left_out [] refl
 each_out f each (x ∷ xs) = out_both (f x) (flat_map f xs) (each x) (each_out f each xs)
 
@@ -231,25 +233,36 @@ behind_out old set l events new text (why, named, freed, done, is, names, frees,
 -- ---- a run
 
 -- the text of an entry is the printing of its events, and what is left out
-entry_out : (set : NameOrigins) (e : Entry) (kind : Kind) (text : List ℕ) → IsExplainedAs set e kind text → (why : List ℕ) × (text ≡ printing e.events ++ why) × IsLeftOut why
+pub entry_out : (set : NameOrigins) (e : Entry) (kind : Kind) (text : List ℕ) → IsExplainedAs set e kind text → (why : List ℕ) × (text ≡ printing e.events ++ why) × IsLeftOut why
 entry_out set e (Executed one_line_text) text (why, is, same) = (why, same, behind_out e.before set e.bytes e.events e.after why is)
 entry_out set e (Faulty fault) text same = ([], same ∙ sym (append-nil (printing e.events)), none_left_out [] refl)
 entry_out set e Closed text same = ([], same ∙ sym (append-nil (printing e.events)), none_left_out [] refl)
 entry_out set e (Exhausted one_line_text) text same = ([], same ∙ sym (append-nil (printing e.events)), none_left_out [] refl)
 
-left : (history entries : List Entry) (text : List ℕ) → WrittenAfter explained history entries text → without_starred text ≡ without_starred (printing (events_of entries))
-left history [] text is = ap without_starred is
-left history (e ∷ entries) text (one, rest, first, is, cut) =
-    let told = printing e.events in
-    let (why, same, out) = entry_out (set_by_entries history) e e.kind one first in
-    ap without_starred (cut ∙ ap (λ x. x ++ rest) same ∙ append_assoc told why rest)
-    ∙ left_both told (why ++ rest) (printing_ended e.events)
-    ∙ ap (λ x. without_starred told ++ x) (out rest ∙ left (history ++ e ∷ []) entries rest is)
-    ∙ sym (left_both told (printing (events_of entries)) (printing_ended e.events))
-    ∙ ap without_starred (sym (printed_both e.events (events_of entries)))
+-- What a consumer writes for an entry is the printing of its events, and lines that begin with an asterisk.
+abbrev pub IsStarred : Piece → Type 0
+IsStarred piece = (history : List Entry) (e : Entry) (one more : List ℕ) → piece.may history e one → without_starred (one ++ more) ≡ without_starred (printing e.events) ++ without_starred more
+
+-- the printing of the events, and lines that begin with an asterisk
+pub printed_then : (events : List Event) (one why more : List ℕ) → one ≡ printing events ++ why → IsLeftOut why → without_starred (one ++ more) ≡ without_starred (printing events) ++ without_starred more
+printed_then events one why more is out =
+    ap (λ x. without_starred (x ++ more)) is ∙ ap without_starred (append_assoc (printing events) why more) ∙ left_both (printing events) (why ++ more) (printing_ended events) ∙ ap (λ x. without_starred (printing events) ++ x) (out more)
+
+module _ (piece : Piece) (each : IsStarred piece) where
+  left : (history entries : List Entry) (text : List ℕ) → WrittenAfter piece history entries text → without_starred text ≡ without_starred (printing (events_of entries))
+  left history [] text is = ap without_starred is
+  left history (e ∷ entries) text (one, rest, first, is, cut) =
+      ap without_starred cut ∙ each history e one rest first
+      ∙ ap (λ x. without_starred (printing e.events) ++ x) (left (history ++ e ∷ []) entries rest is)
+      ∙ sym (left_both (printing e.events) (printing (events_of entries)) (printing_ended e.events))
+      ∙ ap without_starred (sym (printed_both e.events (events_of entries)))
+
+  -- Without its lines that begin with an asterisk what it writes for a run is the printing of that.
+  pub starred_are : NoLineIsStarred → (script text : List ℕ) (outcome : Outcome) → WritesText piece script text (Ok outcome) → IsPrinting script (without_starred text) outcome
+  starred_are none script text outcome w =
+      let run = traces_are_runs script w.entries outcome w.trace in
+      (events_of w.entries, run, left [] w.entries text w.is ∙ none script (printing (events_of w.entries)) outcome (events_of w.entries, run, refl))
 
 -- Without its lines that begin with an asterisk the text of a run with explanations is the printing of a run.
 pub explained_are : NoLineIsStarred → ExplainedArePrintings
-explained_are none script text outcome w =
-    let run = traces_are_runs script w.entries outcome w.trace in
-    (events_of w.entries, run, left [] w.entries text w.is ∙ none script (printing (events_of w.entries)) outcome (events_of w.entries, run, refl))
+explained_are none = starred_are explained (λ history e one more is. let w = entry_out (set_by_entries history) e e.kind one is in printed_then e.events one w.0 more w.1 w.2) none

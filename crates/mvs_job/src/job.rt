@@ -19,6 +19,7 @@ ghost use Rattle.mvs_model.specs.State.{State};
 ghost use Rattle.mvs_model.specs.View.{IsBounded};
 ghost use Rattle.request_forms.specs.Taking.{Takes};
 ghost use Rattle.mvs_job.specs.LineEvents.{IsAvailableIn, KeepsReply, Replies, region_card};
+ghost use Rattle.mvs_job.specs.Steady.{IsSteady};
 ghost use Rattle.mvs_job.specs.Valued.{BuildsInRange, MayWrite, Requests};
 ghost use Rattle.mvs_model.specs.Steps.{Step as MachineStep};
 ghost use Rattle.mvs_job.specs.Observing.{Fails, ObservesRequest, KeepsNamesAndFormer, Observes, Passes};
@@ -178,6 +179,7 @@ impl Job {
         ensures state { result.now.state ≡ self.now.state }
         ensures abended { result.now.abended ≡ self.now.abended }
         ensures bounded { IsBounded self.now.state.regions }
+        ensures steady { IsSteady self.now.state }
     {
         &self.step
     }
