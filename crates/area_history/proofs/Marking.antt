@@ -1,0 +1,46 @@
+-- Marks on the doublewords of a place.
+use Rattle.std.proofs.Common.{◌≡◌, ℕ, ◌+◌, ◌<◌, ◌≤◌, ◌&&◌, ◌||◌, ◌==◌, Bool, true, false, cond, not, refl, sym, ap, ◌∙◌, arith, suc, zero}
+use Rattle.std.specs.Prelude.{nat_le, nat_lt}
+use Rattle.std.proofs.lemmas.Grind.{common_steps}
+use Rattle.mvs_model.specs.Finite.{count_below}
+use Rattle.mvs_model.proofs.Below.{count_more}
+
+-- whether a number is one of the next n from one on
+abbrev pub is_next : ℕ → ℕ → ℕ → Bool
+is_next first n d = nat_le first d && nat_lt d (first + n)
+
+pub count_next : (n left one : ℕ) (test : ℕ → Bool) → left ≡ count_below n test → one ≡ cond (test n) 1 0 → left + one ≡ count_below (n + 1) test
+count_next n left one test is at =
+    (let e : left + one ≡ cond (test n) 1 0 + count_below n test = omega (arith, is, at) in e) ∙ sym (count_more n test) ∙ ap (λ k. count_below k test) (let f : suc n ≡ n + 1 = omega arith in f)
+
+next_here : (first n d : ℕ) → (d == first + n) ≡ true → is_next first (n + 1) d ≡ true
+next_here first n d e = grind (arith, common_steps)
+
+next_other : (first n d : ℕ) → (d == first + n) ≡ false → is_next first (n + 1) d ≡ is_next first n d
+next_other first n d e = grind (arith, common_steps)
+
+pub none_next : (first d : ℕ) → is_next first 0 d ≡ false
+none_next first d = grind (arith, common_steps)
+
+module _ (first n d : ℕ) (start before after : Bool) where
+  pub marks_next : before ≡ (is_next first n d || start) → ((d == first + n) ≡ true → after ≡ true) → ((d == first + n) ≡ false → after ≡ before) → after ≡ (is_next first (n + 1) d || start)
+  marks_next is here other = at (d == first + n) refl where
+    at : (b : Bool) → (d == first + n) ≡ b → after ≡ (is_next first (n + 1) d || start)
+    at true e = here e ∙ ap (λ x. x || start) (sym (next_here first n d e))
+    at false e = other e ∙ is ∙ ap (λ x. x || start) (sym (next_other first n d e))
+
+  pub clear_next : before ≡ (not (is_next first n d) && start) → ((d == first + n) ≡ true → after ≡ false) → ((d == first + n) ≡ false → after ≡ before) → after ≡ (not (is_next first (n + 1) d) && start)
+  clear_next is here other = at (d == first + n) refl where
+    at : (b : Bool) → (d == first + n) ≡ b → after ≡ (not (is_next first (n + 1) d) && start)
+    at true e = here e ∙ ap (λ x. not x && start) (sym (next_here first n d e))
+    at false e = other e ∙ is ∙ ap (λ x. not x && start) (sym (next_other first n d e))
+
+pub not_yet : (first n : ℕ) → is_next first n (first + n) ≡ false
+not_yet first n = grind (arith, common_steps)
+
+pub count_none : (test : ℕ → Bool) → 0 ≡ count_below 0 test
+unfolding count_below
+count_none test = refl
+
+pub same_of : (d e : ℕ) → (d == e) ≡ true → d ≡ e
+same_of d e h = grind (arith, common_steps)

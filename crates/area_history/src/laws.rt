@@ -1,0 +1,19 @@
+//! Laws of runs with reports of leaks: each function does nothing, and its contract is the law.
+
+ghost use Rattle.area_history.specs.Reporting.{ExplainedLeaksArePrintings, LeaksArePrintings};
+
+use mvs_job::laws::no_line_is_starred;
+
+/// Without its lines that begin with an asterisk, a printing with reports of leaks is the printing of a run.
+pub fn leaks_are_printings()
+    ensures { LeaksArePrintings }
+{
+    no_line_is_starred();
+}
+
+/// So is one with explanations.
+pub fn explained_leaks_are_printings()
+    ensures { ExplainedLeaksArePrintings }
+{
+    no_line_is_starred();
+}
