@@ -107,7 +107,7 @@ def lines(program):
     """The lines of JSON of many scripts, with reasons."""
     for pattern in SCRIPTS:
         for path in sorted(TOP.glob(pattern)):
-            ran = subprocess.run([program, "--json", "--explain", path], capture_output=True, text=True, timeout=600)
+            ran = subprocess.run([program, "--json", "--explain", "--leaks", path], capture_output=True, text=True, timeout=600)
             yield from map(json.loads, ran.stdout.splitlines())
 
 

@@ -17,7 +17,7 @@ MOST_BYTES = 16_777_215
 # At a terminal the program asks for each line, so that many short lines would be slow.
 LONG_LINE = REGION + b"x" * (MOST_BYTES + 1)
 LONG_LINES = REGION + 2 * (b"x" * (MOST_BYTES // 2) + b"\n")
-OF_SCRIPT = ("", "--explain", "--json", "--page", "--strict", "--interactive", "--check", "--blank", "--ask", "--assemble", "--judge OUTPUT")
+OF_SCRIPT = ("", "--explain", "--leaks", "--json", "--page", "--strict", "--interactive", "--check", "--blank", "--ask", "--assemble", "--judge OUTPUT")
 FOREIGN = {"X'0D'": b"* from Windows\r\n", "no UTF-8": b"* pr\xfcfung\n", "an escape": b"* \x1b[2J\n"}
 # It shows the lowest place.
 OF_LOWEST = "storage_areas_lie_low.job"
@@ -50,9 +50,11 @@ APART = (
     "--assemble --json",
     "--blank --strict",
     "--json --page",
+    "--page --leaks",
+    "--check --leaks",
     "--page --interactive",
 )
-TOGETHER = ("--json --explain", "--page --explain", "--strict --explain", "--json --strict", "--json --explain --strict", "--strict --place high", "--explain --color never", "--check --place low", "--check --hide --format tap --place low", "--interactive --color never", "--interactive --explain", "--interactive --strict", "--interactive --explain --strict --color always", "--interactive --json --explain --strict")
+TOGETHER = ("--json --explain", "--page --explain", "--strict --explain", "--leaks --explain", "--json --leaks", "--json --leaks --explain --strict", "--leaks --strict --place high", "--leaks --explain --strict --color never", "--json --strict", "--json --explain --strict", "--strict --place high", "--explain --color never", "--check --place low", "--check --hide --format tap --place low", "--interactive --color never", "--interactive --explain", "--interactive --strict", "--interactive --explain --strict --color always", "--interactive --leaks --explain", "--interactive --json --explain --strict")
 
 
 class Modes:

@@ -85,14 +85,14 @@ random_app a = with_rule (with_rule a (value_rule (codes "random") (Unsigned 0 1
 -- and with the options for the output of a run
 abbrev pub output_app : App → App
 output_app a =
-    with_rule (with_rule (with_rule (with_rule (with_rule a (flag_rule (codes "explain"))) (flag_rule (codes "json"))) (flag_rule (codes "page")))
+    with_rule (with_rule (with_rule (with_rule (with_rule (with_rule a (flag_rule (codes "explain"))) (flag_rule (codes "leaks"))) (flag_rule (codes "json"))) (flag_rule (codes "page")))
     (flag_rule (codes "strict"))) (flag_rule (codes "interactive"))
 
 -- and with the option for the text of a rule
 abbrev pub rule_app : App → App
 rule_app a = with_rule a (value_rule (codes "rule") (Unsigned 1 74))
 
--- the program's command: a word and nineteen options, which may all be left out, and a version
+-- the program's command: a word and twenty options, which may all be left out, and a version
 abbrev pub command : Parsers → App
 command ps =
     rule_app (with_rule (with_rule (output_app (with_rule (random_app (judging_app (answers_app (with_rule (checking_app

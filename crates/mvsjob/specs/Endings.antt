@@ -13,7 +13,7 @@ use Rattle.mvs_job.specs.Giving.{fault_text}
 use Rattle.mvsjob.specs.declared.ending.Cause.{Cause}
 use Rattle.mvsjob.specs.declared.ending.Cause.TheVariants.{Missing, Forbidden, Directory, Unnamed, TooLong, Other}
 use Rattle.mvsjob.specs.declared.ending.ExitReason.{ExitReason}
-use Rattle.mvsjob.specs.declared.ending.ExitReason.TheVariants.{Ran, NotServed, Printed, Checked, Judged, Refused, GaveUp}
+use Rattle.mvsjob.specs.declared.ending.ExitReason.TheVariants.{Ran, NotServed, Leaked, Printed, Checked, Judged, Refused, GaveUp}
 use Rattle.mvsjob.specs.declared.ending.CliError.{CliError}
 use Rattle.mvsjob.specs.declared.ending.CliError.TheVariants.{Script, Output, Pipe, Job}
 
@@ -22,6 +22,7 @@ status_of (Ran Clean) = 0
 status_of (Ran SomeAbend) = 8
 status_of (Ran ScriptFault) = 12
 status_of NotServed = 4
+status_of Leaked = 4
 status_of Printed = 0
 status_of (Checked differs) = if differs then 1 else 0
 status_of (Judged Accepted) = 0
@@ -37,6 +38,11 @@ status_of (GaveUp (Job fault)) = 16
 abbrev pub strict_ending : Outcome → Bool → ExitReason
 strict_ending Clean all = if all then Ran Clean else NotServed
 strict_ending outcome all = Ran outcome
+
+-- how a run ends that ended so otherwise, of which a step ended with a leak, or none
+abbrev pub leak_ending : Bool → ExitReason → ExitReason
+leak_ending leaked (Ran Clean) = if leaked then Leaked else Ran Clean
+leak_ending leaked ending = ending
 
 -- why the program stops where a job stops
 abbrev pub gave_up : Stop → CliError

@@ -1,6 +1,9 @@
 -- The effect of a mode on a script that was read whole: what it writes, how the program ends, and which line to report.
 use Rattle.std.specs.Prelude.{◌≡◌, ℕ, List, ◌∷◌, ◌++◌, ◌==◌, ◌&&◌, ◌||◌, nat_lt, not, position, Option, Some, None, Result, Ok, Err, Bool, true, false, codes}
+use Rattle.std.specs.List.{list_all}
 use Rattle.std.specs.Io.KnownBytes.{Appends}
+use Rattle.area_history.specs.declared.largest.Leaks.{Leaks}
+use Rattle.area_history.specs.Reporting.{IsReported, with_leaks}
 use Rattle.expected_answers.specs.Blank.{blank}
 use Rattle.job_script.specs.Writing.{AppendsFront}
 use Rattle.judge.specs.declared.Finding.{Finding}
@@ -15,9 +18,10 @@ use Rattle.mvs_job.specs.declared.printing.Stop.{Stop}
 use Rattle.mvs_job.specs.declared.run.RunFault.{RunFault}
 use Rattle.mvs_job.specs.declared.run.RunFault.TheVariants as fault
 use Rattle.mvs_job.specs.Consuming.{LeavesText, Piece}
+use Rattle.mvs_job.specs.Trace.{Entry, events_of}
 use Rattle.mvs_job.specs.Streams.{PrintedUpTo}
 use Rattle.reference.specs.Texts.{IsAbout}
-use Rattle.mvs_job.specs.Strict.{ObservesFront, PrintsStrictly, RunsObserved, Skipped}
+use Rattle.mvs_job.specs.Strict.{ObservesFront, PrintsStrictly, RunsObserved, Skipped, is_of_served}
 use Rattle.page.specs.Pages.{WritesPage, WritesShown}
 use Rattle.mvsjob.specs.declared.ending.ExitReason.TheVariants.{Ran, Printed, Judged}
 use Rattle.mvsjob.specs.declared.ending.CliError.{CliError}
@@ -25,7 +29,7 @@ use Rattle.mvsjob.specs.declared.ending.CliError.TheVariants.{Job}
 use Rattle.mvsjob.specs.declared.faulty.FaultyLine.{FaultyLine}
 use Rattle.mvsjob.specs.declared.served.ModeResult.{ModeResult}
 use Rattle.mvsjob.specs.Queries.{with_queries}
-use Rattle.mvsjob.specs.Endings.{gave_up, strict_ending}
+use Rattle.mvsjob.specs.Endings.{gave_up, leak_ending, strict_ending}
 use Rattle.mvsjob.specs.FaultyLine.{EndsAt, IsFirstFault, IsLineOf}
 
 -- The line to report of a script whose run ended so: none, or the one with which each run ends that ends with a fault.
@@ -57,6 +61,14 @@ abbrev pub ConsumesStrictly : Piece → Option (List ℕ) → Option (List ℕ) 
 ConsumesStrictly piece before after heard heard' script (Ok served) =
     (outcome : Outcome) × (all : Bool) × RunsObserved piece before after heard heard' script outcome all × (served.ending ≡ strict_ending outcome all) × IsFaultOf script outcome served.faulty
 ConsumesStrictly piece before after heard heard' script (Err why) = (stop : Stop) × (why ≡ gave_up stop) × LeavesText piece before after script (Err stop) × ObservesFront heard heard' script
+
+-- It is run, and a consumer writes of it with a report of leaks of this form at the end of each step. If the run is strict, the mode ends by
+-- whether each line was executed.
+abbrev pub ReportsLeaks : (Leaks → List ℕ) → Bool → Piece → Option (List ℕ) → Option (List ℕ) → List ℕ → Result ModeResult CliError → Type 0
+ReportsLeaks report strict piece before after script (Ok served) =
+    (entries : List Entry) × (outcome : Outcome) × (leaked : Bool) × IsReported report piece before after script outcome leaked entries
+    × (served.ending ≡ leak_ending leaked (strict_ending outcome (not strict || list_all is_of_served (events_of entries)))) × IsFaultOf script outcome served.faulty
+ReportsLeaks report strict piece before after script (Err why) = (stop : Stop) × (why ≡ gave_up stop) × LeavesText (with_leaks report piece) before after script (Err stop)
 
 -- ---- texts
 

@@ -27,6 +27,7 @@ mvsjob-script(5) describes the script language.";
 const LONG: &str = "Examples:
   mvsjob leak.job                    run a script
   mvsjob --explain leak.job          show why requests are refused, and what is freed
+  mvsjob --leaks leak.job            show which areas were never released
   mvsjob --strict leak.job           report lines that were not executed
   mvsjob                             run lines as you type them; Ctrl-D ends
   mvsjob --page a.job > a.html       show storage and tasks after each statement
@@ -42,7 +43,8 @@ Exit status:
   0   the script ran to its end, and no task abended
   1   --check: an answer is wrong or missing; --judge: no run of the script prints OUTPUT
   2   --judge: not decided
-  4   --strict: no task abended, but a line was not executed (NOT RUN or NO NAME)
+  4   no task abended, but with --strict a line was not executed (NOT RUN or NO NAME),
+      or with --leaks an area was never released
   8   the script ran to its end, and a task abended
   12  a line has a fault, and no later line was run; in a terminal, where such lines
       are skipped, 12 means that there was no REGION statement
@@ -285,8 +287,14 @@ fn with_outputs<'a>(command: Command<'a>, alloc: Global) -> Result<Command<'a>, 
         "explain",
         "Also print, in lines that begin with *, why a request was refused, what it changed, and what a task's end freed",
     )?;
-    let printing = with_flag(
+    let reporting = with_flag(
         explaining,
+        alloc,
+        "leaks",
+        "Report at the end of each step, in lines that begin with *, the areas that were never released",
+    )?;
+    let printing = with_flag(
+        reporting,
         alloc,
         "json",
         "Print each event of the run as a line of JSON; with --explain, include the reasons",
@@ -610,6 +618,8 @@ pub fn settings<'a>(alloc: Global, words: &'a [String]) -> Result<Settings<'a>, 
         (assigned ps (map string_bytes words.entry.now) (codes "assemble")) s.mode
         × (IsTrue s.explains
         ↔ assigned ps (map string_bytes words.entry.now) (codes "explain") ≡ Some (codes "true"))
+        × (IsTrue s.leaks
+        ↔ assigned ps (map string_bytes words.entry.now) (codes "leaks") ≡ Some (codes "true"))
         × (IsTrue s.json
         ↔ assigned ps (map string_bytes words.entry.now) (codes "json") ≡ Some (codes "true"))
         × (IsTrue s.page
@@ -641,6 +651,7 @@ pub fn settings<'a>(alloc: Global, words: &'a [String]) -> Result<Settings<'a>, 
         code: coded(&matches),
         mode: mode(&matches),
         explains: is_set(&matches, "explain"),
+        leaks: is_set(&matches, "leaks"),
         json: is_set(&matches, "json"),
         page: is_set(&matches, "page"),
         strict: is_set(&matches, "strict"),

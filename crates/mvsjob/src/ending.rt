@@ -2,7 +2,7 @@
 
 ghost use Rattle.std.specs.Prelude.{◌≡◌};
 ghost use Rattle.std.specs.Option.{option_map};
-ghost use Rattle.mvsjob.specs.Endings.{cause_of, gave_up, strict_ending, status_of, text_of};
+ghost use Rattle.mvsjob.specs.Endings.{cause_of, gave_up, leak_ending, strict_ending, status_of, text_of};
 
 use judge::Finding;
 use mvs_job::{RunFault, Stop, StrictOutcome};
@@ -106,6 +106,8 @@ pub enum ExitReason {
     Ran(Outcome),
     /// With `--strict`: no task abended, and some line was not executed.
     NotServed,
+    /// With `--leaks`: no task abended, and a step ended with a leak.
+    Leaked,
     /// The help, the version or the script that was asked for was printed.
     Printed,
     /// The answers of a run were compared with those that the script expects: one differs, or there is none, or all are the same.
@@ -129,6 +131,16 @@ impl ExitReason {
         }
     }
 
+    /// Returns how a run ends that ended so otherwise, and reported leaks or none.
+    pub fn with_leaks(self, has_leaked: bool) -> ExitReason
+        ensures { result ≡ leak_ending has_leaked self }
+    {
+        match self {
+            ExitReason::Ran(Outcome::Clean) if has_leaked => ExitReason::Leaked,
+            ending => ending,
+        }
+    }
+
     /// Returns the exit status. This project's choice.
     pub fn status(self) -> u8
         ensures { result ≡ status_of self }
@@ -139,7 +151,7 @@ impl ExitReason {
             ExitReason::Judged(Finding::Accepted) => 0,
             ExitReason::Judged(Finding::Refused) => 1,
             ExitReason::Judged(Finding::Undecided(_)) => 2,
-            ExitReason::NotServed => 4,
+            ExitReason::NotServed | ExitReason::Leaked => 4,
             ExitReason::Ran(Outcome::SomeAbend) => 8,
             ExitReason::Ran(Outcome::ScriptFault) => 12,
             ExitReason::GaveUp(CliError::Pipe) => 141,
@@ -160,6 +172,7 @@ impl ExitReason {
             ExitReason::GaveUp(CliError::Pipe)
             | ExitReason::Ran(_)
             | ExitReason::NotServed
+            | ExitReason::Leaked
             | ExitReason::Printed
             | ExitReason::Checked { .. }
             | ExitReason::Judged(_)

@@ -20,6 +20,7 @@ static EXCLUDING: [Excluding; 10] = [
             "ask",
             "assemble",
             "explain",
+            "leaks",
             "json",
             "page",
             "strict",
@@ -39,6 +40,7 @@ static EXCLUDING: [Excluding; 10] = [
             "ask",
             "assemble",
             "explain",
+            "leaks",
             "json",
             "page",
             "strict",
@@ -57,6 +59,7 @@ static EXCLUDING: [Excluding; 10] = [
             "ask",
             "assemble",
             "explain",
+            "leaks",
             "json",
             "page",
             "strict",
@@ -73,6 +76,7 @@ static EXCLUDING: [Excluding; 10] = [
             "ask",
             "assemble",
             "explain",
+            "leaks",
             "json",
             "page",
             "strict",
@@ -88,6 +92,7 @@ static EXCLUDING: [Excluding; 10] = [
             "ask",
             "assemble",
             "explain",
+            "leaks",
             "json",
             "page",
             "strict",
@@ -101,6 +106,7 @@ static EXCLUDING: [Excluding; 10] = [
             "ask",
             "assemble",
             "explain",
+            "leaks",
             "json",
             "page",
             "strict",
@@ -114,6 +120,7 @@ static EXCLUDING: [Excluding; 10] = [
         &[
             "assemble",
             "explain",
+            "leaks",
             "json",
             "page",
             "strict",
@@ -126,6 +133,7 @@ static EXCLUDING: [Excluding; 10] = [
         "assemble",
         &[
             "explain",
+            "leaks",
             "json",
             "page",
             "strict",
@@ -135,7 +143,7 @@ static EXCLUDING: [Excluding; 10] = [
         ],
     ),
     ("json", &["page", "color"]),
-    ("page", &["strict", "interactive", "color"]),
+    ("page", &["leaks", "strict", "interactive", "color"]),
 ];
 
 /// The options that have a meaning with another one only, and that one.

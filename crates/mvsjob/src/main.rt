@@ -163,7 +163,7 @@ fn serve_reader<R: Read + Drop>(
     if settings.is_as_it_comes() && is_at_terminal(rt, settings) {
         return run_at_terminal(rt, OpenReader::new(reader), settings, writer);
     }
-    if settings.is_as_it_comes() && !settings.strict {
+    if settings.is_as_it_comes() && !settings.strict && !settings.leaks {
         return run_lines(rt, OpenReader::new(reader), settings, writer);
     }
     let script = read_script(rt.alloc(), reader)?;

@@ -69,6 +69,8 @@ pub struct Settings<'a> {
     pub form: ReportForm,
     /// Whether a run says why requests are refused.
     pub explains: bool,
+    /// Whether a run reports leaks at the end of each step.
+    pub leaks: bool,
     /// Whether a run prints its events as lines of JSON.
     pub json: bool,
     /// Whether a run is written as a page of HTML.

@@ -1,13 +1,16 @@
 //! Serves a script that was read whole: what each mode does with it.
 
-ghost use Rattle.std.specs.Prelude.{◌≡◌, ◌≤◌, ◌⊎◌, [], ℕ, Contains, IfOk, IfSome, IsTrue, None, Some, false, length};
+ghost use Rattle.std.specs.Prelude.{◌≡◌, ◌≤◌, ◌⊎◌, [], ℕ, Contains, IfOk, IfSome, IsTrue, None, Some, false, length, true};
+ghost use Rattle.area_history.specs.JsonReports.{json_report};
+ghost use Rattle.area_history.specs.LeakTexts.{report_text};
 ghost use Rattle.event_json.specs.Lines.{event_lines};
 ghost use Rattle.mvs_model.specs.Numbers.{most_script_bytes};
 ghost use Rattle.mvs_job.specs.Explained.{explained};
+ghost use Rattle.mvs_job.specs.Printed.{printed};
 ghost use Rattle.mvsjob.specs.declared.options.Recipe.{Recipe};
 ghost use Rattle.mvsjob.specs.Checking.{Checks};
 ghost use Rattle.mvsjob.specs.Endings.{strict_ending};
-ghost use Rattle.mvsjob.specs.ModeResult.{Asks, Blanks, ConsumesStrictly, EndsAtFault, HasNoForeign, IsFaultOf, IsPrinted, Judges, Pages, RunsStrictly, WritesAbout, WritesText};
+ghost use Rattle.mvsjob.specs.ModeResult.{Asks, Blanks, ConsumesStrictly, EndsAtFault, HasNoForeign, IsFaultOf, IsPrinted, Judges, Pages, ReportsLeaks, RunsStrictly, WritesAbout, WritesText};
 ghost use Rattle.reference.specs.Texts.{IsRule, names, rule_name};
 
 use crate::answers::{check_answers, write_blanks, write_questions};
@@ -17,10 +20,14 @@ use crate::faulty::{FaultyLine, faulty_in};
 use crate::judging::judge_output;
 use crate::options::{Mode, Recipe, Settings};
 use crate::through::Through;
+use area_history::{
+    JsonReport, ReportFormat, TextReport, run_strictly_with_report, run_with_report,
+};
 use event_json::EventLines;
 use job_script::write_all;
 use mvs_job::{
-    Consumer, Explained, RunFault, SkipObserver, StrictOutcome, run_observed, run_strictly,
+    Consumer, Explained, Printer, RunFault, SkipObserver, Strict, StrictOutcome, run_observed,
+    run_strictly,
 };
 use mvs_model::outcome::Outcome;
 use mvs_model::want::Placement;
@@ -153,6 +160,131 @@ fn consume_strict<'a, W: Write, C: Consumer, H: SkipObserver>(
     }
 }
 
+/// A script that was read whole, and how it is run.
+#[derive(Clone, Copy)]
+struct WholeScript<'a> {
+    alloc: Global,
+    script: &'a [u8],
+    placement: Placement,
+}
+
+// Runs a script with a report of leaks at the end of each step.
+fn report_leaks<'a, W: Write, C: Consumer, F: ReportFormat + Drop>(
+    whole: WholeScript<'a>,
+    writer: &mut Watched<W>,
+    consumer: &mut C,
+    format: F,
+) -> Result<ModeResult<'a>, CliError>
+    requires script { length whole.script.now ≤ most_script_bytes }
+    requires new { (C.knows consumer.old).has consumer.old [] }
+    ensures { ReportsLeaks F.report false C.piece (W.contents writer.old.inner)
+        (W.contents writer.new.inner) whole.script.now result }
+{
+    let WholeScript {
+        alloc,
+        script,
+        placement,
+    } = whole;
+    match run_with_report(alloc, script, writer, placement, consumer, format) {
+        Ok(end) => Ok(ModeResult {
+            ending: ExitReason::Ran(end.outcome).with_leaks(end.has_leaked),
+            faulty: fault_of(script, end.outcome),
+        }),
+        Err(stop) => Err(CliError::of(stop)),
+    }
+}
+
+// Runs a script in that way, and reports each line that was not executed to an observer.
+fn report_leaks_strictly<'a, W: Write, C: Consumer, F: ReportFormat + Drop, H: SkipObserver>(
+    whole: WholeScript<'a>,
+    writer: &mut Watched<W>,
+    consumer: &mut C,
+    format: F,
+    hearer: &mut H,
+) -> Result<ModeResult<'a>, CliError>
+    requires script { length whole.script.now ≤ most_script_bytes }
+    requires new { (C.knows consumer.old).has consumer.old [] }
+    ensures { ReportsLeaks F.report true C.piece (W.contents writer.old.inner)
+        (W.contents writer.new.inner) whole.script.now result }
+{
+    let WholeScript {
+        alloc,
+        script,
+        placement,
+    } = whole;
+    let mut strict = Strict::new(consumer, hearer);
+    match run_strictly_with_report(alloc, script, writer, placement, &mut strict, format) {
+        Ok(end) => {
+            let ran = StrictOutcome {
+                outcome: end.outcome,
+                all_served: end.all_served,
+            };
+            Ok(ModeResult {
+                ending: ExitReason::of_strict(ran).with_leaks(end.has_leaked),
+                faulty: fault_of(script, end.outcome),
+            })
+        }
+        Err(stop) => Err(CliError::of(stop)),
+    }
+}
+
+// Runs a script in one of these ways.
+fn report_leaks_as<'a, W: Write, C: Consumer, F: ReportFormat + Drop, H: SkipObserver>(
+    whole: WholeScript<'a>,
+    strict: bool,
+    writer: &mut Watched<W>,
+    consumer: &mut C,
+    format: F,
+    hearer: &mut H,
+) -> Result<ModeResult<'a>, CliError>
+    requires script { length whole.script.now ≤ most_script_bytes }
+    requires new { (C.knows consumer.old).has consumer.old [] }
+    ensures { ReportsLeaks F.report strict C.piece (W.contents writer.old.inner)
+        (W.contents writer.new.inner) whole.script.now result }
+{
+    if strict {
+        report_leaks_strictly(whole, writer, consumer, format, hearer)
+    } else {
+        report_leaks(whole, writer, consumer, format)
+    }
+}
+
+// Runs a script with reports of leaks as the settings have it.
+fn run_with_leaks<'a, W: Write, H: SkipObserver>(
+    alloc: Global,
+    settings: &Settings<'_>,
+    script: &'a [u8],
+    writer: &mut Watched<W>,
+    hearer: &mut H,
+) -> Result<ModeResult<'a>, CliError>
+    requires { length script.now ≤ most_script_bytes }
+    ensures json { IsTrue settings.now.json
+        → ReportsLeaks json_report settings.now.strict event_lines (W.contents writer.old.inner)
+        (W.contents writer.new.inner) script.now result }
+    ensures explain { settings.now.json ≡ false → IsTrue settings.now.explains
+        → ReportsLeaks report_text settings.now.strict explained (W.contents writer.old.inner)
+        (W.contents writer.new.inner) script.now result }
+    ensures plain { settings.now.json ≡ false → settings.now.explains ≡ false
+        → ReportsLeaks report_text settings.now.strict printed (W.contents writer.old.inner)
+        (W.contents writer.new.inner) script.now result }
+{
+    let whole = WholeScript {
+        alloc,
+        script,
+        placement: settings.placement,
+    };
+    let strict = settings.strict;
+    if settings.json {
+        let mut lines = EventLines::new(alloc, settings.explains);
+        report_leaks_as(whole, strict, writer, &mut lines, JsonReport, hearer)
+    } else if settings.explains {
+        let mut explained = Explained::new(alloc);
+        report_leaks_as(whole, strict, writer, &mut explained, TextReport, hearer)
+    } else {
+        report_leaks_as(whole, strict, writer, &mut Printer, TextReport, hearer)
+    }
+}
+
 // Writes a random script.
 fn write_random<W: Write>(
     alloc: Global,
@@ -200,27 +332,40 @@ fn run<'a, W: Write, H: SkipObserver>(
     hearer: &mut H,
 ) -> Result<ModeResult<'a>, CliError>
     requires { length script.now ≤ most_script_bytes }
-    ensures json { IsTrue settings.now.json
+    ensures json { IsTrue settings.now.json → settings.now.leaks ≡ false
         → ConsumesStrictly event_lines (W.contents writer.old.inner) (W.contents writer.new.inner)
         (H.heard hearer.old) (H.heard hearer.new) script.now result }
     ensures page { settings.now.json ≡ false → IsTrue settings.now.page
         → Pages (W.contents writer.old.inner) (W.contents writer.new.inner) FRAME.now script.now
         result }
+    ensures json_leaks { IsTrue settings.now.json → IsTrue settings.now.leaks
+        → ReportsLeaks json_report settings.now.strict event_lines (W.contents writer.old.inner)
+        (W.contents writer.new.inner) script.now result }
+    ensures leaks { settings.now.json ≡ false → settings.now.page ≡ false
+        → IsTrue settings.now.leaks → settings.now.explains ≡ false
+        → ReportsLeaks report_text settings.now.strict printed (W.contents writer.old.inner)
+        (W.contents writer.new.inner) script.now result }
+    ensures explained_leaks { settings.now.json ≡ false → settings.now.page ≡ false
+        → IsTrue settings.now.leaks → IsTrue settings.now.explains
+        → ReportsLeaks report_text settings.now.strict explained (W.contents writer.old.inner)
+        (W.contents writer.new.inner) script.now result }
     ensures explain { settings.now.json ≡ false → settings.now.page ≡ false
-        → IsTrue settings.now.explains
+        → settings.now.leaks ≡ false → IsTrue settings.now.explains
         → ConsumesStrictly explained (W.contents writer.old.inner) (W.contents writer.new.inner)
         (H.heard hearer.old) (H.heard hearer.new) script.now result }
     ensures strict { settings.now.json ≡ false → settings.now.page ≡ false
-        → settings.now.explains ≡ false
+        → settings.now.leaks ≡ false → settings.now.explains ≡ false
         → RunsStrictly (W.contents writer.old.inner) (W.contents writer.new.inner)
         (H.heard hearer.old) (H.heard hearer.new) script.now result }
 {
     let placement = settings.placement;
-    if settings.json {
+    if settings.page && !settings.json {
+        page(alloc, script, writer, placement)
+    } else if settings.leaks {
+        run_with_leaks(alloc, settings, script, writer, hearer)
+    } else if settings.json {
         let mut lines = EventLines::new(alloc, settings.explains);
         consume_strict(alloc, script, writer, placement, &mut lines, hearer)
-    } else if settings.page {
-        page(alloc, script, writer, placement)
     } else if settings.explains {
         let mut explained = Explained::new(alloc);
         consume_strict(alloc, script, writer, placement, &mut explained, hearer)
@@ -243,15 +388,28 @@ pub fn serve_script<'a, W: Write, H: SkipObserver>(
         → IsTrue settings.now.page
         → Pages (W.contents writer.old.inner) (W.contents writer.new.inner) FRAME.now script.now
         result }
+    ensures json_leaks { settings.now.mode ≡ Mode.Run → IsTrue settings.now.json
+        → IsTrue settings.now.leaks
+        → ReportsLeaks json_report settings.now.strict event_lines (W.contents writer.old.inner)
+        (W.contents writer.new.inner) script.now result }
+    ensures leaks { settings.now.mode ≡ Mode.Run → settings.now.json ≡ false
+        → settings.now.page ≡ false → IsTrue settings.now.leaks → settings.now.explains ≡ false
+        → ReportsLeaks report_text settings.now.strict printed (W.contents writer.old.inner)
+        (W.contents writer.new.inner) script.now result }
+    ensures explained_leaks { settings.now.mode ≡ Mode.Run → settings.now.json ≡ false
+        → settings.now.page ≡ false → IsTrue settings.now.leaks → IsTrue settings.now.explains
+        → ReportsLeaks report_text settings.now.strict explained (W.contents writer.old.inner)
+        (W.contents writer.new.inner) script.now result }
     ensures explain { settings.now.mode ≡ Mode.Run → settings.now.json ≡ false
-        → settings.now.page ≡ false → IsTrue settings.now.explains
+        → settings.now.page ≡ false → settings.now.leaks ≡ false → IsTrue settings.now.explains
         → ConsumesStrictly explained (W.contents writer.old.inner) (W.contents writer.new.inner)
         (H.heard hearer.old) (H.heard hearer.new) script.now result }
     ensures strict { settings.now.mode ≡ Mode.Run → settings.now.json ≡ false
-        → settings.now.page ≡ false → settings.now.explains ≡ false
+        → settings.now.page ≡ false → settings.now.leaks ≡ false → settings.now.explains ≡ false
         → RunsStrictly (W.contents writer.old.inner) (W.contents writer.new.inner)
         (H.heard hearer.old) (H.heard hearer.new) script.now result }
     ensures json { settings.now.mode ≡ Mode.Run → IsTrue settings.now.json
+        → settings.now.leaks ≡ false
         → ConsumesStrictly event_lines (W.contents writer.old.inner) (W.contents writer.new.inner)
         (H.heard hearer.old) (H.heard hearer.new) script.now result }
     ensures check { settings.now.mode ≡ Mode.Check

@@ -9,6 +9,7 @@ use crate::opened::OpenReader;
 use crate::options::Settings;
 use crate::strict::Teller;
 use crate::{Output, passed_on, report_fault};
+use area_history::{JsonReport, ReportFormat, Reporter, TextReport};
 use event_json::EventLines;
 use mvs_job::{Consumer, Explained, Printer, RunFault, Strict, StrictOutcome};
 use mvs_model::line::Fault;
@@ -70,6 +71,9 @@ pub fn run_at_terminal<R: Read + Drop>(
     requires { writer.old.failed ≡ false }
 {
     let alloc = rt.alloc();
+    if settings.leaks {
+        return run_with_leaks(rt, reader, settings, writer);
+    }
     if settings.json {
         let mut lines = EventLines::new(alloc, settings.explains);
         return run_typed(rt, reader, settings, writer, &mut lines);
@@ -83,6 +87,44 @@ pub fn run_at_terminal<R: Read + Drop>(
     let prompter = Prompter::new(rt, settings.file);
     let end = run_faultless(alloc, reader, prompter, writer, settings.placement);
     end_typed(rt, settings, writer, end, true)
+}
+
+// Runs the lines that are typed, with a report of leaks at the end of each step.
+fn run_with_leaks<R: Read + Drop>(
+    rt: &HostRuntime,
+    reader: OpenReader<R>,
+    settings: &Settings<'_>,
+    writer: &mut Watched<Output<'_>>,
+) -> Result<ExitReason, CliError>
+    requires { writer.old.failed ≡ false }
+{
+    let alloc = rt.alloc();
+    if settings.json {
+        let mut lines = EventLines::new(alloc, settings.explains);
+        return report_typed(rt, reader, settings, writer, &mut lines, JsonReport);
+    }
+    if settings.explains {
+        let mut explained = Explained::new(alloc);
+        return report_typed(rt, reader, settings, writer, &mut explained, TextReport);
+    }
+    report_typed(rt, reader, settings, writer, &mut Printer, TextReport)
+}
+
+// Runs the lines that are typed, gives each entry of the run to a consumer, and writes reports of leaks in a format.
+fn report_typed<R: Read + Drop, C: Consumer, F: ReportFormat + Drop>(
+    rt: &HostRuntime,
+    reader: OpenReader<R>,
+    settings: &Settings<'_>,
+    writer: &mut Watched<Output<'_>>,
+    consumer: &mut C,
+    format: F,
+) -> Result<ExitReason, CliError>
+    requires writer { writer.old.failed ≡ false }
+    requires new { (C.knows consumer.old).has consumer.old [] }
+{
+    let mut reporter = Reporter::new(rt.alloc(), consumer, format);
+    let ended = run_typed(rt, reader, settings, writer, &mut reporter)?;
+    Ok(ended.with_leaks(reporter.has_leaked()))
 }
 
 // Runs the lines that are typed, and gives each entry of the run to a consumer. If that is asked for, each line is reported that was not

@@ -28,4 +28,4 @@ pub returns-clause-ok : goal.returns-clause-ok
 returns-clause-ok c =
     let made = c.in_ok-command.ensures in
     let found = value_found _ (map string_bytes c.args.words.now) made.0 c.in_ok-matches.matches made.2 c.in_ok-matches.ensures.matches in
-    (made.0, made.1, rw (← found (codes "FILE")) c.file.ensures, rw (← found (codes "place")) c.placement.ensures, rw (← found (codes "judge")) c.judged.ensures, rw (← found (codes "code")) c.coded.ensures, rw (← found (codes "code"), ← found (codes "rule"), ← found (codes "random"), ← found (codes "lines"), ← found (codes "profile"), ← found (codes "judge"), ← found (codes "check"), ← found (codes "blank"), ← found (codes "ask"), ← found (codes "assemble")) c.mode.ensures, rw (← found (codes "explain")) c.is_set.ensures, rw (← found (codes "json")) c.is_set-2.ensures, rw (← found (codes "page")) c.is_set-3.ensures, rw (← found (codes "strict")) c.is_set-4.ensures, rw (← found (codes "interactive")) c.is_set-5.ensures, rw (← found (codes "color")) c.color.ensures, rw (← found (codes "format")) c.format.ensures, rw (← found (codes "hide")) c.is_set-6.ensures)
+    (made.0, made.1, rw (← found (codes "FILE")) c.file.ensures, rw (← found (codes "place")) c.placement.ensures, rw (← found (codes "judge")) c.judged.ensures, rw (← found (codes "code")) c.coded.ensures, rw (← found (codes "code"), ← found (codes "rule"), ← found (codes "random"), ← found (codes "lines"), ← found (codes "profile"), ← found (codes "judge"), ← found (codes "check"), ← found (codes "blank"), ← found (codes "ask"), ← found (codes "assemble")) c.mode.ensures, rw (← found (codes "explain")) c.is_set.ensures, rw (← found (codes "leaks")) c.is_set-2.ensures, rw (← found (codes "json")) c.is_set-3.ensures, rw (← found (codes "page")) c.is_set-4.ensures, rw (← found (codes "strict")) c.is_set-5.ensures, rw (← found (codes "interactive")) c.is_set-6.ensures, rw (← found (codes "color")) c.color.ensures, rw (← found (codes "format")) c.format.ensures, rw (← found (codes "hide")) c.is_set-7.ensures)

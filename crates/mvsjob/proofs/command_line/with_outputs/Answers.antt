@@ -6,7 +6,8 @@ use Rattle.mvsjob.proofs.command_line.with_outputs.Goals as goal
 
 pub returns : goal.returns
 returns c =
-    let printing = c.in_ok-printing.ensures ∙ ap (λ a. with_rule a (flag_rule (codes "json"))) c.in_ok-explaining.ensures in
+    let reporting = c.in_ok-reporting.ensures ∙ ap (λ a. with_rule a (flag_rule (codes "leaks"))) c.in_ok-explaining.ensures in
+    let printing = c.in_ok-printing.ensures ∙ ap (λ a. with_rule a (flag_rule (codes "json"))) reporting in
     let paging = c.in_ok-paging.ensures ∙ ap (λ a. with_rule a (flag_rule (codes "page"))) printing in
     let strict = c.in_ok-strict.ensures ∙ ap (λ a. with_rule a (flag_rule (codes "strict"))) paging in
-    if_ok c.with_flag-5.result _ (λ new. app_of new ≡ output_app (app_of c.args.command)) c.with_flag-5.ensures (λ new made. made ∙ ap (λ a. with_rule a (flag_rule (codes "interactive"))) strict)
+    if_ok c.with_flag-6.result _ (λ new. app_of new ≡ output_app (app_of c.args.command)) c.with_flag-6.ensures (λ new made. made ∙ ap (λ a. with_rule a (flag_rule (codes "interactive"))) strict)

@@ -1,0 +1,10 @@
+use Rattle.mvsjob.proofs.Leaking.{ends_plainly}
+use Rattle.mvsjob.proofs.served.report_leaks.Goals as goal
+
+pub returns-in-Ok : goal.returns-in-Ok
+returns-in-Ok g c =
+    let r = c.in-Ok.ensures.run in
+    (r.0, c.in-Ok.end.outcome, c.in-Ok.end.has_leaked, r.1, ends_plainly _ _ _ c.with_leaks.ensures, c.fault_of.ensures)
+
+pub returns-in-Err : goal.returns-in-Err
+returns-in-Err g c = (c.in-Err.stop, c.of.ensures, c.in-Err.ensures.stop)
