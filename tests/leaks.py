@@ -14,9 +14,13 @@ KINDS = ("storage", "pools", "anything")
 RANDOM_SCRIPTS = 3000
 
 
+def ran(program, script, *words):
+    return subprocess.run([program, *words], input=script, capture_output=True, text=True, timeout=600)
+
+
 def called(program, script, *words):
-    ran = subprocess.run([program, *words], input=script, capture_output=True, text=True, timeout=600)
-    return ran.stdout, ran.returncode
+    end = ran(program, script, *words)
+    return end.stdout, end.returncode
 
 
 def scripts():
@@ -57,8 +61,15 @@ def is_as_json(program, text, placement):
     return others == plain[0].splitlines() and [line for line in reported if line] == wanted and status == expected
 
 
+def is_as_strict(program, text, placement):
+    """Whether with `--strict` the lines that were not executed are reported as without `--leaks`, and the rest is as without `--strict`."""
+    words = ("--place", placement)
+    reports = [ran(program, text, "--strict", *words, *more).stderr for more in ((), ("--leaks",))]
+    return reports[0] == reports[1] and called(program, text, "--strict", "--leaks", *words)[0] == called(program, text, "--leaks", *words)[0]
+
+
 def known(program, path):
-    return all(is_as_plain(program, path.read_text(), placement) and is_as_json(program, path.read_text(), placement) for placement in ("low", "high"))
+    return all(compare(program, path.read_text(), placement) for compare in (is_as_plain, is_as_json, is_as_strict) for placement in ("low", "high"))
 
 
 def random(program, seed):

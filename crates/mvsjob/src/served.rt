@@ -178,7 +178,7 @@ fn report_leaks<'a, W: Write, C: Consumer, F: ReportFormat + Drop>(
     requires script { length whole.script.now ≤ most_script_bytes }
     requires new { (C.knows consumer.old).has consumer.old [] }
     ensures { ReportsLeaks F.report false C.piece (W.contents writer.old.inner)
-        (W.contents writer.new.inner) whole.script.now result }
+        (W.contents writer.new.inner) whole.entry.script.now result }
 {
     let WholeScript {
         alloc,
@@ -205,7 +205,7 @@ fn report_leaks_strictly<'a, W: Write, C: Consumer, F: ReportFormat + Drop, H: S
     requires script { length whole.script.now ≤ most_script_bytes }
     requires new { (C.knows consumer.old).has consumer.old [] }
     ensures { ReportsLeaks F.report true C.piece (W.contents writer.old.inner)
-        (W.contents writer.new.inner) whole.script.now result }
+        (W.contents writer.new.inner) whole.entry.script.now result }
 {
     let WholeScript {
         alloc,
@@ -240,7 +240,7 @@ fn report_leaks_as<'a, W: Write, C: Consumer, F: ReportFormat + Drop, H: SkipObs
     requires script { length whole.script.now ≤ most_script_bytes }
     requires new { (C.knows consumer.old).has consumer.old [] }
     ensures { ReportsLeaks F.report strict C.piece (W.contents writer.old.inner)
-        (W.contents writer.new.inner) whole.script.now result }
+        (W.contents writer.new.inner) whole.entry.script.now result }
 {
     if strict {
         report_leaks_strictly(whole, writer, consumer, format, hearer)

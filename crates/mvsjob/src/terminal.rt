@@ -11,7 +11,7 @@ use crate::strict::Teller;
 use crate::{Output, passed_on, report_fault};
 use area_history::{JsonReport, ReportFormat, Reporter, TextReport};
 use event_json::EventLines;
-use mvs_job::{Consumer, Explained, Printer, RunFault, Strict, StrictOutcome};
+use mvs_job::{Consumer, Explained, Printer, RunFault, SkipObserver, Strict, StrictOutcome};
 use mvs_model::line::Fault;
 use mvs_model::watched::Watched;
 use std::io::{IsTerminal, Read};
@@ -110,7 +110,53 @@ fn run_with_leaks<R: Read + Drop>(
     report_typed(rt, reader, settings, writer, &mut Printer, TextReport)
 }
 
+// How a job with reports of leaks ended, and whether one of its steps ended with a leak.
+#[derive(Drop)]
+struct ReportedEnd<R> {
+    end: FilterEnd<OpenReader<R>>,
+    has_leaked: bool,
+}
+
 // Runs the lines that are typed, gives each entry of the run to a consumer, and writes reports of leaks in a format.
+fn report_to<R: Read + Drop, C: Consumer, F: ReportFormat + Drop>(
+    rt: &HostRuntime,
+    reader: OpenReader<R>,
+    settings: &Settings<'_>,
+    writer: &mut Watched<Output<'_>>,
+    consumer: &mut C,
+    format: F,
+) -> ReportedEnd<R>
+    requires writer { writer.old.failed ≡ false }
+    requires new { (C.knows consumer.old).has consumer.old [] }
+{
+    let (alloc, placement) = (rt.alloc(), settings.placement);
+    let prompter = Prompter::new(rt, settings.file);
+    let mut reporter = Reporter::new(alloc, consumer, format);
+    let end = run_faultless_to(alloc, reader, prompter, writer, placement, &mut reporter);
+    ReportedEnd {
+        end,
+        has_leaked: reporter.has_leaked(),
+    }
+}
+
+// Runs the lines that are typed in that way, and reports each line that was not executed.
+fn report_strictly<R: Read + Drop, C: Consumer, H: SkipObserver, F: ReportFormat + Drop>(
+    rt: &HostRuntime,
+    reader: OpenReader<R>,
+    settings: &Settings<'_>,
+    writer: &mut Watched<Output<'_>>,
+    strict: &mut Strict<'_, C, H>,
+    format: F,
+) -> Result<ExitReason, CliError>
+    requires writer { writer.old.failed ≡ false }
+    requires new { (C.knows strict.old.consumer.now).has strict.old.consumer.now [] }
+{
+    let ran = report_to(rt, reader, settings, writer, strict, format);
+    let ended = end_typed(rt, settings, writer, ran.end, strict.is_all_served())?;
+    Ok(ended.with_leaks(ran.has_leaked))
+}
+
+// Runs the lines that are typed in that way. If that is asked for, each line is reported that was not executed.
 fn report_typed<R: Read + Drop, C: Consumer, F: ReportFormat + Drop>(
     rt: &HostRuntime,
     reader: OpenReader<R>,
@@ -122,9 +168,13 @@ fn report_typed<R: Read + Drop, C: Consumer, F: ReportFormat + Drop>(
     requires writer { writer.old.failed ≡ false }
     requires new { (C.knows consumer.old).has consumer.old [] }
 {
-    let mut reporter = Reporter::new(rt.alloc(), consumer, format);
-    let ended = run_typed(rt, reader, settings, writer, &mut reporter)?;
-    Ok(ended.with_leaks(reporter.has_leaked()))
+    if settings.strict {
+        let mut teller = Teller::new(rt, settings.file, b"");
+        let mut strict = Strict::new(consumer, &mut teller);
+        return report_strictly(rt, reader, settings, writer, &mut strict, format);
+    }
+    let ran = report_to(rt, reader, settings, writer, consumer, format);
+    Ok(end_typed(rt, settings, writer, ran.end, true)?.with_leaks(ran.has_leaked))
 }
 
 // Runs the lines that are typed, and gives each entry of the run to a consumer. If that is asked for, each line is reported that was not
