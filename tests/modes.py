@@ -230,7 +230,7 @@ def options(modes):
         status, out, err = modes.run(words.replace("FILE", "a.job"), SCRIPT)
         yield words, (status, out) == (16, b"") and err.startswith("error: the argument '") and "cannot be used with" in err + err.replace("can only be used with", "cannot be used with")
     for words in TOGETHER:
-        yield words, modes.run(words, SCRIPT)[0] == 0
+        yield words, modes.run(words, SCRIPT)[0] == (4 if "--leaks" in words else 0)
 
 
 def unserved(modes):
