@@ -123,11 +123,27 @@ class Leaks:
             self.release([name for name, (where, _) in self.held.items() if where[1] == keys["CPID"] and where[0] in ("pool", "cell")])
 
 
-def leaks(statements):
+def held(statements):
     found = Leaks()
     for statement in statements[1:]:
         found.take(statement)
-    return {name: length for name, (_, length) in found.held.items()}
+    return found.held
+
+
+def leaks(statements):
+    return {name: length for name, (_, length) in held(statements).items()}
+
+
+def left_at_the_end(statements):
+    """The areas that a script does not release, but for those in subpool 0 of a subtask, which its end frees."""
+    first = statements[0].split()[0]
+    return sorted(name for name, (where, length) in held(statements).items() if length and where[0] in ("", first))
+
+
+def never_released(program, statements):
+    """The areas that `--leaks` reports."""
+    printed = run_script(program, "\n".join(statements) + "\n", "--leaks")
+    return sorted(re.findall(r"(?m)^\* (\w+): [0-9 of]+ bytes at ", printed))
 
 
 def reported(program, statements):
@@ -153,8 +169,9 @@ def is_program_said(program, path):
     )
     statements = [line for line in lines if not line.startswith("*?")]
     lost = leaks(statements)
-    held, well = reported(program, statements)
-    return same and status == 0 and well and sorted(lost) == sorted(head(path, "LEAK")) and held == sum(lost.values())
+    owned, well = reported(program, statements)
+    found = never_released(program, statements) == left_at_the_end(statements)
+    return same and status == 0 and well and found and sorted(lost) == sorted(head(path, "LEAK")) and owned == sum(lost.values())
 
 
 def is_script(program, script):
@@ -416,6 +433,83 @@ def of_paths():
     ]
 
 
+CALLED_IN_LOOP = """PROG     CSECT
+         LA    5,3
+NEXT     BAS   14,SUB
+         BCT   5,NEXT
+         BR    14
+SUB      GETMAIN R,LV=8
+         BR    14
+"""
+MAY_RETURN = """PROG     CSECT
+         BAS   10,SUB
+AFTER    LTR   15,15
+         GETMAIN R,LV=16
+         BR    14
+SUB      LTR   1,1
+         BZR   10
+         GETMAIN R,LV=8
+         BR    10
+"""
+RELATIVE = """PROG     CSECT
+         GETMAIN RC,LV=8
+         LTR   15,15
+         BZ    *+8
+         B     NONE
+         GETMAIN R,LV=16
+         BR    14
+NONE     ABEND 1
+"""
+TABLE = """PROG     CSECT
+         SLL   1,2
+         B     TABLE(1)
+TABLE    B     ONE
+         B     TWO
+ONE      GETMAIN R,LV=8
+         BR    14
+TWO      GETMAIN R,LV=16
+         BR    14
+"""
+ENTRY = """PROG     CSECT
+         USING PROG,15
+         B     START-PROG(,15)
+         DC    CL8'PROG'
+START    STM   14,12,12(13)
+         GETMAIN R,LV=8
+         BR    14
+"""
+
+
+def written_lengths(source, *options):
+    """The lengths that the script of a source requests, in their order, and the marks of the script without their sources."""
+    lines = lines_of(convert(source.encode(), *options)[0])
+    return re.findall(r"LV=(\d+)", "\n".join(line for line in lines if not line.startswith("*?"))), [
+        line.rpartition(": ")[0] for line in lines if line.startswith("*?")
+    ]
+
+
+def of_branches():
+    """A routine that is called in a loop, a conditional return, a branch to *+8, and a table of branches."""
+    script = convert(CALLED_IN_LOOP.encode())[0]
+    yield "a routine in a loop", "    6 in loop NEXT: SUB GETMAIN R,LV=8" in script
+    yield "a routine in a loop that is repeated", "in loop" not in convert(CALLED_IN_LOOP.encode(), "--repeat", "NEXT=2")[0]
+    yield "a return that is taken", written_lengths(MAY_RETURN, "--path", "AFTER") == (["16"], [])
+    yield "a return that is not taken", written_lengths(MAY_RETURN, "--path", "SUB") == (["8", "16"], [])
+    yield "*+8 that is taken", written_lengths(RELATIVE, "--path", "6") == (["8", "16"], [])
+    yield "*+8 that is not taken", written_lengths(RELATIVE, "--path", "NONE") == (["8"], [])
+    marks = ["*? 4: a branch, on to line 5 or to *+8 in line 6", "*? 5: a branch to NONE in line 8"]
+    yield "*+8 without a path", written_lengths(RELATIVE) == (["8", "16"], marks)
+    longer = RELATIVE.replace("B     NONE\n", "BRASL 14,NONE\n").replace("*+8", "*+10")
+    yield "*+10", written_lengths(longer)[1][0] == "*? 4: a branch, on to line 5 or to *+10 in line 6"
+    inside = RELATIVE.replace("*+8", "*+6")
+    yield "*+6, inside of an instruction", written_lengths(inside)[1][0] == "*? 4: a branch to an address that is not known"
+    for target in ("START-PROG(,15)", "12(,15)", "START"):
+        entry = ENTRY.replace("START-PROG(,15)", target)
+        yield f"B {target}", written_lengths(entry) == written_lengths(entry, "--path", "6") == (["8"], [])
+    yield "a table of branches", written_lengths(TABLE, "--path", "TWO") == (["16"], [])
+    yield "a table of branches without a path", written_lengths(TABLE)[1][0] == "*? 3: a branch to an address that is not known"
+
+
 def of_help():
     """The help beside its copy, and each option in the other places that name it."""
     shown = subprocess.run([CONVERTER, "--help"], capture_output=True, text=True, timeout=600).stdout
@@ -571,6 +665,7 @@ def groups(program):
     yield "assembler programs", each(partial(is_program_said, program), PROGRAMS)
     yield "assembler options", whole(of_options)
     yield "assembler paths", whole(of_paths)
+    yield "assembler branches", whole(of_branches)
     yield "assembler help", whole(of_help)
     yield "assembler completion", whole(of_completion)
     yield "assembler walk", whole(of_document, program)

@@ -30,6 +30,10 @@ pub enum Flow<'a> {
         label: &'a str,
         is_conditional: bool,
     },
+    /// At an address that is not known, or also with the next one.
+    Unknown {
+        is_conditional: bool,
+    },
     /// In a routine, which returns by a register to the next statement.
     Call {
         to: Target<'a>,
@@ -54,19 +58,24 @@ pub enum Flow<'a> {
 /// The register with the return address of a program.
 pub const RETURN_ADDRESS: u8 = 14;
 
-// Where the operands of a branch are: the symbols of its source, the places of labels, and its statement.
+/// The register with the address of a program where it begins.
+pub const ENTRY_ADDRESS: u8 = 15;
+
+// Where the operands of a branch are: the symbols of its source, the places of labels, and its own place and statement.
 #[derive(Clone, Copy)]
 struct Branch<'a> {
     alloc: Global,
     symbols: &'a Symbols,
     layout: &'a Layout,
+    place: usize,
     statement: &'a SourceStatement,
 }
 
-// The register of an address that is nothing but an offset and a register, as `4(,14)` or `0(14)`.
+// The register of an address that is nothing but an offset and a register, as `4(,14)`, `0(14)` or `START-PROG(,15)`.
 fn based(operand: &str) -> Option<&str> {
     let (offset, rest) = operand.split_once('(')?;
-    if !offset.chars().all(|letter| letter.is_ascii_digit()) {
+    let is_number = offset.chars().all(|letter| letter.is_ascii_digit());
+    if !is_number && !offset.contains('-') {
         return None;
     }
     let inside = rest.strip_suffix(")")?;
@@ -109,9 +118,12 @@ impl<'a> Branch<'a> {
                 is_conditional,
             });
         }
+        if let Some(to) = self.layout.relative(self.place, operand) {
+            return Ok(Flow::Branch { to, is_conditional });
+        }
         match based(operand) {
             Some(register) => self.to_register(register, is_conditional),
-            None => Ok(Flow::On),
+            None => Ok(Flow::Unknown { is_conditional }),
         }
     }
 
@@ -197,6 +209,7 @@ pub fn flow_of<'a>(
         alloc,
         symbols,
         layout,
+        place,
         statement,
     };
     branch.flow()

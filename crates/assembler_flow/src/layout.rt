@@ -1,10 +1,51 @@
 //! Where the labels, the sections and the structured macros of a source are.
 
 use crate::flow::{Flow, Target};
+use crate::lengths::length_of;
 use crate::structures::{Structured, structures_of};
 use assembler_statements::SourceStatement;
 use std::alloc::{AllocError, Global};
 use std::collections::BTreeMap;
+
+/// How many statements before and after a branch to `*+8` its target is searched for.
+const NEAR: usize = 100;
+
+// Where a statement is: in which run of statements whose lengths are known, and how many bytes after its beginning.
+#[derive(Clone, Copy)]
+struct Address {
+    run: usize,
+    offset: usize,
+}
+
+impl Address {
+    // Returns the address after a statement.
+    fn after(self, statement: &SourceStatement) -> Address {
+        match length_of(statement) {
+            Some(length) => Address {
+                run: self.run,
+                offset: self.offset.saturating_add(length),
+            },
+            None => Address {
+                run: self.run.saturating_add(1),
+                offset: 0,
+            },
+        }
+    }
+
+    // Returns the address a number of bytes after this one or before it, as the text `+8` or `-8` says.
+    fn moved(self, sign: &str, bytes: &str) -> Option<Address> {
+        let bytes = bytes.parse::<usize>().ok()?;
+        let offset = if sign == "+" {
+            self.offset.checked_add(bytes)?
+        } else {
+            self.offset.checked_sub(bytes)?
+        };
+        Some(Address {
+            run: self.run,
+            offset,
+        })
+    }
+}
 
 /// Where the labels, the sections and the structured macros of a source are.
 #[derive(Drop)]
@@ -16,6 +57,8 @@ pub struct Layout {
     sections: Vec<usize>,
     /// Where the sections begin.
     starts: Vec<usize>,
+    /// By the place of a statement, its address.
+    addresses: Vec<Address>,
 }
 
 /// Returns whether a section of instructions begins.
@@ -31,6 +74,7 @@ impl Layout {
             structures: BTreeMap::new(alloc),
             sections: Vec::new(alloc),
             starts: Vec::new(alloc),
+            addresses: Vec::new(alloc),
         }
     }
 
@@ -53,8 +97,11 @@ impl Layout {
     /// Returns the layout of a source. It fails if memory is exhausted.
     pub fn find(alloc: Global, statements: &[SourceStatement]) -> Result<Layout, AllocError> {
         let mut layout = Layout::new(alloc);
+        let mut address = Address { run: 0, offset: 0 };
         for (place, statement) in statements.iter().enumerate() {
             layout.take(place, statement)?;
+            layout.addresses.push(address)?;
+            address = address.after(statement);
         }
         layout.structures = structures_of(alloc, statements)?;
         Ok(layout)
@@ -75,6 +122,46 @@ impl Layout {
     pub fn target<'a>(&self, label: &'a str) -> Option<Target<'a>> {
         let place = *self.labels.get(label)?;
         Some(Target { place, label })
+    }
+
+    // Returns the place near another one that has an address.
+    fn place_near(&self, place: usize, address: Address) -> Option<usize> {
+        let first = place.saturating_sub(NEAR);
+        for (after, near) in self
+            .addresses
+            .get(first..)?
+            .iter()
+            .take(2 * NEAR)
+            .enumerate()
+        {
+            if near.run == address.run && near.offset == address.offset {
+                return Some(first.saturating_add(after));
+            }
+        }
+        None
+    }
+
+    // Returns the place of a base of addresses: `*` is the statement at a place.
+    fn base(&self, place: usize, text: &str) -> Option<usize> {
+        if text == "*" {
+            return Some(place);
+        }
+        self.labels.get(text).copied()
+    }
+
+    /// Returns the target of a branch from a place to `*+8`, `*-8`, `LABEL+8` or `LABEL-8`, if the lengths of all statements between are known.
+    pub fn relative<'a>(&self, place: usize, operand: &'a str) -> Option<Target<'a>> {
+        for sign in ["+", "-"] {
+            if let Some((base, bytes)) = operand.split_once(sign) {
+                let base = self.base(place, base)?;
+                let address = self.addresses.get(base)?.moved(sign, bytes)?;
+                return Some(Target {
+                    place: self.place_near(base, address)?,
+                    label: operand,
+                });
+            }
+        }
+        None
     }
 
     /// Returns how a program continues after the structured macro at a place, if one is there.

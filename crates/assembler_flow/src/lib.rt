@@ -3,10 +3,13 @@
 
 mod flow;
 mod layout;
+mod lengths;
 mod loops;
 mod operations;
+mod sections;
 mod structures;
 
-pub use crate::flow::{Flow, RETURN_ADDRESS, Target, flow_of};
+pub use crate::flow::{ENTRY_ADDRESS, Flow, RETURN_ADDRESS, Target, flow_of};
 pub use crate::layout::{Layout, begins_section};
 pub use crate::loops::{Loop, Loops};
+pub use crate::sections::Sections;

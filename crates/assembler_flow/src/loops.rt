@@ -19,6 +19,13 @@ pub struct Loop {
     pub label: String,
 }
 
+impl Loop {
+    /// Returns whether a place is in the loop.
+    pub fn has(&self, place: usize) -> bool {
+        self.start <= place && place <= self.end
+    }
+}
+
 /// The loops of a source that have requests, and where requests and calls of routines are.
 #[derive(Drop)]
 pub struct Loops {
@@ -48,6 +55,7 @@ fn may_request(statement: &SourceStatement, flow: Flow<'_>) -> bool {
         Flow::On
         | Flow::Branch { .. }
         | Flow::Away { .. }
+        | Flow::Unknown { .. }
         | Flow::BranchRegister { .. }
         | Flow::Return
         | Flow::End => macro_of(&statement.operation).is_some(),
@@ -105,6 +113,7 @@ impl<'a> Search<'a> {
             }
             Flow::On
             | Flow::Away { .. }
+            | Flow::Unknown { .. }
             | Flow::CallRegister { .. }
             | Flow::BranchRegister {
                 is_conditional: true,
@@ -198,19 +207,9 @@ impl Loops {
         counts_some(&self.routines, from, to)
     }
 
-    /// Returns the innermost loop in which a place is.
-    pub fn around(&self, place: usize) -> Option<&Loop> {
-        let mut found: Option<&Loop> = None;
-        for one in self.loops.iter() {
-            let is_inner = match found {
-                Some(other) => other.start < one.start,
-                None => true,
-            };
-            if one.start <= place && place <= one.end && is_inner {
-                found = Some(one);
-            }
-        }
-        found
+    /// Returns the loops.
+    pub fn all(&self) -> &[Loop] {
+        &self.loops
     }
 
     /// Returns the loop that begins at a place.

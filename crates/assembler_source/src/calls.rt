@@ -1,10 +1,10 @@
 //! Routines and tasks in which a path continues, and from which it comes back.
 
 use crate::frames::Inside;
-use crate::marks::return_mark;
 use crate::walk::SourceWalk;
-use assembler_flow::RETURN_ADDRESS;
+use assembler_flow::{ENTRY_ADDRESS, RETURN_ADDRESS};
 use assembler_requests::Attached;
+use assembler_script::return_mark;
 use assembler_statements::SourceStatement;
 use assembler_values::{Content, execute};
 use std::alloc::AllocError;
@@ -12,6 +12,9 @@ use std::mem;
 
 /// What a register holds in which a routine gets its return address.
 const RETURN: &str = "*";
+
+/// The mark of a branch whose target is not known.
+pub const UNKNOWN: &str = "a branch to an address that is not known";
 
 impl SourceWalk<'_> {
     /// Continues with the statements of a task that was attached, and comes back after them. It fails if memory is exhausted.
@@ -29,6 +32,7 @@ impl SourceWalk<'_> {
     /// Calls the routine at a place. It fails if memory is exhausted.
     pub fn call(
         &mut self,
+        place: usize,
         statement: &SourceStatement,
         entry: usize,
         link: u8,
@@ -43,6 +47,7 @@ impl SourceWalk<'_> {
             link,
             entry,
             farthest: entry,
+            in_loop: self.loop_at(place)?,
         };
         self.frames.enter(self.at, inside)?;
         self.at = entry;
@@ -60,12 +65,13 @@ impl SourceWalk<'_> {
     /// Calls the routine whose address is in a register, if it is known. It fails if memory is exhausted.
     pub fn call_register(
         &mut self,
+        place: usize,
         statement: &SourceStatement,
         register: u8,
         link: u8,
     ) -> Result<(), AllocError> {
         match self.place_in(register) {
-            Some(entry) => self.call(statement, entry, link),
+            Some(entry) => self.call(place, statement, entry, link),
             None => execute(
                 self.source.alloc,
                 self.source.symbols,
@@ -116,6 +122,11 @@ impl SourceWalk<'_> {
         self.end_task(place, statement, "RETURN")
     }
 
+    // Returns whether a register has the address of the program since that began. A branch by it goes on after constants.
+    fn is_entry(&self, register: u8) -> bool {
+        register == ENTRY_ADDRESS && self.held.register(register).is_none()
+    }
+
     /// Branches to the address in a register. It fails if memory is exhausted.
     pub fn branch_register(
         &mut self,
@@ -125,7 +136,7 @@ impl SourceWalk<'_> {
         is_conditional: bool,
     ) -> Result<(), AllocError> {
         if is_conditional {
-            return self.may_return(place, statement);
+            return self.may_branch(place, statement, register);
         }
         if self.returns_by(register) {
             return self.return_from(place, statement);
@@ -137,28 +148,43 @@ impl SourceWalk<'_> {
             }
             Some(_) => Ok(()),
             None if register == RETURN_ADDRESS => self.end_task(place, statement, "RETURN"),
+            None if self.is_entry(register) => Ok(()),
             None => self.branch_unknown(statement),
         }
     }
 
-    // Branches to an address that is not known: the path ends there.
+    // Branches to the address in a register that is not known: the path ends there.
     fn branch_unknown(&mut self, statement: &SourceStatement) -> Result<(), AllocError> {
-        let text = "a branch to an address that is not known";
         if self.way.is_path() {
-            self.mark(statement, text)?;
+            self.mark(statement, UNKNOWN)?;
             self.leave_task();
             return Ok(());
         }
-        let mark = String::from_str(self.source.alloc, text)?;
+        let mark = String::from_str(self.source.alloc, UNKNOWN)?;
         self.script.put_mark(statement, mark)
     }
 
-    // Processes a conditional return.
-    fn may_return(&mut self, place: usize, statement: &SourceStatement) -> Result<(), AllocError> {
-        if self.way.is_path() {
-            return Ok(());
+    // Processes a conditional branch to the address in a register. A path takes it if it goes to the next place of the path.
+    fn may_branch(
+        &mut self,
+        place: usize,
+        statement: &SourceStatement,
+        register: u8,
+    ) -> Result<(), AllocError> {
+        if !self.way.is_path() {
+            let mark = return_mark(self.source.alloc, self.source.statements, place)?;
+            return self.script.put_mark(statement, mark);
         }
-        let mark = return_mark(self.source.alloc, self.source.statements, place)?;
-        self.script.put_mark(statement, mark)
+        let Some(next) = self.way.next() else {
+            return Ok(());
+        };
+        if self.returns_by(register) {
+            if self.frames.back() == Some(next) {
+                return self.leave_routine();
+            }
+        } else if self.place_in(register) == Some(next) {
+            self.at = next;
+        }
+        Ok(())
     }
 }

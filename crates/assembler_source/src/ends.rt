@@ -1,9 +1,10 @@
 //! Branches, and the ends of paths.
 
-use crate::marks::{away_mark, branch_mark, loop_mark};
+use crate::calls::UNKNOWN;
 use crate::walk::SourceWalk;
 use assembler_flow::{Flow, Target};
 use assembler_operands::OpenReason;
+use assembler_script::{away_mark, branch_mark, loop_mark};
 use assembler_statements::SourceStatement;
 use assembler_values::{execute, execute_branch};
 use std::alloc::AllocError;
@@ -58,15 +59,15 @@ impl SourceWalk<'_> {
         self.end_task(place, statement, &text)
     }
 
-    // Jumps back in a loop that has no end on the path: the path continues at its next label, or ends.
-    fn leave_loop(&mut self, statement: &SourceStatement) -> Result<(), AllocError> {
+    // Continues at the next label of the path, or ends the path with a mark.
+    fn go_on(&mut self, statement: &SourceStatement, why: &str) -> Result<(), AllocError> {
         match self.way.next() {
             Some(next) => {
                 self.at = next;
                 Ok(())
             }
             None => {
-                self.mark(statement, "a loop without an end on this path")?;
+                self.mark(statement, why)?;
                 self.leave_task();
                 Ok(())
             }
@@ -89,7 +90,7 @@ impl SourceWalk<'_> {
             return Ok(());
         }
         if to.place <= place && self.loops_back(place, to.place)? {
-            return self.leave_loop(statement);
+            return self.go_on(statement, "a loop without an end on this path");
         }
         self.at = to.place;
         Ok(())
@@ -193,6 +194,24 @@ impl SourceWalk<'_> {
         self.script.put_mark(statement, mark)
     }
 
+    // Processes a branch to an address that is not known: a path continues at its next label.
+    fn branch_elsewhere(
+        &mut self,
+        statement: &SourceStatement,
+        is_conditional: bool,
+    ) -> Result<(), AllocError> {
+        let source = self.source;
+        execute_branch(source.alloc, source.symbols, &mut self.held, statement)?;
+        if !self.way.is_path() {
+            let mark = String::from_str(source.alloc, UNKNOWN)?;
+            return self.script.put_mark(statement, mark);
+        }
+        if is_conditional {
+            return Ok(());
+        }
+        self.go_on(statement, UNKNOWN)
+    }
+
     /// Continues after a statement that is no request. It fails if memory is exhausted.
     pub fn go(
         &mut self,
@@ -210,9 +229,10 @@ impl SourceWalk<'_> {
                 label,
                 is_conditional,
             } => self.branch_away(place, statement, label, is_conditional),
-            Flow::Call { to, link } => self.call(statement, to.place, link),
+            Flow::Unknown { is_conditional } => { self.branch_elsewhere(statement, is_conditional) }
+            Flow::Call { to, link } => self.call(place, statement, to.place, link),
             Flow::CallRegister { register, link } => {
-                self.call_register(statement, register, link)
+                self.call_register(place, statement, register, link)
             }
             Flow::BranchRegister {
                 register,

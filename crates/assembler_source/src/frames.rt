@@ -6,11 +6,13 @@ use std::alloc::{AllocError, Global};
 /// What the path is inside of.
 #[derive(Drop)]
 pub enum Inside {
-    /// A routine: the register with its return address, where it begins, and the farthest place in it to which a branch was seen.
+    /// A routine: the register with its return address, where it begins, the farthest place in it to which a branch was seen, and the label
+    /// of the loop in which it is called, if that is written once.
     Routine {
         link: u8,
         entry: usize,
         farthest: usize,
+        in_loop: Option<String>,
     },
     /// A task that another one has attached: what that one was, and what its registers held.
     Task {
@@ -88,6 +90,23 @@ impl Frames {
     pub fn link(&self) -> Option<u8> {
         match &self.frames.last()?.inside {
             Inside::Routine { link, .. } => Some(*link),
+            Inside::Task { .. } => None,
+        }
+    }
+
+    /// Returns where the path continues after the routine that it is in.
+    pub fn back(&self) -> Option<usize> {
+        let frame = self.frames.last()?;
+        match &frame.inside {
+            Inside::Routine { .. } => Some(frame.back),
+            Inside::Task { .. } => None,
+        }
+    }
+
+    /// Returns the label of the loop in which the routine is called that the path is in, if that is written once.
+    pub fn in_loop(&self) -> Option<&str> {
+        match &self.frames.last()?.inside {
+            Inside::Routine { in_loop, .. } => Some(in_loop.as_ref()?.as_str()),
             Inside::Task { .. } => None,
         }
     }

@@ -5,15 +5,11 @@
 mod calls;
 mod ends;
 mod frames;
-mod marks;
 mod options;
-mod script;
-mod sections;
 mod walk;
 mod way;
 
 pub use crate::options::{Choices, Repeat, Schedule};
-pub use crate::script::{FoundLine, Saying};
-pub use crate::walk::{Requests, find_requests};
+pub use crate::walk::find_requests;
 pub use crate::way::ConversionRefusal;
 pub use assembler_statements::{CopyMember, copied_members};

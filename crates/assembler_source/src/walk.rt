@@ -1,27 +1,17 @@
 //! Processes a source along its paths and converts each request for storage.
 
 use crate::frames::{Frames, Inside};
-use crate::marks::attach_mark;
 use crate::options::{Choices, Schedule};
-use crate::script::{FoundLine, Script};
-use crate::sections::Sections;
 use crate::way::{ConversionRefusal, Way};
-use assembler_flow::{Layout, Loops, begins_section, flow_of};
+use assembler_flow::{Layout, Loop, Loops, Sections, begins_section, flow_of};
 use assembler_operands::{OpenCause, OpenReason, Unsaid};
 use assembler_requests::{Attached, Converted, GivenNames, convert};
+use assembler_script::{Requests, Script, attach_mark};
 use assembler_statements::{CopyMember, SourceStatement, read_statements};
 use assembler_symbols::{Symbols, symbols_of};
 use assembler_values::{Held, KnownValues, Macro, MacroForm, how_written, macro_of, operands_of};
 use std::alloc::{AllocError, Global};
 use std::collections::{BTreeMap, BTreeSet, VecDeque};
-
-/// The requests of a source: the task of its first program, whether that resides above 16 megabytes, and the lines of the script.
-#[derive(Drop)]
-pub struct Requests {
-    pub task: String,
-    pub is_above: bool,
-    pub found: Vec<FoundLine>,
-}
 
 /// The most statements that a path may have beyond those of its source.
 const MOST_STEPS: usize = 500_000;
@@ -106,14 +96,33 @@ impl<'a> SourceWalk<'a> {
         Ok(time)
     }
 
-    // Returns the label of the loop in which a request is, if that is written once.
-    fn loop_at(&self, place: usize) -> Result<Option<String>, AllocError> {
+    // Returns the innermost loop around a place that is written once.
+    fn single_loop(&self, place: usize) -> Option<&'a Loop> {
+        let mut found: Option<&'a Loop> = None;
+        for one in self.source.loops.all() {
+            let is_inner = match found {
+                Some(other) => other.start < one.start,
+                None => true,
+            };
+            if one.has(place) && is_inner && !self.way.repeats(one.end) {
+                found = Some(one);
+            }
+        }
+        found
+    }
+
+    /// Returns the label of the loop in which a request or a call is, or its routine is called, if that is written once.
+    pub fn loop_at(&self, place: usize) -> Result<Option<String>, AllocError> {
         if self.way.is_path() {
             return Ok(None);
         }
-        match self.source.loops.around(place) {
-            Some(around) if !self.way.repeats(around.end) => Ok(Some(around.label.clone()?)),
-            _ => Ok(None),
+        let label = match self.single_loop(place) {
+            Some(around) => Some(around.label.as_str()),
+            None => self.frames.in_loop(),
+        };
+        match label {
+            Some(label) => Ok(Some(String::from_str(self.source.alloc, label)?)),
+            None => Ok(None),
         }
     }
 
@@ -181,21 +190,15 @@ impl<'a> SourceWalk<'a> {
         }
     }
 
-    // Appends what a request was converted to.
-    fn put(
-        &mut self,
-        place: usize,
-        statement: &SourceStatement,
-        ended: Result<Converted, Unsaid>,
-    ) -> Result<(), AllocError> {
-        match ended {
-            Ok(request) => self.put_converted(place, statement, request),
-            Err(Unsaid::For(reason)) => self.script.put_open(statement, reason),
-            Err(Unsaid::NoName) => {
+    // Appends why a request is not converted.
+    fn put_refusal(&mut self, statement: &SourceStatement, why: Unsaid) -> Result<(), AllocError> {
+        match why {
+            Unsaid::For(reason) => self.script.put_open(statement, reason),
+            Unsaid::NoName => {
                 let reason = OpenReason::alone(self.source.alloc, OpenCause::NoName);
                 self.script.put_open(statement, reason)
             }
-            Err(Unsaid::Memory) => Err(AllocError),
+            Unsaid::Memory => Err(AllocError),
         }
     }
 
@@ -205,9 +208,9 @@ impl<'a> SourceWalk<'a> {
         asked: Macro,
         place: usize,
         statement: &'a SourceStatement,
-        time: u32,
-    ) -> Result<Option<Result<Converted, Unsaid>>, AllocError> {
+    ) -> Result<Option<Converted>, Unsaid> {
         let source = self.source;
+        let time = self.count(place)?;
         let known = KnownValues {
             alloc: source.alloc,
             symbols: source.symbols,
@@ -223,12 +226,8 @@ impl<'a> SourceWalk<'a> {
         if matches!(how, MacroForm::List) {
             return Ok(None);
         }
-        Ok(Some(
-            match operands_of(source.alloc, source.statements, statement, how) {
-                Ok(operands) => convert(known, &mut self.given, &operands, asked),
-                Err(why) => Err(why),
-            },
-        ))
+        let operands = operands_of(source.alloc, source.statements, statement, how)?;
+        Ok(Some(convert(known, &mut self.given, &operands, asked)?))
     }
 
     // Processes a request.
@@ -238,13 +237,16 @@ impl<'a> SourceWalk<'a> {
         place: usize,
         statement: &'a SourceStatement,
     ) -> Result<(), AllocError> {
-        let time = self.count(place)?;
-        match self.convert(asked, place, statement, time)? {
-            Some(ended) => {
+        match self.convert(asked, place, statement) {
+            Ok(Some(request)) => {
                 self.held.call(statement)?;
-                self.put(place, statement, ended)
+                self.put_converted(place, statement, request)
             }
-            None => Ok(()),
+            Ok(None) => Ok(()),
+            Err(why) => {
+                self.held.call(statement)?;
+                self.put_refusal(statement, why)
+            }
         }
     }
 
@@ -351,7 +353,10 @@ impl<'a> SourceWalk<'a> {
         };
         self.at = frame.back;
         match frame.inside {
-            Inside::Routine { .. } => {}
+            Inside::Routine {
+                in_loop: _in_loop,
+                ..
+            } => {}
             Inside::Task {
                 task,
                 program,

@@ -1,7 +1,6 @@
 //! The command line.
 
-use crate::region::{RegionPages, region_of};
-use crate::script::ScriptForm;
+use assembler_output::{RegionPages, ScriptForm, region_of};
 use assembler_source::{Choices, Repeat, Schedule};
 use clap::builder::ValueParser;
 use clap::error::ErrorKind;

@@ -1,6 +1,6 @@
 //! Why no script is written.
 
-use crate::script::ScriptStop;
+use assembler_output::ScriptStop;
 use assembler_source::ConversionRefusal;
 use std::alloc::{AllocError, AllocFailed};
 use std::io::ErrorKind;

@@ -3,15 +3,12 @@
 
 mod command_line;
 mod give_up;
-mod json;
 mod members;
-mod region;
-mod script;
 
 use crate::command_line::{Options, options_of};
 use crate::give_up::ConversionError;
 use crate::members::{members_of, source_of};
-use crate::script::{ScriptStop, Sum, write_script};
+use assembler_output::{ScriptStop, Sum, write_script};
 use assembler_source::find_requests;
 use diagnosis::PlainName;
 use std::env;

@@ -24,11 +24,31 @@ pub struct FoundLine {
     pub saying: Saying,
 }
 
-// A line of the script, or the end of a path of a task, which may become one.
+/// The requests of a source: the task of its first program, whether that resides above 16 megabytes, and the lines of the script.
 #[derive(Drop)]
-enum ScriptItem {
-    Line(FoundLine),
-    End { task: String, found: FoundLine },
+pub struct Requests {
+    pub task: String,
+    pub is_above: bool,
+    pub found: Vec<FoundLine>,
+}
+
+// A line of the script, which may be the end of a path of a task.
+#[derive(Drop)]
+struct ScriptItem {
+    found: FoundLine,
+    is_end: bool,
+}
+
+// What becomes of an item.
+#[derive(Clone, Copy)]
+enum ItemKind {
+    Line,
+    /// A line that comes after all others.
+    LateLine,
+    /// The end of a path of a task before a later statement of the task.
+    EarlyEnd,
+    /// The end of one more path, which the script leaves out.
+    OtherEnd,
 }
 
 /// The lines of the script as far as they are found.
@@ -38,10 +58,12 @@ pub struct Script {
     items: Vec<ScriptItem>,
     /// Marks and ends that become lines if a request of the same section follows.
     pending: Vec<ScriptItem>,
-    /// By its task, the place of the last statement among the items.
+    /// By its task, how many items there are up to its last statement.
     last: BTreeMap<String, usize>,
     /// The tasks that have attached others.
     attaching: BTreeSet<String>,
+    /// The tasks whose end is a line.
+    ended: BTreeSet<String>,
 }
 
 // Returns a statement of a source as it is shown: its label, operation and operands.
@@ -71,45 +93,19 @@ fn found_at(
     })
 }
 
-// Returns the lines that some items become, but for the ends of tasks that come last.
-#[derive(Drop)]
-struct ScriptLines {
-    alloc: Global,
-    lines: Vec<FoundLine>,
-    late: Vec<FoundLine>,
-    ended: BTreeSet<String>,
+// Makes the end of a path of a task a line that is open.
+fn early_end(alloc: Global, mut found: FoundLine) -> Result<FoundLine, AllocError> {
+    let why = String::from_str(alloc, "a path of the task ends here")?;
+    found.saying = Saying::Open(OpenReason::choice(why));
+    Ok(found)
 }
 
-impl ScriptLines {
-    // Takes the end of a path of a task: the last one is a statement, the one before a later request is open.
-    fn take_end(
-        &mut self,
-        task: String,
-        found: FoundLine,
-        is_last: bool,
-        is_late: bool,
-    ) -> Result<(), AllocError> {
-        if !is_last {
-            let why = String::from_str(self.alloc, "a path of the task ends here")?;
-            self.lines.push(FoundLine {
-                saying: Saying::Open(OpenReason::choice(why)),
-                number: found.number,
-                member: found.member,
-                source: found.source,
-                in_loop: None,
-            })?;
-            return Ok(());
-        }
-        if !self.ended.insert(task)? {
-            return Ok(());
-        }
-        if is_late {
-            self.late.push(found)?;
-        } else {
-            self.lines.push(found)?;
-        }
-        Ok(())
+// Returns lines with others after them, the last of those first.
+fn joined(mut lines: Vec<FoundLine>, others: Vec<FoundLine>) -> Result<Vec<FoundLine>, AllocError> {
+    for found in others.into_iter().rev() {
+        lines.push(found)?;
     }
+    Ok(lines)
 }
 
 impl Script {
@@ -121,15 +117,28 @@ impl Script {
             pending: Vec::new(alloc),
             last: BTreeMap::new(alloc),
             attaching: BTreeSet::new(alloc),
+            ended: BTreeSet::new(alloc),
         }
     }
 
-    // Makes lines of the marks and ends that are pending.
-    fn flush(&mut self) -> Result<(), AllocError> {
+    // Makes items of the ends that are pending, and with `with_marks` of the marks too.
+    fn take_pending(&mut self, with_marks: bool) -> Result<(), AllocError> {
         let pending = mem::replace(&mut self.pending, Vec::new(self.alloc));
         for item in pending {
-            self.items.push(item)?;
+            if item.is_end || with_marks {
+                self.items.push(item)?;
+            }
         }
+        Ok(())
+    }
+
+    // Appends a line after what is pending.
+    fn put_line(&mut self, found: FoundLine) -> Result<(), AllocError> {
+        self.take_pending(true)?;
+        self.items.push(ScriptItem {
+            found,
+            is_end: false,
+        })?;
         Ok(())
     }
 
@@ -139,10 +148,8 @@ impl Script {
         statement: &SourceStatement,
         reason: OpenReason,
     ) -> Result<(), AllocError> {
-        self.flush()?;
         let found = found_at(self.alloc, statement, Saying::Open(reason))?;
-        self.items.push(ScriptItem::Line(found))?;
-        Ok(())
+        self.put_line(found)
     }
 
     /// Appends a mark that becomes a line if a request of the same section follows. It fails if memory is exhausted.
@@ -153,7 +160,10 @@ impl Script {
     ) -> Result<(), AllocError> {
         let reason = Saying::Open(OpenReason::choice(text));
         let found = found_at(self.alloc, statement, reason)?;
-        self.pending.push(ScriptItem::Line(found))?;
+        self.pending.push(ScriptItem {
+            found,
+            is_end: false,
+        })?;
         Ok(())
     }
 
@@ -165,12 +175,12 @@ impl Script {
         text: String,
         in_loop: Option<String>,
     ) -> Result<(), AllocError> {
-        self.flush()?;
         let task = String::from_str(self.alloc, task)?;
-        self.last.insert(task.clone()?, self.items.len())?;
+        let key = task.clone()?;
         let mut found = found_at(self.alloc, statement, Saying::Statement { task, text })?;
         found.in_loop = in_loop;
-        self.items.push(ScriptItem::Line(found))?;
+        self.put_line(found)?;
+        self.last.insert(key, self.items.len())?;
         Ok(())
     }
 
@@ -192,62 +202,72 @@ impl Script {
             text: String::from_str(self.alloc, text)?,
         };
         let found = found_at(self.alloc, statement, saying)?;
-        let task = String::from_str(self.alloc, task)?;
-        self.pending.push(ScriptItem::End { task, found })?;
+        self.pending.push(ScriptItem {
+            found,
+            is_end: true,
+        })?;
         Ok(())
     }
 
     /// Ends a section: marks with no request after them are left out. It fails if memory is exhausted.
     pub fn end_section(&mut self) -> Result<(), AllocError> {
-        let pending = mem::replace(&mut self.pending, Vec::new(self.alloc));
-        for item in pending {
-            match item {
-                ScriptItem::Line(_mark) => {}
-                ScriptItem::End { task, found } => self
-                    .items
-                    .push(ScriptItem::End { task, found })?,
-            }
+        self.take_pending(false)
+    }
+
+    // Returns whether a statement of a task is at a place or after it.
+    fn has_later(&self, task: &str, place: usize) -> bool {
+        match self.last.get(task) {
+            Some(count) => place < *count,
+            None => false,
         }
-        Ok(())
+    }
+
+    // Returns what becomes of the end of a path of a task at a place.
+    fn kind_of_end(
+        &mut self,
+        task: &str,
+        place: usize,
+        is_late: bool,
+    ) -> Result<ItemKind, AllocError> {
+        if self.has_later(task, place) {
+            return Ok(ItemKind::EarlyEnd);
+        }
+        if !self.ended.insert(String::from_str(self.alloc, task)?)? {
+            return Ok(ItemKind::OtherEnd);
+        }
+        if is_late && self.attaching.contains(task) {
+            return Ok(ItemKind::LateLine);
+        }
+        Ok(ItemKind::Line)
+    }
+
+    // Returns what becomes of the item at a place.
+    fn kind(
+        &mut self,
+        item: &ScriptItem,
+        place: usize,
+        is_late: bool,
+    ) -> Result<ItemKind, AllocError> {
+        match &item.found.saying {
+            Saying::Statement { task, .. } if item.is_end => self.kind_of_end(task, place, is_late),
+            Saying::Statement { .. } | Saying::Open(_) => Ok(ItemKind::Line),
+        }
     }
 
     /// Returns the lines of the script. With `is_late` a task that has attached others ends after all their lines. It fails if memory is
     /// exhausted.
-    pub fn lines(self, is_late: bool) -> Result<Vec<FoundLine>, AllocError> {
-        let Script {
-            alloc,
-            items,
-            pending: _,
-            last,
-            attaching,
-        } = self;
-        let mut lines = ScriptLines {
-            alloc,
-            lines: Vec::new(alloc),
-            late: Vec::new(alloc),
-            ended: BTreeSet::new(alloc),
-        };
+    pub fn lines(mut self, is_late: bool) -> Result<Vec<FoundLine>, AllocError> {
+        let alloc = self.alloc;
+        let items = mem::replace(&mut self.items, Vec::new(alloc));
+        let (mut lines, mut late) = (Vec::new(alloc), Vec::new(alloc));
         for (place, item) in items.into_iter().enumerate() {
-            match item {
-                ScriptItem::Line(found) => lines.lines.push(found)?,
-                ScriptItem::End { task, found } => {
-                    let is_last = match last.get(task.as_str()) {
-                        Some(last) => *last < place,
-                        None => true,
-                    };
-                    let is_late = is_late && attaching.contains(task.as_str());
-                    lines.take_end(task, found, is_last, is_late)?;
-                }
+            match self.kind(&item, place, is_late)? {
+                ItemKind::Line => lines.push(item.found)?,
+                ItemKind::LateLine => late.push(item.found)?,
+                ItemKind::EarlyEnd => lines.push(early_end(alloc, item.found)?)?,
+                ItemKind::OtherEnd => {}
             }
         }
-        let ScriptLines {
-            mut lines,
-            late,
-            ..
-        } = lines;
-        for found in late.into_iter().rev() {
-            lines.push(found)?;
-        }
-        Ok(lines)
+        joined(lines, late)
     }
 }

@@ -1,6 +1,6 @@
 //! The sections of a source, and which of them are programs of tasks.
 
-use assembler_flow::begins_section;
+use crate::layout::begins_section;
 use assembler_statements::SourceStatement;
 use assembler_symbols::Symbols;
 use std::alloc::{AllocError, Global};

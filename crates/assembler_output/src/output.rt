@@ -2,7 +2,7 @@
 
 use crate::json::Json;
 use crate::region::{LARGEST, RegionPages};
-use assembler_source::{FoundLine, Requests, Saying};
+use assembler_script::{FoundLine, Requests, Saying};
 use job_script::read_line;
 use mvs_model::line::Line;
 use std::alloc::{AllocError, Global};
@@ -111,17 +111,40 @@ fn comment(alloc: Global, found: &FoundLine, why: &str) -> Result<String, AllocE
     cut(alloc, &format!(in alloc; "*? {line}: {why}: {source}")?)
 }
 
-// What becomes of something that is found: the line of a statement, or why it needs attention.
-fn line_of(alloc: Global, found: &FoundLine) -> Result<Result<String, String>, AllocError> {
+// What becomes of something that is found: a statement of a task, with its line in the script, or why it needs attention.
+#[derive(Drop)]
+enum WrittenLine<'a> {
+    Statement {
+        task: &'a str,
+        text: &'a str,
+        line: String,
+    },
+    Open(String),
+}
+
+// What becomes of the statement of a task: a line that the script does not take needs attention.
+fn statement_of<'a>(
+    alloc: Global,
+    found: &FoundLine,
+    task: &'a str,
+    text: &'a str,
+) -> Result<WrittenLine<'a>, AllocError> {
+    let line = statement_line(alloc, found, task, text)?;
+    if is_statement(&line) {
+        return Ok(WrittenLine::Statement { task, text, line });
+    }
+    let why = format!(in alloc; "the script does not take {text}")?;
+    Ok(WrittenLine::Open(why))
+}
+
+// What becomes of something that is found.
+fn line_of(alloc: Global, found: &FoundLine) -> Result<WrittenLine<'_>, AllocError> {
     match &found.saying {
-        Saying::Statement { task, text } => {
-            let line = statement_line(alloc, found, task, text)?;
-            if is_statement(&line) {
-                return Ok(Ok(line));
-            }
-            Ok(Err(format!(in alloc; "the script does not take {text}")?))
+        Saying::Statement { task, text } => statement_of(alloc, found, task, text),
+        Saying::Open(reason) => {
+            let why = format!(in alloc; "{reason}")?;
+            Ok(WrittenLine::Open(why))
         }
-        Saying::Open(reason) => Ok(Err(format!(in alloc; "{reason}")?)),
     }
 }
 
@@ -129,23 +152,34 @@ fn line_of(alloc: Global, found: &FoundLine) -> Result<Result<String, String>, A
 fn json_of(
     alloc: Global,
     found: &FoundLine,
-    ended: &Result<String, String>,
-) -> Result<Json, AllocError> {
+    written: &WrittenLine<'_>,
+) -> Result<String, AllocError> {
     let mut json = Json::new(alloc);
     json.put("line", &source_line(alloc, found)?)?;
     json.put("source", &found.source)?;
     if let Some(label) = &found.in_loop {
         json.put("loop", label)?;
     }
-    match (ended, &found.saying) {
-        (Ok(_), Saying::Statement { task, text }) => {
+    match written {
+        WrittenLine::Statement { task, text, .. } => {
             json.put("task", task)?;
             json.put("statement", text)?;
         }
-        (Err(why), _) => json.put("attention", why)?,
-        (Ok(line), Saying::Open(_)) => json.put("statement", line)?,
+        WrittenLine::Open(why) => json.put("attention", why)?,
     }
-    Ok(json)
+    json.end()
+}
+
+// Something that is found as a line of the script.
+fn script_line(
+    alloc: Global,
+    found: &FoundLine,
+    written: WrittenLine<'_>,
+) -> Result<String, AllocError> {
+    match written {
+        WrittenLine::Statement { line, .. } => Ok(line),
+        WrittenLine::Open(why) => comment(alloc, found, &why),
+    }
 }
 
 // Writes a line.
@@ -193,16 +227,15 @@ fn put_found<W: Write>(
     found: &FoundLine,
     is_json: bool,
 ) -> Result<bool, ScriptStop> {
-    let ended = line_of(alloc, found)?;
-    if is_json {
-        put(writer, &json_of(alloc, found, &ended)?.end()?)?;
-        return Ok(ended.is_ok());
-    }
-    match &ended {
-        Ok(line) => put(writer, line)?,
-        Err(why) => put(writer, &comment(alloc, found, why)?)?,
-    }
-    Ok(ended.is_ok())
+    let written = line_of(alloc, found)?;
+    let is_open = matches!(written, WrittenLine::Open(_));
+    let line = if is_json {
+        json_of(alloc, found, &written)?
+    } else {
+        script_line(alloc, found, written)?
+    };
+    put(writer, &line)?;
+    Ok(!is_open)
 }
 
 /// Writes the script of some requests: a line for each. Lines that begin with `*?` need attention. As JSON, each request is an object,
