@@ -20,7 +20,7 @@ from cases import each, seeds, whole
 CASES = 20_000
 MOST_BYTES = 16_777_215
 CUT = [f"example {name}.job" for name in ("first", "contents", "pools", "steps")]
-MODES = ("--explain", "--json", "--json --explain", "--page", "--strict", "--interactive", "--check", "--blank", "--ask", "--assemble")
+MODES = ("--explain", "--leaks", "--json", "--json --explain", "--page", "--strict", "--interactive", "--check", "--blank", "--ask", "--assemble")
 MODES += ("--judge OUTPUT", "--place high", "--random 7 --lines 40", "--random 7 --lines 40 --profile tasks", "--help", "--version")
 OF_MODES = ("example pools.job", "script storage_a_run_is_joined_across_pages.job")
 CUT += ["script storage_a_run_is_joined_across_pages.job"]
