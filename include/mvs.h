@@ -29,7 +29,7 @@
 #include <string.h>
 
 /* The version of these calls. A program runs with a library if the thousands agree and the library's version is not less. */
-#define MVS_VERSION 2001
+#define MVS_VERSION 2003
 
 /* What comes before each declaration of a function of the library. In libmvs.a these are hidden: a plugin that contains it does not
  * export them. */
@@ -51,8 +51,8 @@ typedef enum mvs_status {
     MVS_STATUS_OVER = 24,         /* the job has ended; of a line also: there were 4,294,967,294 lines; nothing changes */
     MVS_STATUS_TOO_SMALL = 32,    /* the buffer is too small and does not change; the size that is needed is returned */
     MVS_STATUS_NO_ACCESS = 36,    /* no step runs, no byte is named, or one of them cannot be accessed (0C4) */
-    MVS_STATUS_NO_MORE = 40,      /* there is no further one */
-    MVS_STATUS_TOO_LONG = 44,     /* mvs_run: the script has more than 16,777,215 bytes */
+    MVS_STATUS_NO_MORE = 40,      /* there is none, or no further one */
+    MVS_STATUS_TOO_LONG = 44,     /* mvs_run: the script has more than 16,777,215 bytes; mvs_statement: the line is too long */
     MVS_STATUS_NO_TASK = 48,      /* mvs_subpool: no task of this name is active */
     MVS_STATUS_NO_REQUEST = 52,   /* mvs_request, mvs_list: a field is out of range; event.code is its offset */
     MVS_STATUS_NO_STEP = 56,      /* mvs_request, mvs_list: no step runs; nothing changes */
@@ -121,7 +121,8 @@ typedef enum mvs_ask_kind {
     MVS_ASK_RETURN = 9,
     MVS_ASK_ABEND = 10,        /* code */
     MVS_ASK_SHOW = 11,         /* length, 1 to 4,096, address: whether the bytes can be accessed */
-    MVS_ASK_MOVE = 12          /* length, 1 to 65,536, address, source */
+    MVS_ASK_MOVE = 12,         /* length, 1 to 65,536, address, source */
+    MVS_ASK_SYSTEM_ABEND = 13  /* code, a system code, as X'0C1': what an emulator ends a task with. No statement does this */
 } mvs_ask_kind;
 
 /* The forms of GETMAIN and FREEMAIN, and STORAGE with COND=NO and COND=YES.
@@ -165,7 +166,7 @@ typedef struct mvs_ask {
     uint32_t source;    /* where MVS_ASK_MOVE reads */
     uint32_t primary;   /* the number of cells in the first part of a pool, 1 to 65,536 */
     uint32_t secondary; /* and in each further part; 0: the same */
-    uint32_t code;      /* a user completion code, 0 to 4095 */
+    uint32_t code;      /* a user completion code, 0 to 4095; of MVS_ASK_SYSTEM_ABEND a system completion code, X'000' to X'FFF' */
     bool conditional;   /* MVS_ASK_POOL_GET: COND */
     bool keeps_zero;    /* MVS_ASK_ATTACH: SZERO=NO */
     bool above;         /* MVS_ASK_ATTACH: RES=ABOVE */
@@ -218,6 +219,98 @@ typedef struct mvs_held_run {
 } mvs_held_run;
 
 #define MVS_HELD_RUN_INIT { sizeof(mvs_held_run), 0, 0, false, 0, {0}, {0} }
+
+/* An active task, and the task that attached it: both padded with blanks. Nothing attached the job step task, so that is blank. */
+typedef struct mvs_task_line {
+    uint32_t size;
+    uint8_t name[8];
+    uint8_t mother[8];
+} mvs_task_line;
+#define MVS_TASK_LINE_INIT { sizeof(mvs_task_line), {0}, {0} }
+
+/* A cell pool: the bytes of a cell, how many parts it has, and of the part that was added last the address, the length, and how many
+ * cells it has. A pool with one part has its primary cells in that; the last one of several parts has the secondary cells. */
+typedef struct mvs_pool_line {
+    uint32_t size;
+    uint32_t cell_size;
+    uint32_t parts;
+    uint32_t address;
+    uint32_t length;
+    uint32_t cells;
+    uint32_t number;  /* the subpool of the part's first page: the number that its owner has for it */
+    uint8_t owner[8]; /* and the owner, padded with blanks */
+} mvs_pool_line;
+
+#define MVS_POOL_LINE_INIT { sizeof(mvs_pool_line), 0, 0, 0, 0, 0, 0, {0} }
+
+/* Why a request was refused, and which fields of mvs_reason each one has beside size, kind, rule and second_rule. */
+typedef enum mvs_reason_kind {
+    MVS_REASON_NOT_ACTIVE = 1,      /* the task is not active: task */
+    MVS_REASON_INVALID_NUMBER = 2,  /* a program cannot use the subpool number: number */
+    MVS_REASON_SHORTAGE = 3,        /* no place is long enough: number, length, longest, free_runs, pages_below, pages_above */
+    MVS_REASON_NO_MEMBER = 4,       /* the same of a member of a list, after grants for those before it: also member */
+    MVS_REASON_NO_PART = 5,         /* the same of a part of a cell pool: name, cells, cell_size; no number and no length */
+    MVS_REASON_OFF_DOUBLEWORD = 6,  /* a release does not begin on a doubleword: address */
+    MVS_REASON_NO_SUBPOOL = 7,      /* the task, which is another one for 131 and 132, has no such subpool: number, task */
+    MVS_REASON_NOT_HELD = 8,        /* the subpool does not hold the address: address, holder.., number, and its owner: task */
+    MVS_REASON_OVERLAP = 9,         /* two members of a list have the address: address, first_address, second_address */
+    MVS_REASON_WHOLE_OF_ZERO = 10,  /* subpool 0 is not released as a whole */
+    MVS_REASON_POOL_IN_USE = 11,    /* the pool exists: name */
+    MVS_REASON_TOO_MANY_POOLS = 12, /* there are 64 pools */
+    MVS_REASON_NO_POOL = 13,        /* there is no such pool: name */
+    MVS_REASON_NO_FREE_CELL = 14,   /* no cell is free: name */
+    MVS_REASON_NO_TAKEN_CELL = 15,  /* no allocated cell begins at the address: address, name, position, first_address */
+    MVS_REASON_TASK_IN_USE = 16,    /* the subtask is active: name */
+    MVS_REASON_TOO_MANY_TASKS = 17, /* 32 tasks are active */
+    MVS_REASON_NOT_OWNED = 18,      /* the task gives a subpool that it shares: number, and its owner: task */
+    MVS_REASON_ACTIVE_SUBTASK = 19, /* the task returns, and has an active subtask: task is the subtask */
+    MVS_REASON_ASKED = 20,          /* the task requests the abend: task */
+    MVS_REASON_NO_ACCESS = 21       /* the address cannot be accessed: address, holder.. */
+} mvs_reason_kind;
+
+/* What holds the doubleword of an address. */
+typedef enum mvs_holder {
+    MVS_HOLDER_NOBODY = 1,  /* it is free */
+    MVS_HOLDER_OUTSIDE = 2, /* it is in no region */
+    MVS_HOLDER_SUBPOOL = 3, /* a subpool, outside of cell pools: holder_number, and its owner: holder_name */
+    MVS_HOLDER_POOL = 4,    /* a part of a cell pool: holder_name */
+    MVS_HOLDER_UNOWNED = 5  /* a subpool without an owner: no statement leads to this */
+} mvs_holder;
+
+/* Where an address is, if no allocated cell of the pool begins there. */
+typedef enum mvs_position {
+    MVS_POSITION_FREE_CELL = 1, /* a free cell begins there */
+    MVS_POSITION_INSIDE = 2,    /* it is inside of the cell at first_address */
+    MVS_POSITION_NO_CELL = 3    /* it is in no cell of the pool */
+} mvs_position;
+
+/* Why a request was refused. The fields that the kind does not name are 0, and the names are blank. */
+typedef struct mvs_reason {
+    uint32_t size;
+    uint32_t kind;           /* mvs_reason_kind */
+    uint32_t rule;           /* a rule of RULES.md, and a second one, or 0 */
+    uint32_t second_rule;
+    uint32_t address;        /* the address that the reason is about */
+    uint32_t number;         /* a subpool number */
+    uint32_t length;         /* the bytes that have no place, rounded up for an area */
+    uint32_t member;         /* a member of a list, from 1 on */
+    uint32_t cells;          /* the cells of a part, and the bytes of each */
+    uint32_t cell_size;
+    uint32_t longest;        /* the largest area that has a place */
+    uint32_t free_runs;      /* in the pages of the subpool, each run in one page */
+    uint32_t pages_below;    /* that hold nothing */
+    uint32_t pages_above;
+    uint32_t first_address;  /* two members of a list; or a cell */
+    uint32_t second_address;
+    uint32_t position;       /* mvs_position */
+    uint32_t holder;         /* mvs_holder */
+    uint32_t holder_number;
+    uint8_t holder_name[8];  /* names are padded with blanks */
+    uint8_t task[8];
+    uint8_t name[8];         /* the cell pool or the subtask of the request */
+} mvs_reason;
+
+#define MVS_REASON_INIT { sizeof(mvs_reason), 0, 0, 0, 0, 0, 0, 0, 0, 0, 0, 0, 0, 0, 0, 0, 0, 0, 0, {0}, {0}, {0} }
 
 /* What REGION begins: the pages of a step, and its job step task. */
 typedef struct mvs_region {
@@ -282,6 +375,17 @@ MVS_API uint32_t mvs_end(mvs_session *session, mvs_event *event);
  * mvs_text_into, the function of the library that it calls, may not. */
 MVS_API uint32_t mvs_text_into(mvs_session *session, char *out, size_t room, size_t *wanted);
 
+/* Copies the line that says why the last request was refused, of a line or by values, to the front of a buffer of room bytes. It is the
+ * line that mvsjob --explain prints: it begins with an asterisk, names the rule, and ends with X'0A'. It has at most 240 bytes. *wanted
+ * is its length: 0 if the request was granted, after MVS_EVENT_NOT_RUN and MVS_EVENT_NO_NAME of a line, and after mvs_write and mvs_end.
+ * MVS_STATUS_OK; MVS_STATUS_TOO_SMALL; MVS_STATUS_NO_SESSION, and then *wanted does not change. The session does not change. The buffer
+ * of mvs_why may be null if room is 0; that of mvs_why_into, the function of the library that it calls, may not. */
+MVS_API uint32_t mvs_why_into(mvs_session *session, char *out, size_t room, size_t *wanted);
+
+/* Returns the same as fields. MVS_STATUS_OK; MVS_STATUS_NO_MORE if mvs_why has no line, MVS_STATUS_WRONG_SIZE or
+ * MVS_STATUS_NO_SESSION, and then *reason does not change. The session does not change. */
+MVS_API uint32_t mvs_why_fields(mvs_session *session, mvs_reason *reason);
+
 /* Copies length bytes, at least one, from an address on. MVS_STATUS_OK; MVS_STATUS_NO_ACCESS or MVS_STATUS_NO_SESSION, and then the
  * buffer does not change. */
 MVS_API uint32_t mvs_read(mvs_session *session, uint32_t address, uint8_t *out, size_t length);
@@ -309,6 +413,27 @@ MVS_API uint32_t mvs_map(mvs_session *session, uint32_t from, mvs_map_run *run);
  * there on up to the end of the run. */
 MVS_API uint32_t mvs_held(mvs_session *session, uint32_t from, mvs_held_run *run);
 
+/* Returns the cell pool of a name, which is as in mvs_ask; mvs_held returns the names of the pools. MVS_STATUS_OK; MVS_STATUS_NO_MORE if
+ * there is no such pool, MVS_STATUS_WRONG_SIZE or MVS_STATUS_NO_SESSION, and then *pool does not change. */
+MVS_API uint32_t mvs_pool(mvs_session *session, const uint8_t name[8], mvs_pool_line *pool);
+
+/* Returns the first active task whose name is after `after` in byte order. If `after` is no name, as eight blanks or zero bytes, it is
+ * the first of all; it may not be a part of *task. MVS_STATUS_OK; MVS_STATUS_NO_MORE if there is none, MVS_STATUS_WRONG_SIZE or MVS_STATUS_NO_SESSION, and then *task
+ * does not change. */
+MVS_API uint32_t mvs_next_task(mvs_session *session, const uint8_t after[8], mvs_task_line *task);
+
+/* Returns the name of the first cell pool after `after`, as mvs_next_task returns a task. `after` and `name` are not the same bytes. Where it
+ * does not return MVS_STATUS_OK, `name` does not change. */
+MVS_API uint32_t mvs_next_pool(mvs_session *session, const uint8_t after[8], uint8_t name[8]);
+
+/* Writes the statement that makes the same request to the front of a buffer of room bytes, without a newline: it has at most 240 bytes.
+ * An area or a cell that is granted gets the name `area`, which is as in mvs_ask. *wanted is the length. A release by VC or VU is written
+ * as one by EC or EU, which has the same replies, since the statement of VC takes a name only; an abend with a system code as one with
+ * the user code of the same number. MVS_STATUS_OK; MVS_STATUS_TOO_SMALL; MVS_STATUS_NO_REQUEST if a field of *ask is out of range or the
+ * area has no name, MVS_STATUS_TOO_LONG if MVS_ASK_ATTACH has too many subpools for a statement, and then *wanted does not change. No
+ * session is needed. The buffer of mvs_statement may be null if room is 0; that of mvs_statement_into may not. */
+MVS_API uint32_t mvs_statement_into(const mvs_ask *ask, const uint8_t area[8], char *out, size_t room, size_t *wanted);
+
 /* Frees a session, if there is one; then there is none. The pointer of mvs_free may be null; that of mvs_free_session, the function of
  * the library that it calls, may not. */
 MVS_API void mvs_free_session(mvs_session *session);
@@ -322,6 +447,21 @@ MVS_API uint32_t mvs_run_into(uint32_t place, const char *script, size_t length,
 static inline uint32_t mvs_text(mvs_session *session, char *out, size_t room, size_t *wanted) {
     char none = 0;
     return mvs_text_into(session, out ? out : &none, out ? room : 0, wanted);
+}
+
+static inline uint32_t mvs_why(mvs_session *session, char *out, size_t room, size_t *wanted) {
+    char none = 0;
+    return mvs_why_into(session, out ? out : &none, out ? room : 0, wanted);
+}
+
+/* Writes the statement of a request that was served, as mvs_statement_into does. An area or a cell gets a name of its address, as
+ * A0006000. */
+static inline uint32_t mvs_statement(const mvs_ask *ask, const mvs_event *event, char *out, size_t room, size_t *wanted) {
+    uint8_t area[8] = {'A'};
+    char none = 0;
+    unsigned i;
+    for (i = 1; i < 8; i++) area[i] = (uint8_t)"0123456789ABCDEF"[event->address >> 4 * (7 - i) & 15];
+    return mvs_statement_into(ask, area, out ? out : &none, out ? room : 0, wanted);
 }
 
 static inline uint32_t mvs_run(uint32_t place, const char *script, size_t length, char *out, size_t room, size_t *wanted) {
@@ -391,6 +531,34 @@ static inline const char *mvs_event_name(uint32_t kind) {
     case MVS_EVENT_STOPPED: return "STOPPED";
     case MVS_EVENT_JOB_ENDED: return "JOB_ENDED";
     case MVS_EVENT_REFUSED: return "REFUSED";
+    default: return "?";
+    }
+}
+
+/* Returns the name of the kind of a reason, as "SHORTAGE", or "?". */
+static inline const char *mvs_reason_name(uint32_t kind) {
+    switch (kind) {
+    case MVS_REASON_NOT_ACTIVE: return "NOT_ACTIVE";
+    case MVS_REASON_INVALID_NUMBER: return "INVALID_NUMBER";
+    case MVS_REASON_SHORTAGE: return "SHORTAGE";
+    case MVS_REASON_NO_MEMBER: return "NO_MEMBER";
+    case MVS_REASON_NO_PART: return "NO_PART";
+    case MVS_REASON_OFF_DOUBLEWORD: return "OFF_DOUBLEWORD";
+    case MVS_REASON_NO_SUBPOOL: return "NO_SUBPOOL";
+    case MVS_REASON_NOT_HELD: return "NOT_HELD";
+    case MVS_REASON_OVERLAP: return "OVERLAP";
+    case MVS_REASON_WHOLE_OF_ZERO: return "WHOLE_OF_ZERO";
+    case MVS_REASON_POOL_IN_USE: return "POOL_IN_USE";
+    case MVS_REASON_TOO_MANY_POOLS: return "TOO_MANY_POOLS";
+    case MVS_REASON_NO_POOL: return "NO_POOL";
+    case MVS_REASON_NO_FREE_CELL: return "NO_FREE_CELL";
+    case MVS_REASON_NO_TAKEN_CELL: return "NO_TAKEN_CELL";
+    case MVS_REASON_TASK_IN_USE: return "TASK_IN_USE";
+    case MVS_REASON_TOO_MANY_TASKS: return "TOO_MANY_TASKS";
+    case MVS_REASON_NOT_OWNED: return "NOT_OWNED";
+    case MVS_REASON_ACTIVE_SUBTASK: return "ACTIVE_SUBTASK";
+    case MVS_REASON_ASKED: return "ASKED";
+    case MVS_REASON_NO_ACCESS: return "NO_ACCESS";
     default: return "?";
     }
 }

@@ -5,6 +5,8 @@
 
 #include "mvs.h"
 
+#include <algorithm>
+#include <array>
 #include <cstddef>
 #include <cstdint>
 #include <new>
@@ -40,6 +42,15 @@ inline std::string name_of(const uint8_t (&field)[8]) {
     std::string name(reinterpret_cast<const char *>(field), 8);
     name.erase(name.find_last_not_of(' ') + 1);
     return name;
+}
+
+/* Returns the statement of a request that was served, as mvs_statement does; nothing if there is none. */
+inline std::string statement(const mvs_ask &ask, const mvs_event &event) {
+    std::string out(240, '\0');
+    size_t wanted = 0;
+    uint32_t status = mvs_statement(&ask, &event, out.data(), out.size(), &wanted);
+    out.resize(status == MVS_STATUS_OK ? wanted : 0);
+    return out;
 }
 
 class Session {
@@ -102,6 +113,22 @@ public:
         return out;
     }
 
+    /* Returns why the last request was refused, as mvsjob --explain prints it; nothing if it was granted. */
+    std::string why() {
+        std::string out(240, '\0');
+        size_t wanted = 0;
+        uint32_t status = mvs_why(&held, out.data(), out.size(), &wanted);
+        out.resize(status == MVS_STATUS_OK ? wanted : 0);
+        return out;
+    }
+
+    /* Returns the same as fields; nothing if it was granted. */
+    std::optional<mvs_reason> reason() {
+        mvs_reason found = MVS_REASON_INIT;
+        if (mvs_why_fields(&held, &found) != MVS_STATUS_OK) return std::nullopt;
+        return found;
+    }
+
     /* Returns bytes from an address on, or nothing if one of them cannot be accessed. */
     std::optional<std::vector<uint8_t>> read(uint32_t address, size_t length) {
         std::vector<uint8_t> out(length ? length : 1);
@@ -148,6 +175,31 @@ public:
         mvs_held_run run = MVS_HELD_RUN_INIT;
         for (uint32_t from = 0; mvs_held(&held, from, &run) == MVS_STATUS_OK; from = run.address + run.length) runs.push_back(run);
         return runs;
+    }
+
+    /* Returns the active tasks, in the byte order of their names. */
+    std::vector<mvs_task_line> tasks() {
+        std::vector<mvs_task_line> lines;
+        mvs_task_line line = MVS_TASK_LINE_INIT;
+        for (uint8_t after[8] = {}; mvs_next_task(&held, after, &line) == MVS_STATUS_OK; std::copy_n(line.name, 8, after)) lines.push_back(line);
+        return lines;
+    }
+
+    /* Returns the names of the cell pools, in byte order and padded with blanks. */
+    std::vector<std::array<uint8_t, 8>> pools() {
+        std::vector<std::array<uint8_t, 8>> names;
+        std::array<uint8_t, 8> after{}, name{};
+        for (; mvs_next_pool(&held, after.data(), name.data()) == MVS_STATUS_OK; after = name) names.push_back(name);
+        return names;
+    }
+
+    /* Returns the cell pool of a name; nothing if there is none. */
+    std::optional<mvs_pool_line> pool(std::string_view name) {
+        mvs_pool_line found = MVS_POOL_LINE_INIT;
+        uint8_t field[8];
+        mvs_name(field, std::string(name).c_str());
+        if (mvs_pool(&held, field, &found) != MVS_STATUS_OK) return std::nullopt;
+        return found;
     }
 
     /* The session for the functions of mvs.h. */

@@ -241,14 +241,12 @@ static inline mvs_svc_result mvs_svc_list_form(mvs_svc_call *call, uint32_t kind
     return kind == MVS_ASK_OBTAIN ? mvs_svc_obtain(call, first, field, ask) : mvs_svc_release(call, first, field, ask);
 }
 
-/* SVC 13. A system code cannot be requested: the task ends with the user code of the same number, and event.code has the system code. */
+/* SVC 13. */
 static inline mvs_svc_result mvs_svc_abend(mvs_svc_call *call) {
     uint32_t system = call->registers[1] >> 12 & 0xFFF, user = call->registers[1] & 0xFFF;
-    mvs_ask ask = mvs_svc_ask(call, MVS_ASK_ABEND, 0, 0);
+    mvs_ask ask = mvs_svc_ask(call, system ? MVS_ASK_SYSTEM_ABEND : MVS_ASK_ABEND, 0, 0);
     ask.code = system ? system : user;
-    mvs_svc_result result = mvs_svc_request(call, &ask);
-    if (system && call->event.kind == MVS_EVENT_ABENDED) call->event.code = system << 12;
-    return result;
+    return mvs_svc_request(call, &ask);
 }
 
 /* Makes the request of ATTACH for a subtask: given and shared have a bit for each subpool number, 1 to 127, the lower 64 first. */

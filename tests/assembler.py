@@ -134,16 +134,10 @@ def leaks(statements):
     return {name: length for name, (_, length) in held(statements).items()}
 
 
-def left_at_the_end(statements):
-    """The areas that a script does not release, but for those in subpool 0 of a subtask, which its end frees."""
-    first = statements[0].split()[0]
-    return sorted(name for name, (where, length) in held(statements).items() if length and where[0] in ("", first))
-
-
 def never_released(program, statements):
-    """The areas that `--leaks` reports."""
+    """The areas and cell pools that `--leaks` reports."""
     printed = run_script(program, "\n".join(statements) + "\n", "--leaks")
-    return sorted(re.findall(r"(?m)^\* (\w+): [0-9 of]+ bytes at ", printed))
+    return sorted(re.findall(r"(?m)^\* (?:Pool )?(\w+): [0-9 of]+ bytes", printed))
 
 
 def reported(program, statements):
@@ -161,7 +155,7 @@ def is_marked(line, source):
 
 
 def is_program_said(program, path):
-    """Whether the script of a program is the one beside it, runs, and leaks what the program says."""
+    """Whether the script of a program of 100 lines or more is the one beside it, runs, and leaks what the program says."""
     script, _, status = convert(path.read_bytes(), *head(path, "OPTIONS"), folder=path.parent)
     lines, expected = lines_of(script), path.with_suffix(".job").read_text().splitlines()
     same = len(lines) == len(expected) and all(
@@ -170,8 +164,9 @@ def is_program_said(program, path):
     statements = [line for line in lines if not line.startswith("*?")]
     lost = leaks(statements)
     owned, well = reported(program, statements)
-    found = never_released(program, statements) == left_at_the_end(statements)
-    return same and status == 0 and well and found and sorted(lost) == sorted(head(path, "LEAK")) and owned == sum(lost.values())
+    found = never_released(program, statements) == sorted(lost) == sorted(head(path, "LEAK"))
+    is_long = 100 <= len(path.read_text().splitlines()) <= 400
+    return same and status == 0 and well and found and owned == sum(lost.values()) and is_long
 
 
 def is_script(program, script):
@@ -451,6 +446,13 @@ SUB      LTR   1,1
          GETMAIN R,LV=8
          BR    10
 """
+MAY_END = """PROG     CSECT
+         GETMAIN R,LV=8
+         LTR   15,15
+         BER   14
+         GETMAIN R,LV=16
+         BR    14
+"""
 RELATIVE = """PROG     CSECT
          GETMAIN RC,LV=8
          LTR   15,15
@@ -495,6 +497,12 @@ def of_branches():
     yield "a routine in a loop that is repeated", "in loop" not in convert(CALLED_IN_LOOP.encode(), "--repeat", "NEXT=2")[0]
     yield "a return that is taken", written_lengths(MAY_RETURN, "--path", "AFTER") == (["16"], [])
     yield "a return that is not taken", written_lengths(MAY_RETURN, "--path", "SUB") == (["8", "16"], [])
+    yield "a return of the task that is taken", written_lengths(MAY_END, "--path", "END") == (["8"], [])
+    yield "a return of the task that is not taken", written_lengths(MAY_END, "--path", "5") == (["8", "16"], [])
+    without = MAY_END.replace("BER   14", "NOP   0")
+    yield "no such return", written_lengths(without, "--path", "END")[1] == ["*? 6: the path does not come to a conditional return of the task"]
+    labelled = MAY_END.replace("         GETMAIN R,LV=16", "END      GETMAIN R,LV=16")
+    yield "a label END", written_lengths(labelled, "--path", "END") == (["8", "16"], [])
     yield "*+8 that is taken", written_lengths(RELATIVE, "--path", "6") == (["8", "16"], [])
     yield "*+8 that is not taken", written_lengths(RELATIVE, "--path", "NONE") == (["8"], [])
     marks = ["*? 4: a branch, on to line 5 or to *+8 in line 6", "*? 5: a branch to NONE in line 8"]
@@ -510,8 +518,24 @@ def of_branches():
     yield "a table of branches without a path", written_lengths(TABLE)[1][0] == "*? 3: a branch to an address that is not known"
 
 
+def reasons():
+    """The reasons for which a line needs attention, as the sources of the converter have them: each up to what depends on the line."""
+    read = lambda name: (TOP / f"crates/assembler_{name}.rt").read_text()  # noqa: E731
+    causes = re.search(r"fn text\(.*?\n    }", read("operands/src/reason"), re.S)[0]
+    yield from (text.removeprefix(": ").strip() for text in re.findall(r'=> "([^"]+)"', causes))
+    walk = "".join(read(f"source/src/{name}") for name in ("calls", "ends", "walk"))
+    yield from re.findall(r'"((?:a|the) [a-z][^"]+)"', walk)
+    yield re.search(r'"(a path[^"]*)"', read("script/src/script"))[1]
+    yield "the script does not take"
+    for text in re.findall(r'in alloc;\s*"((?:a|the) [^"]+)"', read("script/src/marks")):
+        yield from (part.strip(" ()") for part in re.split(r"\{\w+\}|in line|or$|on$|=N", text) if len(part) > 12)
+
+
 def of_help():
-    """The help beside its copy, and each option in the other places that name it."""
+    """The help beside its copy, each option in the other places that name it, and each reason in docs/FROM-ASSEMBLER.md."""
+    document = (TOP / "docs/FROM-ASSEMBLER.md").read_text()
+    for reason in sorted(set(reasons())):
+        yield f"{reason} in FROM-ASSEMBLER.md", reason in document
     shown = subprocess.run([CONVERTER, "--help"], capture_output=True, text=True, timeout=600).stdout
     kept = (TOP / "tools/help-asm.txt").read_text()
     yield "tools/help-asm.txt", shown.replace(f"Usage: {CONVERTER.name} ", "Usage: mvsjob-asm ") == kept

@@ -11,7 +11,8 @@ from pathlib import Path
 
 PATIENCE = 600  # seconds
 NAMES = ("chromium", "chromium-browser", "google-chrome")
-KEYS = {"ArrowRight": 39, "ArrowLeft": 37, "Home": 36, "End": 35, "PageDown": 34, "a": 65, "r": 82}
+KEYS = {"ArrowRight": 39, "ArrowLeft": 37, "Home": 36, "End": 35, "PageDown": 34, "Enter": 13, "Escape": 27, "/": 191, "?": 191}
+KEYS |= {letter: ord(letter.upper()) for letter in "abdemnrstzDMNRST"}
 
 
 def found():
@@ -105,6 +106,28 @@ class Browser:
         code = KEYS[key]
         for kind in ("keyDown", "keyUp"):
             self.call("Input.dispatchKeyEvent", type=kind, key=key, windowsVirtualKeyCode=code)
+
+    def type(self, text):
+        """Types a text into the element that has the focus."""
+        self.call("Input.insertText", text=text)
+
+    def click(self, selector):
+        """Clicks the middle of the first element of a selector, with the mouse."""
+        place = self.tell(f"""(function(){{var e=document.querySelector({json.dumps(selector)});e.scrollIntoView({{block:"center"}});
+          var b=e.getBoundingClientRect();return[b.x+b.width/2,b.y+b.height/2]}})()""")
+        self.click_at(*place)
+
+    def click_at(self, x, y):
+        for kind in ("mousePressed", "mouseReleased"):
+            self.call("Input.dispatchMouseEvent", type=kind, x=x, y=y, button="left", clickCount=1)
+
+    def size(self, width, height):
+        """Gives the page a size."""
+        self.call("Emulation.setDeviceMetricsOverride", width=width, height=height, deviceScaleFactor=1, mobile=False)
+
+    def printed(self):
+        """The page on paper, as PDF in base 64."""
+        return self.call("Page.printToPDF", printBackground=True)["data"]
 
     def scripts(self, on):
         self.call("Emulation.setScriptExecutionDisabled", value=not on)

@@ -52,15 +52,15 @@ def whole(results, *given):
     return Whole(results, given)
 
 
-def timed(found):
-    """What an iterator gives, and the seconds that it took."""
+def timed(call):
+    """What a function gives one by one, and the seconds that it took. It may also give a list, which it has made before it returns."""
     begun = time.monotonic()
-    return list(found), time.monotonic() - begun
+    return list(call()), time.monotonic() - begun
 
 
 def try_each(holds, cases, names):
-    return timed((name, holds(case)) for name, case in zip(names, cases))
+    return timed(lambda: ((name, holds(case)) for name, case in zip(names, cases)))
 
 
 def try_whole(results, words):
-    return timed(results(*words))
+    return timed(lambda: results(*words))

@@ -52,4 +52,7 @@ def made(folder):
     if why is not None:
         return why
     ran = subprocess.run(["debootstrap", "--variant=minbase", f"--include={INCLUDED}", SUITE, folder, MIRROR], capture_output=True, text=True)
-    return Machine(folder) if ran.returncode == 0 else Lacking("a mirror of Debian")
+    if ran.returncode:
+        return Lacking("a mirror of Debian")
+    (Path(folder) / "etc/hosts").write_text("127.0.0.1 localhost\n")  # as every machine has it; else a package that is installed makes one
+    return Machine(folder)

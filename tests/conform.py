@@ -101,7 +101,7 @@ def found(conform):
     line = next((line for line in out.splitlines() if line.startswith("rule 28: ")), "")
     yield "the sentence of a rule", status == 1 and line.endswith(f" failed: {sentence(28)}")
     yield "a script that is shown", out.count("REFUSED\n    JOB REGION ") == 1
-    status, out, _ = conform.run(conform.command("late", "sleep 9"), "--rule", "72", "--timeout", "1", "--jobs", "9")
+    status, out, _ = conform.run(conform.command("late", "exec sleep 600"), "--rule", "72", "--timeout", "1", "--jobs", "9")
     yield "too late", status == 1 and "NO OUTPUT\n" in out and "    the command did not end within 1 seconds\n" in out
     status, out, _ = conform.run(conform.command("silent", ":"), "--rule", "72", "--shown", "0")
     yield "silent", status == 1 and re.fullmatch(r"rule 72: 0 passed, \d+ failed: .*\n\d+ REFUSED\n0 passed, \d+ failed\n", out) is not None

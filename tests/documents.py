@@ -19,7 +19,7 @@ from cases import Lacking
 TOP = Path(__file__).resolve().parent.parent
 LINK = re.compile(r"\]\((?!https?:)([^)#\s]*)(#[^)\s]*)?\)")
 HTML_LINK = re.compile(r'(?:href|src)="(?!\w+:)([^"#]*)(#[^"]*)?"')
-PROGRAMS = ("mvsjob", "mvsjob_asm", "mvs_c")
+PROGRAMS = ("mvsjob", "mvsjob_asm", "mvsjob_lsp", "mvs_c")
 # Libraries of the kit that are no port, and that each crate has: one row of THIRD_PARTY.md names all of them.
 OWN = {"core", "std", "std_alloc", "std_heap", "std_collections", "std_io", "io", "os", "libc"}
 
@@ -70,6 +70,12 @@ def converter_naming():
     yield from completed("mvsjob-asm")
 
 
+def server_naming():
+    """The same for mvsjob-lsp."""
+    yield "EDITORS.md", options((TOP / "docs/EDITORS.md").read_text()) | {"--help", "--version"}
+    yield from completed("mvsjob-lsp")
+
+
 def conform_naming():
     """The same for mvsjob-conform."""
     yield "CONFORMANCE.md", options((TOP / "docs/CONFORMANCE.md").read_text()) | {"--help", "--version"}
@@ -81,6 +87,7 @@ def versions():
     yield "tools/version", subprocess.check_output([TOP / "tools/version"], text=True).split()[1]
     yield "mvsjob", subprocess.check_output([TOP / "crates/mvsjob/out/mvsjob", "--version"], text=True).split()[1]
     yield "mvsjob-asm", subprocess.check_output([TOP / "crates/mvsjob_asm/out/mvsjob_asm", "--version"], text=True).split()[1]
+    yield "mvsjob-lsp", subprocess.check_output([TOP / "crates/mvsjob_lsp/out/mvsjob_lsp", "--version"], text=True).split()[1]
     yield "mvsjob-conform", subprocess.check_output([TOP / "conformance/mvsjob-conform", "--version"], text=True).split()[1]
 
 
@@ -168,6 +175,9 @@ def results():
         wanted = options((TOP / "tools/help-asm.txt").read_text())
         for place, found in converter_naming():
             yield from ((f"mvsjob-asm {option} in {place}", option in found) for option in sorted(wanted))
+        wanted = options((TOP / "tools/help-lsp.txt").read_text())
+        for place, found in server_naming():
+            yield from ((f"mvsjob-lsp {option} in {place}", option in found) for option in sorted(wanted))
         wanted = options(subprocess.check_output([TOP / "conformance/mvsjob-conform", "--help"], text=True))
         for place, found in conform_naming():
             yield from ((f"{option} in {place}", option in found) for option in sorted(wanted))

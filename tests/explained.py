@@ -1,5 +1,5 @@
 """`--explain`: scripts whose whole output is known, random ones, facts beside those of the plain machine, the texts and rules of
-docs/EXPLAIN.md, and the cost."""
+docs/EXPLAIN.md and docs/LEAKS.md, and the cost."""
 
 import re
 import resource
@@ -8,6 +8,7 @@ from functools import partial
 from pathlib import Path
 
 import plain_facts
+import plain_histories
 import plain_shortages
 import random_scripts
 from cases import each, seeds, whole
@@ -17,6 +18,7 @@ REASONS = TOP / "tests/reasons"
 PROFILES = ["storage", "tasks", "pools", "tidy", "faults"]
 RANDOM_SCRIPTS = 5000
 FACT_SCRIPTS = 1000
+HISTORY_SCRIPTS = 5000
 WANTING_SCRIPTS = 600
 
 
@@ -70,15 +72,33 @@ def as_wanting(program, seed):
     return plain_shortages.of(explained) == list(plain_shortages.told(script.splitlines(), placement))
 
 
+def as_history(program, seed):
+    """Whether what the history of the storage says in a random script is what the plain machine has."""
+    placement = "high" if seed % 2 else "low"
+    kind = ("storage", "pools", "anything")[seed % 3]
+    script = getattr(random_scripts, kind)(seed, False).text()
+    printed, _, status = called(program, script.encode(), "--explain", "--place", placement)
+    return status == 12 or plain_histories.is_as_plain(printed.decode(), script.splitlines(), placement)
+
+
 def starred():
     """The lines with a reason of all scripts that are known."""
     return [line for path in known() for line in path.with_suffix(".why").read_text().splitlines() if line.startswith("*")]
 
 
+# What two of the words between underscores stand for.
+LONG_WORDS = {
+    "_room_": r"the largest area that fits has \d+ bytes; free runs: \d+; free pages: \d+ below, \d+ above",
+    "_area_": r"\S+: (?:\d+ of )?\d+ bytes at [0-9A-F]{8} in SP \d+ of \S+, obtained by \S+ in line \d+",
+}
+
+
 def rows():
-    """The texts of docs/EXPLAIN.md, as patterns: a word between underscores is a place to fill in."""
-    texts = re.findall(r"^\|[^|]*\| `(\* [^`]*)` \|$", (TOP / "docs/EXPLAIN.md").read_text(), re.M)
-    return {text: re.compile(re.sub(r"_[a-z]+_", ".+", re.escape(text).replace(r"\_", "_"))) for text in texts}
+    """The texts of docs/EXPLAIN.md and docs/LEAKS.md, as patterns: a word between underscores is a place to fill in."""
+    pages = "".join((TOP / f"docs/{name}.md").read_text() for name in ("EXPLAIN", "LEAKS"))
+    texts = re.findall(r"^\|[^|]*\| `(\* [^`]*)` \|$", pages, re.M)
+    escaped = {text: re.escape(text).replace(r"\_", "_") for text in texts}
+    return {text: re.compile(re.sub(r"_[a-z]+_", lambda it: LONG_WORDS.get(it[0], ".+"), line)) for text, line in escaped.items()}
 
 
 def texts():
@@ -89,7 +109,8 @@ def texts():
         yield f"text {text}", any(pattern.fullmatch(line) for line in lines)
     for line in sorted(set(lines)):
         cited = {int(number) for number in re.findall(r"\d+", line.rpartition("(rule")[2])}
-        yield f"line {line}", any(pattern.fullmatch(line) for pattern in patterns.values()) and cited and cited <= rules
+        of_history = plain_histories.FOUND.fullmatch(line) is not None
+        yield f"line {line}", any(pattern.fullmatch(line) for pattern in patterns.values()) and (of_history or cited and cited <= rules)
 
 
 def used():
@@ -98,20 +119,66 @@ def used():
     return times.ru_utime + times.ru_stime
 
 
-def quick_enough(program):
-    """Whether a long script takes at most five times as long with reasons."""
-    script = called(program, b"", "--random", "1", "--lines", "100000")[0]
+def least_times(program, *runs):
+    """The least processor time of each run, a script and options. They are made in turn, so that a busy machine slows all."""
 
-    def seconds(*words):
+    def seconds(script, *words):
         before = used()
         called(program, script, *words)
         return used() - before
 
-    return min(seconds("--explain") for _ in range(3)) <= 5 * min(seconds() for _ in range(3))
+    return [min(times) for times in zip(*([seconds(*run) for run in runs] for _ in range(7)), strict=True)]
+
+
+def shortages(rounds):
+    """Areas that are held, and requests that are refused, since too little is free, between areas that come and go."""
+    yield "JOB REGION BELOW=128"
+    yield from (f"JOB GETMAIN RC,LV=4096,A=A{i}" for i in range(100))
+    for i in range(rounds):
+        yield f"JOB GETMAIN RC,LV={8 + i % 100 * 8},A=X"
+        yield "JOB GETMAIN RC,LV=200000,A=Y"
+        yield f"JOB FREEMAIN RC,LV={8 + i % 100 * 8},A=X"
+
+
+def double_frees(rounds):
+    """Areas that are all released before each is released again, at the same addresses in each round."""
+    yield "JOB REGION BELOW=128"
+    for _ in range(rounds):
+        yield from (f"JOB GETMAIN RC,LV=8,A=A{i}" for i in range(10))
+        yield from (f"JOB FREEMAIN RC,LV=8,A=A{i}" for i in range(10))
+        yield from (f"JOB FREEMAIN RC,LV=8,A=A{i}" for i in range(10))
+
+
+def double_frees_of_tasks(rounds):
+    """Areas of tasks that end, which are then released again."""
+    yield "JOB REGION BELOW=64"
+    for _ in range(rounds):
+        yield "JOB ATTACH TASK=T"
+        yield "T GETMAIN RC,LV=8,A=A,SP=5"
+        yield "T RETURN"
+        yield "JOB FREEMAIN RC,LV=8,A=A"
+
+
+# Scripts of many refusals about which the history is asked, and how many rounds each has.
+REFUSALS = {shortages: 1000, double_frees: 1000, double_frees_of_tasks: 5000}
+
+
+def grown(program, lines, rounds):
+    """Whether four times the rounds take at most six times as long."""
+    short, long = ("".join(f"{line}\n" for line in lines(count)).encode() for count in (rounds, 4 * rounds))
+    one, four = least_times(program, (short, "--explain"), (long, "--explain"))
+    return four <= 6 * one
 
 
 def cost(program):
-    yield "long script", quick_enough(program)
+    """Whether explanations take at most seven times as long as a plain run (about four on a quiet machine), and grow with the lines."""
+    script = called(program, b"", "--random", "1", "--lines", "100000")[0]
+    quarter = b"".join(script.splitlines(keepends=True)[:25000])
+    plain, explained, shorter = least_times(program, (script,), (script, "--explain"), (quarter, "--explain"))
+    yield "long script", explained <= 7 * plain
+    yield "growth", explained <= 6 * shorter
+    for lines, rounds in REFUSALS.items():
+        yield lines.__name__.replace("_", " "), grown(program, lines, rounds)
 
 
 # The second line is refused, the third is not executed, and the last has a fault.
@@ -150,6 +217,7 @@ def groups(program):
     yield "explained scripts", each(partial(as_known, program), known())
     yield "explained random scripts", each(partial(same_bytes, program), seeds(RANDOM_SCRIPTS), str, chunksize=20)
     yield "facts of random scripts", each(partial(as_plain, program), seeds(FACT_SCRIPTS), str, chunksize=10)
+    yield "histories of random scripts", each(partial(as_history, program), seeds(HISTORY_SCRIPTS), str, chunksize=20)
     yield "wants of random scripts", each(partial(as_wanting, program), seeds(WANTING_SCRIPTS), str, chunksize=5)
     yield "texts of reasons", whole(texts)
     yield "cost of reasons", whole(cost, program)

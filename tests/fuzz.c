@@ -196,6 +196,22 @@ static void text(player *p) {
     free(out);
 }
 
+static void why(player *p) {
+    size_t room = byte(), wanted = 0x1234;
+    char *out = block(room, 7);
+    uint32_t status = mvs_why(&p->session, out, room, &wanted);
+    MUST((status == MVS_STATUS_NO_SESSION) == !p->is_there);
+    if (status == MVS_STATUS_OK) MUST(wanted <= room && wanted <= 240 && is_filled((uint8_t *)out, wanted, room, 7));
+    else MUST(is_filled((uint8_t *)out, 0, room, 7) && (status == MVS_STATUS_TOO_SMALL ? wanted > room : wanted == 0x1234));
+    if (status == MVS_STATUS_OK && wanted) MUST(out[0] == '*' && out[wanted - 1] == '\n');
+    mvs_reason reason = MVS_REASON_INIT;
+    uint32_t found = mvs_why_fields(&p->session, &reason);
+    MUST((found == MVS_STATUS_NO_SESSION) == !p->is_there);
+    if (found == MVS_STATUS_OK) MUST(mvs_reason_name(reason.kind)[0] != '?' && reason.rule && wanted > 0);
+    if (found == MVS_STATUS_NO_MORE) MUST(!wanted && !reason.kind);
+    free(out);
+}
+
 static void bytes(player *p) {
     size_t length = byte();
     uint8_t *at = block(length, 3);
@@ -225,6 +241,20 @@ static void reports(player *p) {
     status = mvs_held(&p->session, from = (uint32_t)byte() << 18, &held);
     MUST((status == MVS_STATUS_NO_SESSION) == !p->is_there);
     if (status == MVS_STATUS_OK) MUST(held.length && held.length % 8 == 0 && held.address % 8 == 0 && held.address >= from);
+    mvs_pool_line pool = MVS_POOL_LINE_INIT;
+    name(field);
+    status = mvs_pool(&p->session, field, &pool);
+    MUST((status == MVS_STATUS_NO_SESSION) == !p->is_there);
+    if (status == MVS_STATUS_OK) MUST(pool.parts && pool.cells && pool.cell_size && pool.length >= pool.cells * pool.cell_size && pool.address % 8 == 0);
+    mvs_task_line task = MVS_TASK_LINE_INIT;
+    uint8_t pool_name[8];
+    name(field);
+    status = mvs_next_task(&p->session, field, &task);
+    MUST((status == MVS_STATUS_NO_SESSION) == !p->is_there);
+    if (status == MVS_STATUS_OK) MUST(task.name[0] > 0x20 && task.mother[0] >= 0x20);
+    status = mvs_next_pool(&p->session, field, pool_name);
+    MUST((status == MVS_STATUS_NO_SESSION) == !p->is_there);
+    if (status == MVS_STATUS_OK) MUST(pool_name[0] > 0x20 && mvs_pool(&p->session, pool_name, &pool) == MVS_STATUS_OK);
     status = mvs_fallen(&p->session, byte() < 9 ? (size_t)-1 : byte() % 40, fallen);
     MUST((status == MVS_STATUS_NO_SESSION) == !p->is_there);
 }
@@ -255,7 +285,7 @@ static void run(player *p) {
 }
 
 int LLVMFuzzerTestOneInput(const uint8_t *data, size_t size) {
-    static void (*const calls[])(player *) = {say, say, say, request, request, request, request, list, region, text, bytes, reports, end, run};
+    static void (*const calls[])(player *) = {say, say, say, request, request, request, request, list, region, text, why, bytes, reports, end, run};
     player players[2] = {{MVS_SESSION_INIT, false}, {MVS_SESSION_INIT, false}};
     input = data, left = size;
     while (left) {

@@ -2,7 +2,8 @@
 """gate.py: the gate itself. In a copy of some of the repository each plant makes it fail, and without a plant it passes.
 
 `tools/ci`: over a copy of two small crates, as `rt ci` proves them and tries their edits; and over a command in the role of `rt`, which prints what
-that would print. `tools/wrong_bodies`: over the same copy. `tests/run`: over a copy of the tests and the program. Last line: 'N passed, M failed'.
+that would print. `tools/wrong_bodies`: over the same copy. `tests/run`: over a copy of the tests and the program. `./test`: over small commands in
+the roles of its parts. Last line: 'N passed, M failed'.
 """
 
 import os
@@ -60,6 +61,13 @@ def results(program):
     yield "tried", True
     yield "not tried", Lacking("a tool of this name")
 """
+# Groups that do not come to their end.
+STOPPING = {
+    "a group raises": 'def results(program):\n    raise ValueError("no results")\n',
+    "a group exits": "import sys\n\n\ndef results(program):\n    sys.exit(0)\n",
+    "a worker dies": "import os\n\n\ndef results(program):\n    os._exit(0)\n",
+}
+WRONG_CODE = ("number / unit * unit", "number / unit * unit / 2")
 STAND_IN = '#!/bin/sh\ncat "$(dirname "$0")/said"\nexit $(cat "$(dirname "$0")/status")\n'
 REFUSED = "rt: must-fail toy/one.edit: refused, as it must be: note: src/lib.rt:1:1: it is not proved\n"
 AT_LIMIT = "rt: must-fail toy/one.edit: refused, as it must be (only by a limit of the prover, which gave no verdict): error\n"
@@ -68,6 +76,10 @@ BAD = "rt: must-fail toy/one.edit: BAD EDIT: an 'old:' text is in src/lib.rt 0 t
 MISPLACED = "rt: crates/toy/must-fail/deep: BAD EDIT: an edit stands right in must-fail/\n"
 KEPT = "rt: toy: 1 of its 1 must-fail edits were tried by an earlier run on this machine\n"
 WELL = "2 passed, 0 failed\n"
+# The parts of ./test, and the commands that it asks for and that it uses.
+GATE = ("tools/ci", "tools/wrong_bodies", "tests/gate.py", "tests/run")
+NEEDED = ("rt", "python3", "cc", "dpkg-deb", "strip", "objdump", "objcopy", "man", "chromium")
+USED = ("awk", "bash", "cat", "dirname", "env", "grep", "mkdir", "mktemp", "nproc", "rm", "sh", "sort", "tail", "tee")
 
 
 def called(*words, **how):
@@ -77,6 +89,45 @@ def called(*words, **how):
 
 def last(printed):
     return printed.splitlines()[-1] if printed else ""
+
+
+# ---- ./test over commands in the roles of its parts
+
+
+def of_parts(folder, missing=(), **changed):
+    """What ./test makes of its parts, each of which prints a text and ends with a status, where some commands are missing."""
+    shutil.rmtree(folder, ignore_errors=True)
+    for name in ("tools", "tests", "bin"):
+        (folder / name).mkdir(parents=True)
+    shutil.copy(TOP / "test", folder)
+    for name in USED:
+        (folder / "bin" / name).symlink_to(shutil.which(name))
+    # There is no apt, so nothing is installed.
+    commands = {f"bin/{name}": ("", 1) for name in NEEDED if name not in missing}
+    commands |= {name: changed.get(name.partition("/")[2].partition(".")[0], (WELL, 0)) for name in GATE}
+    for name, (said, status) in commands.items():
+        (folder / name).write_text(f"#!/bin/sh\ncat << 'END'\n{said}END\nexit {status}\n")
+        (folder / name).chmod(0o755)
+    return called(folder / "test", env={"PATH": f"{folder}/bin", "TMPDIR": str(folder)})
+
+
+def parts_fail(folder):
+    """./test with a fault in one of its parts."""
+    status, printed = of_parts(folder)
+    yield "parts", (status, last(printed)) == (0, "8 passed, 0 failed")
+    for name in ("ci", "wrong_bodies", "gate", "run"):
+        fails = lambda said, status, name=name: of_parts(folder, **{name: (said, status)})  # noqa: E731
+        found = {"a failure": fails("1 passed, 1 failed\n", 1), "no sum": fails("note: it stops\n", 0), "a status": fails(WELL, 2)}
+        for what, (status, printed) in found.items():
+            yield f"{what} of {name}", status == 1 and last(printed).endswith(" passed, 1 failed")
+    _, printed = of_parts(folder, run=("FAILED: a case\n1 passed, 1 failed\n", 1))
+    yield "a failure once more", printed.count("FAILED: a case\n") == 2
+    for name in NEEDED:
+        status, printed = of_parts(folder, (name,))
+        yield f"no command {name}", (status, last(printed)) == (1, "8 passed, 1 failed")
+    times = "time:    20.5 s  a crate\n", "time:     3.0 s  a group\n"
+    _, printed = of_parts(folder, run=(times[1] + times[0] + WELL, 0), ci=("time:    12.0 s  a proof\n" + WELL, 0))
+    yield "times", re.findall(r"(?m)^time: .* (\w+)$", printed) == ["crate", "proof", "group"]
 
 
 # ---- tools/ci over a command in the role of rt
@@ -129,6 +180,15 @@ def copied(folder):
     return folder
 
 
+def planted_fault(folder):
+    """A crate whose code does not meet its contract."""
+    copied(folder)
+    text = (folder / LIB).read_text()
+    (folder / LIB).write_text(text.replace(*WRONG_CODE))
+    status, printed = called(folder / "tools/ci", "boundary_loc")
+    yield "a wrong body in a crate", text.count(WRONG_CODE[0]) == 1 and status == 1 and "boundary_loc NOT PROVED" in printed
+
+
 def planted_edits(folder):
     """Edits of must-fail/ that show nothing."""
     copied(folder)
@@ -153,6 +213,9 @@ def planted_wrong_bodies(folder):
     status, printed = called(folder / "tools/wrong_bodies")
     for name, (_, said) in PLANTED.items():
         yield f"planted {name}", status == 1 and said in printed
+    (folder / LIB).write_text((folder / LIB).read_text().replace(*WRONG_CODE))
+    status, printed = called(folder / "tools/wrong_bodies", "boundary_loc")
+    yield "wrong bodies of a crate that is not proved", status == 1 and ": not tried: what it is in is not proved as it is" in printed
 
 
 # ---- tests/run
@@ -187,14 +250,18 @@ def tests_fail(folder):
     counts.write_text(re.sub(r"(?m)^\d+ strict$", "2 strict", counts.read_text()))
     (folder / "tests/strict.py").write_text(LACKS)
     status, printed = run("strict")
-    told = "\nnot tried: 1 cases, for want of a tool of this name\n1 passed, 0 failed\n"
+    told = "\nnot tried: strict not tried (a tool of this name)\nnot tried: 1 cases, for want of a tool of this name\n1 passed, 0 failed\n"
     yield "a tool is missing", status == 0 and printed.endswith(told)
+    for what, text in STOPPING.items():
+        (folder / "tests/strict.py").write_text(text)
+        status, printed = run("strict")
+        yield what, status == 1 and not last(printed).endswith(" 0 failed")
     (made / "mvsjob").unlink()
     (made / "mvsjob.by-rattle").unlink()
     yield "no program", last(run("scripts")[1]) == "0 passed, 1 failed"
 
 
-PARTS = (stand_ins, tests_fail, planted_edits, planted_wrong_bodies)
+PARTS = (parts_fail, stand_ins, tests_fail, planted_fault, planted_edits, planted_wrong_bodies)
 
 
 def tried(room, part):
@@ -209,7 +276,7 @@ def main():
     with tempfile.TemporaryDirectory(prefix="gate-") as name, ThreadPoolExecutor(len(PARTS)) as pool:
         for cases in pool.map(partial(tried, Path(name)), PARTS):
             for case, well in cases:
-                print(f"gate: {case}: {'passed' if well else 'FAILED'}", flush=True)
+                print(f"{'' if well else 'FAILED: '}gate: {case}{': passed' if well else ''}", flush=True)
                 found.append(well)
     print(f"{sum(found)} passed, {len(found) - sum(found)} failed")
     return 1 if not all(found) else 0

@@ -24,7 +24,7 @@ with mvs.Session() as session:
     session.line("JOB REGION BELOW=1")
     print(session.line("JOB GETMAIN R,LV=8,A=X").kind.name, session.text(), end="")
 """
-PAGES = ("1/mvsjob.1", "1/mvsjob-asm.1", "1/mvsjob-conform.1", "5/mvsjob-script.5", "7/mvsjob-sheet.7")
+PAGES = ("1/mvsjob.1", "1/mvsjob-shell.1", "1/mvsjob-asm.1", "1/mvsjob-lsp.1", "1/mvsjob-conform.1", "5/mvsjob-script.5", "7/mvsjob-sheet.7")
 EXAMPLES = sorted((TOP / "examples").glob("*.job"))
 FIRST = (TOP / "examples/first.job").read_text()
 PRINTED = (TOP / "examples/first.out").read_text()
@@ -41,6 +41,8 @@ PREPARED = {
 }
 # What EMBEDDING.md has installed beside them.
 TYPED = "libunicorn-dev binutils-s390x-linux-gnu"
+# Nothing is kept because another package recommends or suggests it.
+WITHOUT_SUGGESTED = "-o APT::AutoRemove::RecommendsImportant=false -o APT::AutoRemove::SuggestsImportant=false"
 # The files of the package of 1.0.0, beside its documents.
 OLD = ("bin/mvsjob", "share/man/man1/mvsjob.1.gz", "share/man/man5/mvsjob-script.5.gz", "share/bash-completion/completions/mvsjob",
        "share/zsh/site-functions/_mvsjob", "share/fish/vendor_completions.d/mvsjob.fish", "share/doc/mvsjob/docs/SCRIPT.md",
@@ -173,6 +175,12 @@ class Installation:
         (self.machine.root / "tmp/imported.py").write_text(PYTHON)
         return self.machine.run("python3 /tmp/imported.py", user="nobody") == (0, "RC_0 2 JOB RC 0\n", "")
 
+    def in_session(self):
+        """Whether mvsjob-shell runs lines that are not typed, and its completion is where bash looks for it."""
+        status, out, _ = self.machine.run("mvsjob-shell", user="nobody", stdin="JOB REGION BELOW=1\n")
+        has_completion = (self.machine.root / "usr/share/bash-completion/completions/mvsjob-shell").exists()
+        return (status, out, has_completion) == (0, "1 JOB REGION BELOW 1 ABOVE 0\nSTEP ENDED RC 0\n", True)
+
     def archive(self):
         """Whether the archive runs from a folder of its own, and its library is found there."""
         name = f"mvsjob-{self.version}-linux-x86_64"
@@ -184,7 +192,7 @@ class Installation:
         )
 
     def removed(self):
-        gone = self.machine.succeeds(f"dpkg --purge {' '.join(reversed(PACKAGES))} && apt-get autoremove --purge --yes {TYPED}")
+        gone = self.machine.succeeds(f"dpkg --purge {' '.join(reversed(PACKAGES))} && apt-get autoremove --purge --yes {WITHOUT_SUGGESTED} {TYPED}")
         left = self.machine.files() - self.before
         if left:
             print(f"left behind: {sorted(left)[:20]}")
@@ -203,7 +211,7 @@ class Installation:
         debian = self.folder / "debian"
         for name in PACKAGES:
             subprocess.run(["dpkg-deb", "-x", self.deb(name), debian], check=True)
-        pairs = {f"usr/bin/{name}": f"usr/bin/{name}" for name in ("mvsjob", "mvsjob-asm", "mvsjob-conform")}
+        pairs = {f"usr/bin/{name}": f"usr/bin/{name}" for name in ("mvsjob", "mvsjob-shell", "mvsjob-asm", "mvsjob-lsp", "mvsjob-conform")}
         pairs["usr/lib64/libmvs.so.0"] = f"usr/lib/{os.uname().machine}-linux-gnu/libmvs.so.0"
         return all((root / one).read_bytes() == (debian / other).read_bytes() for one, other in pairs.items())
 
@@ -225,6 +233,7 @@ def cases():
     yield "linked with the shared library", lambda it: it.linked("")
     yield "linked with the static library", lambda it: it.linked("-static")
     yield "the module in Python", Installation.imported
+    yield "mvsjob-shell", Installation.in_session
     yield "the archive", Installation.archive
     yield "remove", Installation.removed
     yield "rpm", Installation.rpm

@@ -119,7 +119,8 @@ def typed(program, *words):
         ("\x04", "\nSTEP ENDED RC 0\n"),
     ]
     try:
-        yield "asks", terminal.read("1> ") == "1> "
+        version = subprocess.check_output([program, "--version"], text=True).split()[1]
+        yield "asks", terminal.read("1> ") == f"mvsjob {version}: type a statement, .help, or Ctrl-D to end\n1> "
         for text, wanted in steps:
             terminal.type(text)
             yield repr(text), terminal.read(wanted) == wanted
@@ -180,7 +181,7 @@ def typed_with(program, *words):
 
 
 # Options that work together with `--interactive`.
-TOGETHER = ("--explain", "--json", "--json --explain", "--strict", "--strict --explain", "--strict --json")
+TOGETHER = ("--explain", "--json", "--json --explain", "--strict", "--strict --explain", "--strict --json", "--leaks", "--leaks --explain", "--leaks --json --strict")
 
 
 def is_same_with(program, words, seed):
@@ -188,7 +189,8 @@ def is_same_with(program, words, seed):
     script = random_scripts.anything(seed, False)
     text, _ = with_faults(script.text(), seed)
     alone = subprocess.run([program, *words.split()], input=script.text().encode(), capture_output=True, timeout=600)
-    return called(program, text, *words.split())[:2] == (alone.returncode, alone.stdout.decode())
+    status, printed = called(program, text, *words.split())[:2]
+    return (status, printed) == (alone.returncode, alone.stdout.decode())
 
 
 def results(program):

@@ -1,7 +1,8 @@
-/* library.c: what each function of mvs.h answers, also where it is misused. The exit status is the number of the first check that
- * fails, or 0. It is a C++ program too. */
+/* library.c: what each function of mvs.h answers, also where it is misused. It prints the number of the first check that fails, and
+ * ends with 1 then. It is a C++ program too. */
 #include <mvs.h>
 
+#include <stdio.h>
 #include <string.h>
 
 static mvs_session session = MVS_SESSION_INIT;
@@ -208,7 +209,7 @@ static int fields(void) {
     if (!refused(it, "form")) return 136;
     it.kind = 0;
     if (!refused(it, "kind")) return 137;
-    it.kind = 13;
+    it.kind = MVS_ASK_SYSTEM_ABEND + 1;
     if (!refused(it, "kind")) return 138;
     it.task[0] = 0;
     if (!refused(it, "task")) return 139;
@@ -246,7 +247,9 @@ static int fields(void) {
     if (!refused(attach, "given and shared subpools")) return 155;
     attach.given_low = 2, attach.shared_low = 2;
     if (!refused(attach, "given and shared subpools")) return 156;
-    it = asked(MVS_ASK_ABEND, "X"), it.code = 4096;
+    it = asked(MVS_ASK_SYSTEM_ABEND, "X"), it.code = 4096;
+    if (!refused(it, "code")) return 158;
+    it.kind = MVS_ASK_ABEND;
     if (!refused(it, "code")) return 157;
     return 0;
 }
@@ -465,6 +468,219 @@ static int held_runs(void) {
     return 0;
 }
 
+/* Whether this is the line that says why the last request was refused. */
+static bool explained(const char *why) {
+    char out[240];
+    size_t wanted = 7;
+    if (mvs_why(&session, NULL, 0, &wanted) != (*why ? MVS_STATUS_TOO_SMALL : MVS_STATUS_OK) || wanted != strlen(why)) return false;
+    if (mvs_why(&session, out, sizeof out, &wanted) != MVS_STATUS_OK || wanted != strlen(why)) return false;
+    return memcmp(out, why, wanted) == 0;
+}
+
+/* Why requests were refused. */
+static int reasons(void) {
+    char out[8] = {7};
+    size_t wanted = 7;
+    mvs_ask obtain = asked(MVS_ASK_OBTAIN, "JOB"), other = asked(MVS_ASK_RETURN, "SUB");
+    if (mvs_why(&session, out, 8, &wanted) != MVS_STATUS_NO_SESSION || wanted != 7 || out[0] != 7) return 240;
+    if (mvs_new(&session, MVS_PLACE_LOW) != MVS_STATUS_OK || !explained("")) return 241;
+    if (answered("JOB REGION BELOW=1") != MVS_EVENT_STEP_BEGAN || !explained("")) return 242;
+    obtain.form = MVS_FORM_RC, obtain.length = 8192, obtain.subpool = 1;
+    if (requested(obtain) != MVS_EVENT_RC_4) return 243;
+    if (!explained("* 8192 bytes requested in SP 1, but the largest area that fits has 4096 bytes; free runs: 0; free pages: 1 below, 0 above. (rule 12)\n")) return 244;
+    if (mvs_why(&session, out, 8, &wanted) != MVS_STATUS_TOO_SMALL || wanted != 133 || out[0] != 7) return 245;
+    obtain.length = 8;
+    if (requested(obtain) != MVS_EVENT_GRANTED || !explained("")) return 246;
+    if (answered("JOB FREEMAIN RC,LV=8,A=NONE") != MVS_EVENT_NO_NAME || !explained("")) return 247;
+    if (requested(other) != MVS_EVENT_NOT_RUN || !explained("* SUB is not active: it has ended, or was never attached. (rule 73)\n")) return 248;
+    if (answered("JOB GETMAIN RC,LV=8,A=Y,SP=200") != MVS_EVENT_ABENDED) return 249;
+    if (!explained("* A program can use SP 0 to 127, 131 and 132, but not 200. (rule 8)\n")) return 250;
+    if (mvs_end(&session, &event) != MVS_STATUS_SOME_ABEND || !explained("")) return 251;
+    mvs_free(&session);
+    return 0;
+}
+
+/* Whether these are the kind and the rule of why the last request was refused, and reason has the rest. */
+static mvs_reason reason;
+
+static bool is_reason(uint32_t kind, uint32_t rule) {
+    mvs_reason none = MVS_REASON_INIT;
+    memset(&reason, 7, sizeof reason);
+    reason.size = sizeof reason;
+    if (!kind) return mvs_why_fields(&session, &reason) == MVS_STATUS_NO_MORE && reason.kind == 0x07070707;
+    return mvs_why_fields(&session, &reason) == MVS_STATUS_OK && reason.size == none.size && reason.kind == kind && reason.rule == rule;
+}
+
+static bool is_named(const uint8_t field[8], const char *text) {
+    uint8_t wanted[8];
+    mvs_name(wanted, text);
+    return memcmp(field, wanted, 8) == 0;
+}
+
+/* What room the reason names. */
+static bool has_room(uint32_t longest, uint32_t runs, uint32_t below, uint32_t above) {
+    return reason.longest == longest && reason.free_runs == runs && reason.pages_below == below && reason.pages_above == above;
+}
+
+/* Why requests were refused, as fields: of storage. */
+static int reason_fields(void) {
+    mvs_ask obtain = asked(MVS_ASK_OBTAIN, "JOB"), release = asked(MVS_ASK_RELEASE, "JOB"), list = asked(MVS_ASK_OBTAIN, "JOB"), other = asked(MVS_ASK_RETURN, "SUB");
+    mvs_area areas[2] = {{0, 8}, {0, 9000}};
+    reason.size = 8, reason.kind = 9;
+    if (mvs_why_fields(&session, &reason) != MVS_STATUS_WRONG_SIZE || reason.kind != 9) return 260;
+    reason.size = sizeof reason;
+    if (mvs_why_fields(&session, &reason) != MVS_STATUS_NO_SESSION || reason.kind != 9) return 261;
+    if (mvs_new(&session, MVS_PLACE_LOW) != MVS_STATUS_OK || !is_reason(0, 0)) return 262;
+    if (answered("JOB REGION BELOW=2,ABOVE=1") != MVS_EVENT_STEP_BEGAN || !is_reason(0, 0)) return 263;
+    if (requested(other) != MVS_EVENT_NOT_RUN || !is_reason(MVS_REASON_NOT_ACTIVE, 73) || !is_named(reason.task, "SUB")) return 264;
+    if (!is_named(reason.name, "") || !is_named(reason.holder_name, "") || reason.address || reason.holder || reason.second_rule) return 265;
+    obtain.form = MVS_FORM_RC, obtain.length = 8195, obtain.subpool = 1;
+    if (requested(obtain) != MVS_EVENT_RC_4 || !is_reason(MVS_REASON_SHORTAGE, 12) || reason.number != 1 || reason.length != 8200) return 266;
+    if (!has_room(8192, 0, 2, 1)) return 267;
+    obtain.length = 8;
+    if (requested(obtain) != MVS_EVENT_GRANTED || !is_reason(0, 0)) return 268;
+    release.form = MVS_FORM_RC, release.subpool = 1, release.address = 0x6000, release.length = 16;
+    if (requested(release) != MVS_EVENT_RC_4 || !is_reason(MVS_REASON_NOT_HELD, 26) || reason.second_rule != 66) return 269;
+    if (reason.address != 0x6008 || reason.number != 1 || reason.holder != MVS_HOLDER_NOBODY || !is_named(reason.task, "JOB")) return 270;
+    release.subpool = 2;
+    if (requested(release) != MVS_EVENT_RC_4 || !is_reason(MVS_REASON_NO_SUBPOOL, 26) || reason.number != 2 || !is_named(reason.task, "JOB")) return 271;
+    list.form = MVS_FORM_LC, list.subpool = 1;
+    if (mvs_list(&session, &list, areas, 2, &event) != MVS_STATUS_OK || event.kind != MVS_EVENT_RC_4) return 272;
+    if (!is_reason(MVS_REASON_NO_MEMBER, 22) || reason.member != 2 || reason.length != 9000 || reason.number != 1 || !has_room(8176, 1, 1, 1)) return 273;
+    if (answered("JOB GETMAIN R,LV=8,A=X,SP=2") != MVS_EVENT_RC_0 || !is_reason(0, 0)) return 274;
+    release.subpool = 1, release.address = 0x7000, release.length = 8;
+    if (requested(release) != MVS_EVENT_RC_4 || !is_reason(MVS_REASON_NOT_HELD, 26) || reason.holder != MVS_HOLDER_SUBPOOL) return 275;
+    if (reason.holder_number != 2 || !is_named(reason.holder_name, "JOB")) return 276;
+    if (answered("JOB FREEMAIN LC,LA=(8,8),A=(X,X),SP=2") != MVS_EVENT_RC_4 || !is_reason(MVS_REASON_OVERLAP, 32)) return 277;
+    if (reason.address != 0x7000 || reason.first_address != 0x7000 || reason.second_address != 0x7000) return 278;
+    if (answered("JOB FREEMAIN LC,LA=(8,8),A=(X,NONE),SP=2") != MVS_EVENT_NO_NAME || !is_reason(0, 0)) return 279;
+    release.address = 0x7004;
+    if (requested(release) != MVS_EVENT_ABENDED || !is_reason(MVS_REASON_OFF_DOUBLEWORD, 29) || reason.address != 0x7004) return 280;
+    if (mvs_end(&session, &event) != MVS_STATUS_SOME_ABEND || !is_reason(0, 0)) return 281;
+    mvs_free(&session);
+    return 0;
+}
+
+/* The same of cell pools and tasks, and an abend with a system code. */
+static int reasons_of_names(void) {
+    mvs_ask pool = asked(MVS_ASK_POOL_BUILD, "JOB"), get = asked(MVS_ASK_POOL_GET, "JOB"), cell = asked(MVS_ASK_POOL_FREE, "SUB");
+    mvs_ask attach = asked(MVS_ASK_ATTACH, "JOB"), abend = asked(MVS_ASK_SYSTEM_ABEND, "SUB"), show = asked(MVS_ASK_SHOW, "SUB");
+    mvs_pool_line line = MVS_POOL_LINE_INIT;
+    mvs_name(pool.name, "P"), mvs_name(get.name, "P"), mvs_name(cell.name, "P"), mvs_name(attach.name, "SUB");
+    line.size = 7, line.cells = 9;
+    if (mvs_pool(&session, pool.name, &line) != MVS_STATUS_WRONG_SIZE || line.cells != 9) return 290;
+    line.size = sizeof line;
+    if (mvs_pool(&session, pool.name, &line) != MVS_STATUS_NO_SESSION || line.cells != 9) return 291;
+    if (mvs_new(&session, MVS_PLACE_LOW) != MVS_STATUS_OK || mvs_pool(&session, pool.name, &line) != MVS_STATUS_NO_MORE) return 292;
+    if (answered("JOB REGION BELOW=2") != MVS_EVENT_STEP_BEGAN || mvs_pool(&session, pool.name, &line) != MVS_STATUS_NO_MORE || line.cells != 9) return 293;
+    if (requested(attach) != MVS_EVENT_ATTACHED) return 294;
+    pool.subpool = 3, pool.length = 12, pool.primary = 1, pool.secondary = 2;
+    if (requested(pool) != MVS_EVENT_RC_0 || mvs_pool(&session, pool.name, &line) != MVS_STATUS_OK) return 295;
+    if (line.cell_size != 12 || line.parts != 1 || line.address != 0x6000 || line.length != 40 || line.cells != 1) return 296;
+    if (line.number != 3 || !is_named(line.owner, "JOB")) return 297;
+    get.conditional = true;
+    if (requested(get) != MVS_EVENT_CELL || event.address != 0x6018 || requested(get) != MVS_EVENT_NO_CELL) return 298;
+    if (!is_reason(MVS_REASON_NO_FREE_CELL, 60) || !is_named(reason.name, "P")) return 299;
+    get.conditional = false;
+    if (requested(get) != MVS_EVENT_CELL || mvs_pool(&session, pool.name, &line) != MVS_STATUS_OK) return 300;
+    if (line.parts != 2 || line.address != 0x6028 || line.length != 48 || line.cells != 2 || line.number != 3) return 301;
+    cell.address = 0x601C;
+    if (requested(cell) != MVS_EVENT_ABENDED || !is_reason(MVS_REASON_NO_TAKEN_CELL, 63) || reason.address != 0x601C) return 302;
+    if (reason.position != MVS_POSITION_INSIDE || reason.first_address != 0x6018 || !is_named(reason.name, "P")) return 303;
+    if (requested(attach) != MVS_EVENT_ATTACHED || requested(attach) != MVS_EVENT_ABENDED) return 304;
+    if (!is_reason(MVS_REASON_TASK_IN_USE, 51) || !is_named(reason.name, "SUB")) return 305;
+    if (answered("JOB REGION BELOW=2") != MVS_EVENT_STEP_BEGAN || requested(attach) != MVS_EVENT_ATTACHED) return 306;
+    abend.code = 4096;
+    if (mvs_request(&session, &abend, &event) != MVS_STATUS_NO_REQUEST || event.code != offsetof(mvs_ask, code)) return 307;
+    abend.code = 0x0C1;
+    if (requested(abend) != MVS_EVENT_ABENDED || event.code != 0x0C1000 || !is_named(event.task, "SUB")) return 308;
+    if (!is_reason(MVS_REASON_ASKED, 55) || !is_named(reason.task, "SUB") || requested(abend) != MVS_EVENT_NOT_RUN || event.code) return 309;
+    show.address = 0x5000, show.length = 4, mvs_name(show.task, "JOB");
+    if (requested(show) != MVS_EVENT_ABENDED || event.code != 0x0C4000) return 310;
+    if (!is_reason(MVS_REASON_NO_ACCESS, 38) || reason.address != 0x5000 || reason.holder != MVS_HOLDER_OUTSIDE) return 311;
+    if (strcmp(mvs_reason_name(reason.kind), "NO_ACCESS") || strcmp(mvs_reason_name(0), "?")) return 312;
+    mvs_free(&session);
+    return 0;
+}
+
+/* The statement of a request. */
+static mvs_event no_event = MVS_EVENT_INIT;
+
+static bool is_stated(mvs_ask ask, const char *text) {
+    char out[256];
+    size_t wanted = 7;
+    if (mvs_statement(&ask, &no_event, NULL, 0, &wanted) != MVS_STATUS_TOO_SMALL || wanted != strlen(text)) return false;
+    return mvs_statement(&ask, &no_event, out, sizeof out, &wanted) == MVS_STATUS_OK && wanted == strlen(text) && memcmp(out, text, wanted) == 0;
+}
+
+static int statements(void) {
+    char out[256];
+    size_t wanted = 7;
+    mvs_ask ask = asked(MVS_ASK_OBTAIN, "JOB");
+    no_event.address = 0x12345;
+    ask.form = MVS_FORM_VRC, ask.length = 9000, ask.least = 8, ask.location = MVS_LOCATION_ANY, ask.within = 12;
+    if (!is_stated(ask, "JOB GETMAIN VRC,LV=(9000,8),A=A0012345,SP=0,LOC=ANY,STARTBDY=3,CONTBDY=12")) return 320;
+    ask.least = 0;
+    if (mvs_statement(&ask, &no_event, out, sizeof out, &wanted) != MVS_STATUS_NO_REQUEST || wanted != 7) return 321;
+    ask.form = MVS_FORM_STORAGE_CONDITIONAL, ask.within = 0, ask.subpool = 9;
+    if (!is_stated(ask, "JOB STORAGE OBTAIN,LENGTH=9000,ADDR=A0012345,SP=9,LOC=ANY,STARTBDY=3,COND=YES")) return 322;
+    ask.form = MVS_FORM_EU, ask.location = 0, ask.boundary = 12;
+    if (!is_stated(ask, "JOB GETMAIN EU,LV=9000,A=A0012345,SP=9,BNDRY=PAGE")) return 323;
+    ask.kind = MVS_ASK_RELEASE, ask.form = MVS_FORM_VC, ask.address = 0x6000;
+    if (!is_stated(ask, "JOB FREEMAIN EC,LV=9000,A=X'00006000',SP=9")) return 324;
+    ask.kind = MVS_ASK_RELEASE_WHOLE, ask.form = MVS_FORM_STORAGE;
+    if (!is_stated(ask, "JOB STORAGE RELEASE,SP=9,COND=NO")) return 325;
+    ask = asked(MVS_ASK_ATTACH, "JOB");
+    mvs_name(ask.name, "SUB");
+    ask.given_low = 2 | 1ull << 63, ask.shared_high = 1ull << 63, ask.above = true;
+    if (!is_stated(ask, "JOB ATTACH TASK=SUB,GSPL=(1,63),SHSPL=(127),SZERO=YES,RES=ABOVE")) return 326;
+    ask.given_low = ~1ull, ask.shared_high = 0;
+    if (mvs_statement(&ask, &no_event, out, sizeof out, &wanted) != MVS_STATUS_TOO_LONG || wanted != 7) return 327;
+    ask = asked(MVS_ASK_SYSTEM_ABEND, "JOB");
+    ask.code = 0x0C1;
+    if (!is_stated(ask, "JOB ABEND 193")) return 328;
+    if (mvs_statement_into(&ask, (const uint8_t *)"9       ", out, sizeof out, &wanted) != MVS_STATUS_NO_REQUEST) return 329;
+    return 0;
+}
+
+/* The tasks and the cell pools, one by one. */
+static int tasks_and_pools(void) {
+    mvs_ask attach = asked(MVS_ASK_ATTACH, "JOB"), pool = asked(MVS_ASK_POOL_BUILD, "JOB");
+    mvs_task_line task = MVS_TASK_LINE_INIT;
+    uint8_t after[8] = {0}, name[8] = "unset";
+    task.size = 19, task.mother[0] = 'x';
+    if (mvs_next_task(&session, after, &task) != MVS_STATUS_WRONG_SIZE || task.mother[0] != 'x') return 340;
+    task.size = sizeof task;
+    if (mvs_next_task(&session, after, &task) != MVS_STATUS_NO_SESSION || task.mother[0] != 'x') return 341;
+    if (mvs_next_pool(&session, after, name) != MVS_STATUS_NO_SESSION || name[0] != 'u') return 342;
+    if (mvs_new(&session, MVS_PLACE_LOW) != MVS_STATUS_OK || mvs_next_task(&session, after, &task) != MVS_STATUS_NO_MORE) return 343;
+    if (mvs_next_pool(&session, after, name) != MVS_STATUS_NO_MORE || name[0] != 'u' || task.mother[0] != 'x') return 344;
+    if (answered("JOB REGION BELOW=4") != MVS_EVENT_STEP_BEGAN) return 345;
+    mvs_name(attach.name, "ZULU");
+    if (requested(attach) != MVS_EVENT_ATTACHED) return 346;
+    mvs_name(attach.task, "ZULU"), mvs_name(attach.name, "ALFA");
+    if (requested(attach) != MVS_EVENT_ATTACHED) return 347;
+    if (mvs_next_task(&session, after, &task) != MVS_STATUS_OK || !is_named(task.name, "ALFA") || !is_named(task.mother, "ZULU")) return 348;
+    memcpy(after, task.name, 8);
+    if (mvs_next_task(&session, after, &task) != MVS_STATUS_OK || !is_named(task.name, "JOB") || !is_named(task.mother, "")) return 349;
+    mvs_name(after, "JOBX");
+    if (mvs_next_task(&session, after, &task) != MVS_STATUS_OK || !is_named(task.name, "ZULU") || !is_named(task.mother, "JOB")) return 350;
+    mvs_name(after, "ZULU");
+    if (mvs_next_task(&session, after, &task) != MVS_STATUS_NO_MORE || !is_named(task.name, "ZULU")) return 351;
+    pool.length = 12, pool.primary = 1;
+    mvs_name(pool.name, "P2");
+    if (requested(pool) != MVS_EVENT_RC_0) return 352;
+    mvs_name(pool.name, "P1");
+    if (requested(pool) != MVS_EVENT_RC_0) return 353;
+    if (mvs_next_pool(&session, (const uint8_t *)"        ", name) != MVS_STATUS_OK || !is_named(name, "P1")) return 354;
+    memcpy(after, name, 8);
+    if (mvs_next_pool(&session, after, name) != MVS_STATUS_OK || !is_named(name, "P2")) return 355;
+    memcpy(after, name, 8);
+    if (mvs_next_pool(&session, after, name) != MVS_STATUS_NO_MORE || !is_named(name, "P2")) return 356;
+    mvs_free(&session);
+    return 0;
+}
+
 int main(void) {
     int failed = without_session();
     if (!failed) failed = events();
@@ -478,5 +694,11 @@ int main(void) {
     if (!failed) failed = tried();
     if (!failed) failed = begun();
     if (!failed) failed = held_runs();
-    return failed;
+    if (!failed) failed = reasons();
+    if (!failed) failed = reason_fields();
+    if (!failed) failed = reasons_of_names();
+    if (!failed) failed = tasks_and_pools();
+    if (!failed) failed = statements();
+    if (failed) fprintf(stderr, "library.c: check %d failed\n", failed);
+    return failed != 0;
 }

@@ -37,6 +37,7 @@ write: OK, ? 00000000 0
 refused: location
 SUB has 0: 0 bytes
 SUB has 7: 104 bytes
+2 tasks, 0 pools
 abend: OK, ABENDED 00000000 0
 SUB ended too
 """

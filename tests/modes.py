@@ -3,11 +3,11 @@
 import os
 import subprocess
 import tempfile
-import time
 from pathlib import Path
 from xml.etree import ElementTree
 
 import annotated
+import explained
 
 TOP = Path(__file__).resolve().parent.parent
 REGION = b"JOB REGION BELOW=1\n"
@@ -53,6 +53,11 @@ APART = (
     "--page --leaks",
     "--check --leaks",
     "--page --interactive",
+    "--with FILE",
+    "--with FILE --json",
+    "--with FILE --check",
+    "--open",
+    "--open --json",
 )
 TOGETHER = ("--json --explain", "--page --explain", "--strict --explain", "--leaks --explain", "--json --leaks", "--json --leaks --explain --strict", "--leaks --strict --place high", "--leaks --explain --strict --color never", "--json --strict", "--json --explain --strict", "--strict --place high", "--explain --color never", "--check --place low", "--check --hide --format tap --place low", "--interactive --color never", "--interactive --explain", "--interactive --strict", "--interactive --explain --strict --color always", "--interactive --leaks --explain", "--interactive --json --explain --strict")
 
@@ -234,11 +239,12 @@ def options(modes):
 
 
 def unserved(modes):
-    script = REGION + b"JOB WHERE NOSUCH\n" * LINES_NOT_SERVED
-    begin = time.monotonic()
+    script, quarter = (REGION + b"JOB WHERE NOSUCH\n" * count for count in (LINES_NOT_SERVED, LINES_NOT_SERVED // 4))
     status, _, err = modes.run("--strict", script)
-    # Each line once more over the whole script would take a minute.
-    yield f"{LINES_NOT_SERVED} lines that are not executed", status == 4 and err.count("NO NAME") == LINES_NOT_SERVED and time.monotonic() - begin < 20
+    yield f"{LINES_NOT_SERVED} lines that are not executed", status == 4 and err.count("NO NAME") == LINES_NOT_SERVED
+    # It would be sixteen times if each of these lines led to another pass over the script.
+    longer, shorter = explained.least_times(modes.program, (script, "--strict"), (quarter, "--strict"))
+    yield "growth with lines that are not executed", longer <= 8 * shorter
 
 
 def names(modes):

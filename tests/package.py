@@ -20,12 +20,14 @@ HELP = (TOP / "tools/help.txt").read_text()
 LONG_HELP = (TOP / "tools/help-long.txt").read_text()
 PAGES = {
     "man1/mvsjob.1": ("OPTIONS", "EXAMPLES", "SEE ALSO"),
+    "man1/mvsjob-shell.1": ("COMMANDS", "EDITING AND HISTORY", "SEE ALSO"),
     "man1/mvsjob-asm.1": ("OPTIONS", "EXIT STATUS", "CONVERSION", "SEE ALSO"),
+    "man1/mvsjob-lsp.1": ("OPTIONS", "EXIT STATUS", "WHAT IT SHOWS", "SEE ALSO"),
     "man1/mvsjob-conform.1": ("OPTIONS", "EXIT STATUS", "SEE ALSO"),
     "man5/mvsjob-script.5": ("GETMAIN", "CPOOL", "FAULTS", "LIMITS"),
     "man7/mvsjob-sheet.7": ("STATEMENTS", "REPLIES", "CODES", "TEN MISTAKES"),
 }
-PROGRAMS = ("mvsjob", "mvsjob-asm", "mvsjob-conform")
+PROGRAMS = ("mvsjob", "mvsjob-shell", "mvsjob-asm", "mvsjob-lsp", "mvsjob-conform")
 COMPLETIONS = {
     "bash": "share/bash-completion/completions/{}",
     "zsh": "share/zsh/site-functions/_{}",
@@ -98,7 +100,17 @@ def read_by_shell(shell, path):
 
 
 def help_of(root, name):
-    return HELP.split("Exit status")[0] if name == "mvsjob" else output(root / "bin" / name, "--help")
+    if name == "mvsjob":
+        return HELP.split("Exit status")[0]
+    return output(root / "bin" / name, "--help", env=os.environ | {"MVSJOB": str(root / "bin/mvsjob")})
+
+
+def in_session(root):
+    """Whether mvsjob-shell runs lines that are not typed, and leaves only its history."""
+    with tempfile.TemporaryDirectory() as state:
+        env = os.environ | {"MVSJOB": str(root / "bin/mvsjob"), "XDG_STATE_HOME": state}
+        ran = subprocess.run([root / "bin/mvsjob-shell"], input="JOB REGION BELOW=1\n.quit\n", env=env, capture_output=True, text=True)
+        return (ran.returncode, ran.stdout) == (0, "1 JOB REGION BELOW 1 ABOVE 0\nSTEP ENDED RC 0\n") and os.listdir(state) in ([], ["mvsjob"])
 
 
 def completions(root):
@@ -138,7 +150,7 @@ def linked(root, program):
 def without_git(folder):
     """A copy of the sources and of the programs that were made of them, which no git knows."""
     shutil.copytree(TOP, folder, symlinks=True, ignore=shutil.ignore_patterns(".git", "out", "target"))
-    for name in ("mvsjob/out/mvsjob", "mvsjob_asm/out/mvsjob_asm", "mvs_c/out/libmvs_c.a"):
+    for name in ("mvsjob/out/mvsjob", "mvsjob_asm/out/mvsjob_asm", "mvsjob_lsp/out/mvsjob_lsp", "mvs_c/out/libmvs_c.a"):
         (folder / "crates" / name).parent.mkdir(exist_ok=True)
         shutil.copy(TOP / "crates" / name, folder / "crates" / name)
     return folder
@@ -191,7 +203,7 @@ def packages(folder):
     yield "the archive's program", example(archive / "bin/mvsjob", TOP / "examples/first.job")
     yield from ((f"the archive, {name}", well) for name, well in linked(archive, folder / "handler"))
     yield "the names that libmvs.so.0 exports", exported(archive / "lib/libmvs.so.0") == set(re.findall(r"(?m)^MVS_API \w+ (mvs_\w+)\(", (TOP / "include/mvs.h").read_text()))
-    yield from ((f"{name} is hardened", hardened(archive / name)) for name in ("bin/mvsjob", "bin/mvsjob-asm", "lib/libmvs.so.0"))
+    yield from ((f"{name} is hardened", hardened(archive / name)) for name in ("bin/mvsjob", "bin/mvsjob-asm", "bin/mvsjob-lsp", "lib/libmvs.so.0"))
     yield from installed(archive)
 
 
@@ -207,9 +219,21 @@ def installed(root):
     for page in PAGES:
         yield page, rendered(root / "share/man" / page)
     yield "all scripts of SCRIPT.md", scripts_told(root)
+    yield "mvsjob-shell", in_session(root)
     for name in ("LICENSE-MIT", "LICENSE-APACHE", "THIRD_PARTY.md", "docs/page.png", "examples/first.why"):
         yield name, (root / "share/doc/mvsjob" / name).stat().st_size > 0
     yield from completions(root)
+    yield from serves(root)
+
+
+def serves(root):
+    """Whether the server answers, and the files for editors are those of the repository."""
+    texts = ['{"jsonrpc":"2.0","id":1,"method":"initialize"}', '{"jsonrpc":"2.0","id":2,"method":"shutdown"}', '{"jsonrpc":"2.0","method":"exit"}']
+    ran = subprocess.run([root / "bin/mvsjob-lsp"], input="".join(f"Content-Length: {len(text)}\r\n\r\n{text}" for text in texts), capture_output=True, text=True)
+    yield "mvsjob-lsp answers", ran.returncode == 0 and ran.stdout.endswith('{"jsonrpc":"2.0","id":2,"result":null}') and not ran.stderr
+    for path in sorted((TOP / "editors").rglob("*.*")):
+        place = path.relative_to(TOP)
+        yield str(place), (root / "share/mvsjob" / place).read_bytes() == path.read_bytes()
 
 
 def by_install(folder):

@@ -9,7 +9,7 @@ from plain_machine import part_length, round8
 
 PAGE_DOUBLEWORDS = 512
 FACTS = re.compile(
-    r"\* (\S+ is \d+ bytes at .*|No greater length .*|SP \d+ of \S+ is new\. .*|It fits in pages .*"
+    r"\* (\S+ is \d+ bytes at .*|No greater length .*|SP \d+ of \S+ is new\. .*|No page was newly .*"
     r"|\d+ pages? (was|were) newly assigned.*|\d+ pages? became free.*|SP \d+ of \S+ is now empty.*|\S+ is a cell of pool .*"
     r"|Pool \S+ has a new part .*|\S+ now owns SP .*|\S+ shares SP \d+ of .*|SP \d+ of \S+ remains: .*"
     r"|[0-9A-F]{8} is [A-Z@#$][A-Z0-9@#$]*, \d+ bytes obtained .*|[0-9A-F]{8} is \d+ bytes? into .*)"
@@ -48,6 +48,7 @@ class Watcher:
         pool = machine.pools.get(s.keys.get("CPID"))
         self.parts = len(pool.parts) if pool else 0
         has = set(machine.tasks[s.task].table.values()) if s.task in machine.tasks else ()
+        self.numbers = set(machine.tasks[s.task].table) if s.task in machine.tasks else set()
         self.has = {label(machine, subpool): machine.owner[subpool] for subpool in has}
 
     def area(self, name, least, most):
@@ -75,7 +76,7 @@ class Watcher:
     def taken(self):
         n = sum(self.free) - sum(free_pages(self.machine))
         if n == 0:
-            return "It fits in pages that the subpool already has. (rule 4)"
+            return "No page was newly assigned. (rule 4)"
         return pages(n, "was newly assigned. (rule 5)", "were newly assigned. (rule 5)")
 
     def freed(self):
@@ -118,6 +119,8 @@ class Watcher:
             if self.machine.owner[subpool] == name:
                 yield f"{name} now owns SP {number}, given by {self.s.task}. (rule 43)"
             else:
+                if number not in self.numbers:
+                    yield f"{label(self.machine, subpool)} is new. (rule 42)"
                 yield f"{name} shares {label(self.machine, subpool)}. (rule 44)"
 
     def stays(self):

@@ -2,19 +2,28 @@
 
 from plain_emulator import DOES, Statement, begin, emulator
 from plain_facts import GRANTED, label, names_set
+from plain_machine import part_length
 
 MOST_LINES = 10
 
 
+def count(n, thing):
+    return f"{n} {thing}" if n == 1 else f"{n} {thing}s"
+
+
 class Left:
-    """The areas that lines of a step were granted, and the latest one over each doubleword."""
+    """The areas that lines of a step were granted, and the latest one over each doubleword; and the line that built each pool."""
 
     def __init__(self):
-        self.areas, self.latest = [], {}
+        self.areas, self.latest, self.pools = [], {}, {}
 
     def granted(self, machine, s, number):
-        """Adds the areas that a granted statement obtained."""
+        """Adds the areas that a granted statement obtained, or the pool that it built."""
         if s.operation == "CPOOL":
+            if s.plain[0] == "BUILD":
+                name = s.keys["CPID"]
+                self.pools.pop(name, None)
+                self.pools[name] = (label(machine, machine.pools[name].subpool), s.task, number)
             return
         subpool = label(machine, machine.entry(s.task, s.number())) if names_set(s) else None
         for name in names_set(s):
@@ -32,19 +41,42 @@ class Left:
                     left[self.latest[region.base // 8 + index]] += 8
         return left
 
-    def lines(self, machine):
-        """The lines of the report."""
+    def totals(self, found, left):
+        """The totals by subpool, and those by task, the group of the last area first; a single one is not printed."""
+        for words, field in (("In", 3), ("Obtained by", 4)):
+            groups = {}
+            for place in sorted((place for _, place in found), reverse=True):
+                groups.setdefault(self.areas[place][field], []).append(left[place])
+            if len(groups) > 1:
+                for name, parts in list(groups.items())[:MOST_LINES]:
+                    yield f"* {words} {name}: {count(len(parts), 'area')}, {sum(parts)} bytes."
+
+    def area_lines(self, machine):
         left = self.bytes_left(machine)
         found = sorted((-n, place) for place, n in enumerate(left) if n)
         if found:
-            total = sum(left)
-            yield f"* Never released: {len(found)} {'area' if len(found) == 1 else 'areas'}, {total} bytes."
+            yield f"* Never released: {count(len(found), 'area')}, {sum(left)} bytes."
         for n, place in found[:MOST_LINES]:
             name, address, length, subpool, task, number = self.areas[place]
             share = f"{length}" if -n == length else f"{-n} of {length}"
             yield f"* {name}: {share} bytes at {address:08X} in {subpool}, obtained by {task} in line {number}."
         if len(found) > MOST_LINES:
             yield f"* And {len(found) - MOST_LINES} more."
+        yield from self.totals(found, left)
+
+    def pool_lines(self, machine):
+        standing = [(name, *built) for name, built in self.pools.items() if name in machine.pools]
+        if standing:
+            yield f"* Never deleted: {count(len(standing), 'pool')}."
+        for name, subpool, task, number in standing:
+            pool = machine.pools[name]
+            length = sum(part_length(cells, pool.size) for _, cells in pool.parts)
+            yield f"* Pool {name}: {length} bytes in {count(len(pool.parts), 'part')} in {subpool}, built by {task} in line {number}."
+
+    def lines(self, machine):
+        """The lines of the report."""
+        yield from self.area_lines(machine)
+        yield from self.pool_lines(machine)
 
 
 def ended(machine):

@@ -6,7 +6,7 @@ from plain_emulator import DOES, Placed, Statement, begin
 
 PAGE_DOUBLEWORDS = 512
 EVERYTHING = 1 << 31
-SHORTAGE = re.compile(r"\* .*; free runs: \d+; free pages: \d+ below, \d+ above\. \(rule \d+\)")
+SHORTAGE = re.compile(r"\* .*; free runs: \d+; free pages: \d+ below, \d+ above\. \(rules? [0-9, ]+\)")
 
 
 def pages(region):
@@ -53,7 +53,7 @@ def texts(machine, s):
     least, longest, room = machine.lack
     if s.operation == "CPOOL":
         cells, size = machine.part
-        yield f"* Pool {s.keys['CPID']}: no room for {cells} cells of {size} bytes; the largest area that fits has {longest} bytes{room} (rule 59)"
+        yield f"* Pool {s.keys['CPID']}: no room for {cells} cells of {size} bytes; the largest area that fits has {longest} bytes{room} (rules 59, 61)"
     elif s.plain[0] not in ("LC", "LU"):
         yield f"* {least} bytes requested in SP {s.number()}, but the largest area that fits has {longest} bytes{room} (rule 12)"
     else:

@@ -27,7 +27,7 @@ def rules():
 
 
 def text_of(program, *words):
-    ran = subprocess.run([program, *words], capture_output=True, text=True, timeout=60)
+    ran = subprocess.run([program, *words], capture_output=True, text=True, timeout=600)
     return ran.stdout if (ran.returncode, ran.stderr) == (0, "") else ""
 
 
@@ -36,7 +36,7 @@ def plain(text):
 
 
 def printed(command, script):
-    return subprocess.run(command, input=script, capture_output=True, text=True, timeout=60).stdout
+    return subprocess.run(command, input=script, capture_output=True, text=True, timeout=600).stdout
 
 
 def shows(program, text):
@@ -66,7 +66,7 @@ def holds_rule(program, number, sentence):
 
 
 def refused(program, *words):
-    ran = subprocess.run([program, *words], stdin=subprocess.DEVNULL, capture_output=True, text=True, timeout=60)
+    ran = subprocess.run([program, *words], stdin=subprocess.DEVNULL, capture_output=True, text=True, timeout=600)
     return ran.returncode == 16 and ran.stdout == "" and ran.stderr.startswith("error: ")
 
 

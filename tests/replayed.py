@@ -40,6 +40,7 @@ class Picture:
         self.regions, self.tasks, self.names, self.pools = None, {}, {}, {}
         self.has = {}  # task and number to subpool
         self.held = {}  # doubleword to subpool, and whether as a part of a pool
+        self.bytes = {}  # address to byte
 
     def subpool(self, n, owner):
         """The subpool of that name; one that was not named before is new, and its owner has it."""
@@ -79,6 +80,7 @@ class Picture:
 
     def take(self, addr, length, n, owner, name):
         self.hold(addr, length, self.subpool(n, owner), False)
+        self.set(addr, [self.regions[2]] * length)
         self.names[name] = addr, length
 
     def empty(self, n, owner):
@@ -95,7 +97,16 @@ class Picture:
 
     def cell(self, pool, addr, length, name):
         self.pools[pool].taken.add(addr)
+        self.set(addr, [self.regions[2]] * length)
         self.names[name] = addr, length
+
+    def set(self, addr, values):
+        self.bytes.update(enumerate(values, addr))
+
+    def write(self, addr, length, digits):
+        if len(digits) != 2 * length:
+            raise KeyError(f"{length} bytes are written, and the line has {digits}")
+        self.set(addr, bytes.fromhex(digits))
 
     def back(self, pool, addr):
         self.pools[pool].taken.remove(addr)
@@ -150,7 +161,7 @@ LINES = {
     "BACK pool addr": Picture.back,
     "DROP pool": Picture.drop,
     "READ addr len": Picture.nothing,
-    "WRITE addr len": Picture.nothing,
+    "WRITE addr len digits": Picture.write,
     "LOOK addr len": Picture.nothing,
     "END task RETURN": Picture.end,
     "END task ABEND": Picture.end,
@@ -159,7 +170,7 @@ LINES = {
 NAME, DECIMAL, HEXADECIMAL = "[A-Z@#$][A-Z0-9@#$]{0,7}", "0|[1-9][0-9]*", "[0-9A-F]{8}"
 # How a word of a line is written that is no name, and the base of a number.
 WRITTEN = dict.fromkeys(("n", "m", "size", "cells"), (DECIMAL, 10)) | dict.fromkeys(("addr", "len"), (HEXADECIMAL, 16))
-WRITTEN |= {"hh": ("[0-9A-F]{2}", 16), "mother": (f"-|{NAME}", None), "residence": ("BELOW|ABOVE", None)}
+WRITTEN |= {"hh": ("[0-9A-F]{2}", 16), "digits": ("(?:[0-9A-F]{2})+", None), "mother": (f"-|{NAME}", None), "residence": ("BELOW|ABOVE", None)}
 
 
 def pattern(form):
@@ -196,6 +207,16 @@ def wanted(machine):
     }
 
 
+def is_shown(machine, picture):
+    """Whether the picture has each byte that may be read."""
+    for region in machine.regions:
+        for k in (k for k, held in enumerate(region.holder) if held):
+            for at, value in enumerate(region.byte[8 * k : 8 * k + 8], region.base + 8 * k):
+                if value is not None and picture.bytes.get(at) != value:
+                    return False
+    return True
+
+
 def touched(machine, s, said):
     """The lines of what a statement does beside the step: what it reads, writes and looks for, and which tasks it ends, and how."""
     answer, fallen = said[0].partition(" ")[2], said[1:]
@@ -216,7 +237,12 @@ def touched(machine, s, said):
         places = [("READ", source, int(s.plain[2])), ("WRITE", to, int(s.plain[2]))]
     else:
         places = []
-    return [f"{word} {addr:08X} {length:08X}" for word, addr, length in places]
+    return [f"{word} {addr:08X} {length:08X}" + written(machine, word, addr, length) for word, addr, length in places]
+
+
+def written(machine, word, addr, length):
+    """The bytes that the line of a change carries."""
+    return f" {bytes(machine.bytes_at(addr, length)).hex().upper()}" if word == "WRITE" else ""
 
 
 def differences(page, script, placement):
@@ -246,6 +272,8 @@ def differences(page, script, placement):
             return
         known, should = picture.known(), wanted(machine)
         yield from ((number, what) for what in should if known[what] != should[what])
+        if lines and not is_shown(machine, picture):
+            yield number, "bytes"
         if [line for line in lines if re.match("READ|WRITE|LOOK|END", line)] != touched(machine, s, said):
             yield number, "touched"
 

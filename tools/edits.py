@@ -19,7 +19,7 @@ from pathlib import Path
 from libraries import PARTS
 
 FUNCTION = r"^( *)(?:pub(?:\(.*?\))? )?(?:const )?(?:unsafe )?(?:extern \"C\" )?fn (\w+)"
-IMPL = r"^(?:unsafe )?impl\b(?:<.*?>(?= ))? (?:(?:\w+::)*(\w+)(?:<.*>)? for )?(?:&\S* )?(\w+)"
+IMPL = r"^(?:unsafe )?impl\b(?:<.*?>(?= ))? (?:(?:\w+::)*(\w+)(?:<.*>)? for )?(?:&\S* )?(\w+)(?:<(\w+)>)?"
 HEADS = re.compile(f"{FUNCTION}|{IMPL}", re.M)
 NAMED = re.compile(r"\bhas no field|\bis not in scope|\bhas no `|\bwas not admitted")
 LIMIT = re.compile(r"could not tell|antt ran out of|outgrew the memory limit|stopped at the step limit")
@@ -77,8 +77,7 @@ class Change:
             owner = next((it for it in reversed(heads) if it[4]), None)
             if function is None or function[1] and owner is None or f"\n{function[1]}}}\n" in before[function.end() :]:
                 return None
-            trait = owner[3] if function[1] and owner[3] not in (None, "Drop") else ""  # its methods are those of `TypeTrait`
-            paths.add(f"{owner[4]}{trait}::{function[2]}" if function[1] else f"{module}::{function[2]}")
+            paths.add(f"{owner_name(owner)}::{function[2]}" if function[1] else f"{module}::{function[2]}")
         return paths
 
     def asked(self):
@@ -86,6 +85,13 @@ class Change:
         named = {function for function in self.goals if function}
         functions = self.functions()
         return named or None if functions is None else functions | named
+
+
+def owner_name(owner):
+    """The name that the prover has for the functions of an `impl`: `Type`, `TypeTrait`, or `Type+bool` for an `impl Type<bool>`."""
+    if owner[3] not in (None, "Drop"):
+        return f"{owner[4]}{owner[3]}"
+    return f"{owner[4]}+{owner[5]}" if owner[5] and "impl<" not in owner[0] else owner[4]
 
 
 class Verdicts:
@@ -165,15 +171,15 @@ def name_of(goal):
 class Bench:
     """A crate, and copies of it in which changes are checked, as many at a time as there are lanes for all crates.
 
-    Each check begins with the seed: what a check of the crate as it is has proved. The seed itself begins with what tools/ci has kept in $SEEDS,
-    or else with what `rt check` has."""
+    Each check begins with the seed: what a check of the crate as it is has proved. The seed is what tools/ci has kept in $SEEDS, if that has
+    proved the crate as it is. Else it is made, and begins with that or with what `rt check` has kept."""
 
     def __init__(self, rtlib, made, lanes):
         self.rtlib, self.made, self.folder, self.lanes, self.room, self.seconds = rtlib, made, Path(made.folder), lanes, None, []
 
     def __enter__(self):
         self.room = tempfile.TemporaryDirectory(prefix="edits-")
-        kept = [Path(os.environ["SEEDS"], self.made.name)] if "SEEDS" in os.environ else []
+        kept = [self.left_by_ci()] if self.left_by_ci() else []
         kept = next((it for it in [*kept, self.folder / "out/incremental"] if it.is_dir()), None)
         if kept is not None:
             linked(kept, f"{self.room.name}/seed")
@@ -181,6 +187,16 @@ class Bench:
 
     def __exit__(self, *_):
         self.room.cleanup()
+
+    def left_by_ci(self):
+        """The seed of the crate that tools/ci has kept; None where it keeps none."""
+        return Path(os.environ["SEEDS"], self.made.name) if "SEEDS" in os.environ else None
+
+    def is_proved_by_ci(self):
+        """Whether there is a seed in which tools/ci has proved the crate as it is."""
+        kept = self.left_by_ci()
+        mark = kept and kept.with_name(f"{kept.name}.proved")
+        return bool(mark) and kept.is_dir() and mark.is_file() and mark.read_text() == self.made.stamp()
 
     def seed(self, changes):
         """Checks, with no change made, what the changes are in and what that calls."""

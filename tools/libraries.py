@@ -35,10 +35,15 @@ def once(stamp):
     return stamp_once
 
 
+def crates(top):
+    """The crates of a repository; none where there is no `rt`."""
+    rtlib = kit()
+    return rtlib.crates_below(str(top)) if rtlib else ()
+
+
 def mark_left_by_ci(top):
     """Marks the libraries that `rt ci` has just left with the sum of what they are made from. Such a library has no stamp of the kit's."""
-    rtlib = kit()
-    for crate in rtlib.crates_below(str(top)) if rtlib else ():
+    for crate in crates(top):
         if os.path.isdir(crate.rlib) and not os.path.exists(f"{os.path.dirname(crate.rlib)}/stamp"):
             Path(os.path.dirname(crate.rlib), LEFT_BY_CI).write_text(crate.stamp())
 

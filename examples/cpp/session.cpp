@@ -24,6 +24,7 @@ int main() {
     std::printf("refused: %s\n", mvs_field_name(refused.event.code));
     mvs::Session moved = std::move(session);
     for (const mvs_subpool_line &line : moved.subpools("SUB")) std::printf("SUB has %u: %u bytes\n", unsigned(line.number), unsigned(line.plain));
+    std::printf("%zu tasks, %zu pools\n", moved.tasks().size(), moved.pools().size());
     mvs_ask abend = mvs::ask(MVS_ASK_ABEND, "JOB");
     print("abend", moved.request(abend));
     for (const std::string &name : moved.fallen()) std::printf("%s ended too\n", name.c_str());

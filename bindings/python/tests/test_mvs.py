@@ -46,6 +46,57 @@ class SessionTest(unittest.TestCase):
         with self.assertRaises(mvs.ScriptError):
             self.session.line("JOB \u20ac")
 
+    def test_why(self):
+        self.begin()
+        self.assertEqual(self.session.why(), "")
+        self.assertEqual(self.session.line("JOB GETMAIN R,LV=8,A=X,SP=200").kind, mvs.EventKind.ABENDED)
+        self.assertEqual(self.session.why(), "* A program can use SP 0 to 127, 131 and 132, but not 200. (rule 8)\n")
+        self.assertEqual(self.session.obtain("JOB", 8).kind, mvs.EventKind.NOT_RUN)
+        self.assertEqual(self.session.why(), "* JOB is not active: it has ended, or was never attached. (rule 73)\n")
+
+    def test_reason(self):
+        self.begin()
+        self.assertIsNone(self.session.reason())
+        self.assertEqual(self.session.release("JOB", 0x6000, 8).kind, mvs.EventKind.RC_4)
+        self.assertEqual(self.session.reason(), mvs.Reason(mvs.ReasonKind.NO_SUBPOOL, 26, task="JOB"))
+        area = self.session.obtain("JOB", 8)
+        self.assertIsNone(self.session.reason())
+        self.session.release("JOB", area.address, 16)
+        wanted = mvs.Reason(mvs.ReasonKind.NOT_HELD, 26, 66, address=area.address + 8, holder=mvs.Holder.NOBODY, task="JOB")
+        self.assertEqual(self.session.reason(), wanted)
+        self.session.line("JOB GETMAIN RC,LV=32768,A=X,SP=3")
+        room = {"longest": 12288, "pages_below": 3, "pages_above": 2}
+        self.assertEqual(self.session.reason(), mvs.Reason(mvs.ReasonKind.SHORTAGE, 12, number=3, length=32768, **room))
+
+    def test_system_abend(self):
+        self.begin()
+        self.session.attach("JOB", "SUB")
+        with self.assertRaises(mvs.FieldError):
+            self.session.system_abend("SUB", 0x1000)
+        event = self.session.system_abend("SUB", 0x0C1)
+        self.assertEqual((event.code, event.completion), (0x0C1000, "S0C1"))
+        self.assertEqual(self.session.reason(), mvs.Reason(mvs.ReasonKind.ASKED, 55, task="SUB"))
+        self.assertEqual(self.session.system_abend("SUB", 0x0C1).kind, mvs.EventKind.NOT_RUN)
+
+    def test_pools(self):
+        self.begin()
+        self.assertEqual((self.session.pool("P"), list(self.session.pools())), (None, []))
+        self.session.build_pool("JOB", "P", 12, 1, 2, subpool=7)
+        first = mvs.Pool("P", 12, 1, 0x6000, 40, 1, 7, "JOB")
+        self.assertEqual((self.session.pool("P"), list(self.session.pools())), (first, [first]))
+        self.session.get_cell("JOB", "P")
+        self.session.get_cell("JOB", "P")
+        self.assertEqual(list(self.session.pools()), [mvs.Pool("P", 12, 2, 0x6028, 48, 2, 7, "JOB")])
+        self.session.build_pool("JOB", "A", 12, 1, 2)
+        self.assertEqual([pool.name for pool in self.session.pools()], ["A", "P"])
+
+    def test_tasks(self):
+        self.assertEqual(list(self.session.tasks()), [])
+        self.begin()
+        self.session.attach("JOB", "SUB")
+        self.session.attach("SUB", "ALFA")
+        self.assertEqual(list(self.session.tasks()), [mvs.Task("ALFA", "SUB"), mvs.Task("JOB", None), mvs.Task("SUB", "JOB")])
+
     def test_storage(self):
         self.begin()
         area = self.session.obtain("JOB", 100, subpool=7)

@@ -33,7 +33,7 @@ use Rattle.mvs_job.specs.Granting.{IsReadIn}
 use Rattle.mvs_job.specs.LineEvents.{ServesAs, WalkValue, ended, events_of_line, full_answer_in}
 use Rattle.mvs_job.specs.Observing.{Fails, Hearing, Observes, ObservesLine, Passes, is_end}
 use Rattle.mvs_job.specs.Trace.{Entry}
-use Rattle.mvs_job.proofs.Behind.{answered_does}
+use Rattle.mvs_job.proofs.AfterLines.{answered_does}
 use Rattle.mvs_job.proofs.ExplainedLine.{before_it, entry_serves}
 use Rattle.mvs_job.proofs.Observed.{is_return}
 use Rattle.area_history.specs.declared.account.Account.{Account}

@@ -6,3 +6,11 @@ pub mod Reported
 pub mod Printings
 pub mod Wrapped
 pub mod Ending
+pub mod Dating
+pub mod Recording
+pub mod Elsewhere
+pub mod PlainPlaces
+pub mod SameLeaks
+pub mod Indexing
+pub mod Releasing
+pub mod Visibly

@@ -1,9 +1,12 @@
 -- Marks on the doublewords of a place.
 use Rattle.std.proofs.Common.{◌≡◌, ℕ, ◌+◌, ◌<◌, ◌≤◌, ◌&&◌, ◌||◌, ◌==◌, Bool, true, false, cond, not, refl, sym, ap, ◌∙◌, arith, suc, zero}
-use Rattle.std.specs.Prelude.{nat_le, nat_lt}
+use Rattle.std.specs.Prelude.{◌-◌, ◌/◌, List, length, nat_le, nat_lt, if◌then◌else◌}
 use Rattle.std.proofs.lemmas.Grind.{common_steps}
 use Rattle.mvs_model.specs.Finite.{count_below}
 use Rattle.mvs_model.proofs.Below.{count_more}
+use Rattle.mvs_model.specs.Place.{PlaceValue}
+use Rattle.area_history.specs.declared.by_doubleword.ByDoubleword.{ByDoubleword}
+use Rattle.area_history.specs.Leaking.{HasRoom, has_doubleword}
 
 -- whether a number is one of the next n from one on
 abbrev pub is_next : ℕ → ℕ → ℕ → Bool
@@ -13,10 +16,10 @@ pub count_next : (n left one : ℕ) (test : ℕ → Bool) → left ≡ count_bel
 count_next n left one test is at =
     (let e : left + one ≡ cond (test n) 1 0 + count_below n test = omega (arith, is, at) in e) ∙ sym (count_more n test) ∙ ap (λ k. count_below k test) (let f : suc n ≡ n + 1 = omega arith in f)
 
-next_here : (first n d : ℕ) → (d == first + n) ≡ true → is_next first (n + 1) d ≡ true
+pub next_here : (first n d : ℕ) → (d == first + n) ≡ true → is_next first (n + 1) d ≡ true
 next_here first n d e = grind (arith, common_steps)
 
-next_other : (first n d : ℕ) → (d == first + n) ≡ false → is_next first (n + 1) d ≡ is_next first n d
+pub next_other : (first n d : ℕ) → (d == first + n) ≡ false → is_next first (n + 1) d ≡ is_next first n d
 next_other first n d e = grind (arith, common_steps)
 
 pub none_next : (first d : ℕ) → is_next first 0 d ≡ false
@@ -44,3 +47,22 @@ count_none test = refl
 
 pub same_of : (d e : ℕ) → (d == e) ≡ true → d ≡ e
 same_of d e h = grind (arith, common_steps)
+
+-- ---- room
+
+-- there is room for a place
+pub room_made : {T : Type 0} (values : ByDoubleword T) (p : PlaceValue) (least : ℕ) → ((d : ℕ) → p.addr / 8 ≤ d → d < p.addr / 8 + p.len / 8 → d < 2097152 → d < least) → least ≤ length values.below → p.addr / 8 + p.len / 8 - 2097152 ≤ length values.above → HasRoom values p
+room_made values p least below least_below above d h = at (nat_lt d 2097152) refl where
+  from : p.addr / 8 ≤ d
+  from = grind (arith, common_steps)
+
+  to : d < p.addr / 8 + p.len / 8
+  to = grind (arith, common_steps)
+
+  at : (b : Bool) → nat_lt d 2097152 ≡ b → (if b then nat_lt d (length values.below) else nat_lt (d - 2097152) (length values.above)) ≡ true
+  at true is = let small : d < 2097152 = grind (arith, common_steps) in let in_it = below d from to small in grind (arith, common_steps)
+  at false is = let large : 2097152 ≤ d = grind (arith, common_steps) in let end = to in grind (arith, common_steps)
+
+-- a doubleword of a place
+pub inside : (p : PlaceValue) (k : ℕ) → k < p.len / 8 → has_doubleword p (p.addr / 8 + k) ≡ true
+inside p k h = grind (arith, common_steps)

@@ -1,6 +1,6 @@
 -- Reports of leaks in the text of a run.
 use Rattle.std.proofs.Common.{◌≡◌, ◌≢◌, ℕ, ◌+◌, ◌-◌, ◌==◌, inl, inr, List, [], ◌∷◌, ◌++◌, append_assoc, append-nil, length, take, drop, suc, ◌<◌, ◌≤◌, not, Bool, true, false, Option, Some, None, refl, sym, ap, subst, ◌∙◌, arith}
-use Rattle.std.specs.Prelude.{◌⊎◌, ◌&&◌, is_some, codes, if◌then◌else◌, Ok}
+use Rattle.std.specs.Prelude.{◌⊎◌, ◌&&◌, nat_le, is_some, codes, if◌then◌else◌, Ok}
 use Rattle.std.specs.List.{AllByRecursion, flat_map, position_or_len}
 use Rattle.mvs_model.specs.declared.name.Name.{Name}
 use Rattle.mvs_model.specs.declared.outcome.Outcome.{Outcome}
@@ -20,11 +20,19 @@ use Rattle.mvs_job.specs.Explaining.{NoLineIsStarred, without_starred}
 use Rattle.mvs_job.specs.Printed.{printed}
 use Rattle.mvs_job.specs.Trace.{Entry}
 use Rattle.mvs_job.proofs.Starred.{IsClosed, IsEnded, IsLeftOut, IsStarred, closed_behind, each_out, entry_out, event_ended, left_both, line_out, none_left_out, out_both, printed_then, printing_ended, reply_closed, starred_are}
-use Rattle.area_history.specs.declared.grant.Leak.{Leak}
+use Rattle.area_history.specs.declared.account.Leftovers.{Leftovers}
 use Rattle.area_history.specs.declared.largest.Leaks.{Leaks}
-use Rattle.area_history.specs.Leaking.{summary}
-use Rattle.area_history.specs.Ledgers.{begun, ends_step, leaks_at, some_leak}
-use Rattle.area_history.specs.LeakTexts.{heading_text, leak_line, leak_text, more_line, number_text, report_text, starred}
+use Rattle.area_history.specs.declared.pools.PoolLeft.{PoolLeft}
+use Rattle.area_history.specs.declared.totals.Total.{Total}
+use Rattle.area_history.specs.Accounts.{summary_of}
+use Rattle.area_history.specs.Ledgers.{Left as LeftInStep, begun, ends_step, leaks_at, some_leak}
+use Rattle.area_history.specs.LeakTexts.{areas_report, heading_text, leak_line, leak_text, more_line, number_text, pool_line, pool_text, pools_heading, pools_report, report_text, starred, total_line, total_text, totals_text}
+use Rattle.area_history.specs.declared.findings.AddressHistory.{AddressHistory}
+use Rattle.area_history.specs.declared.findings.AreaFate.{AreaFate}
+use Rattle.area_history.specs.declared.findings.Findings.{Findings}
+use Rattle.area_history.specs.declared.grant.Selection.{Selection}
+use Rattle.area_history.specs.Histories.{HistoriesArePrintings, findings_of, history_from, no_history, stays_at, with_history}
+use Rattle.area_history.specs.HistoryTexts.{address_text, anywhere_text, anywhere_words, earlier, fate_text, findings_text, held_heading, held_text, some_fate_text, some_held, stay_line, stay_text, stays_text}
 use Rattle.area_history.specs.Reporting.{ExplainedLeaksArePrintings, LeaksArePrintings, after_first_line, changes_step, reported, with_leaks, with_report}
 
 -- ---- a report is of lines that begin with an asterisk
@@ -35,10 +43,57 @@ more_out n = at (n == 0) where
   at true = none_left_out [] refl
   at false = line_out (codes "And " ++ number_text n ++ codes " more.")
 
-report_out : (l : Leaks) → IsLeftOut (report_text l)
-report_out l =
-    let each = flat_map leak_line l.largest in
-    out_both (starred (heading_text l.count l.bytes)) (each ++ more_line (l.count - 10)) (line_out (heading_text l.count l.bytes)) (out_both each (more_line (l.count - 10)) (each_out leak_line (λ x. line_out (leak_text x)) l.largest) (more_out (l.count - 10)))
+totals_out : (totals : List Total) → IsLeftOut (totals_text totals)
+totals_out totals = at (nat_le (length totals) 1) where
+  at : (b : Bool) → IsLeftOut (if b then [] else flat_map total_line totals)
+  at true = none_left_out [] refl
+  at false = each_out total_line (λ t. line_out (total_text t)) totals
+
+areas_out : (l : Leaks) → IsLeftOut (areas_report l)
+areas_out l = at (l.count == 0) where
+  at : (b : Bool) → IsLeftOut (if b then [] else starred (heading_text l.count l.bytes) ++ (flat_map leak_line l.largest ++ (more_line (l.count - 10) ++ (totals_text l.subpools ++ totals_text l.tasks))))
+  at true = none_left_out [] refl
+  at false =
+      out_both (starred (heading_text l.count l.bytes)) (flat_map leak_line l.largest ++ (more_line (l.count - 10) ++ (totals_text l.subpools ++ totals_text l.tasks))) (line_out (heading_text l.count l.bytes))
+      (out_both (flat_map leak_line l.largest) (more_line (l.count - 10) ++ (totals_text l.subpools ++ totals_text l.tasks)) (each_out leak_line (λ x. line_out (leak_text x)) l.largest)
+      (out_both (more_line (l.count - 10)) (totals_text l.subpools ++ totals_text l.tasks) (more_out (l.count - 10)) (out_both (totals_text l.subpools) (totals_text l.tasks) (totals_out l.subpools) (totals_out l.tasks))))
+
+pools_out : (pools : List PoolLeft) → IsLeftOut (pools_report pools)
+pools_out pools = at (length pools == 0) where
+  at : (b : Bool) → IsLeftOut (if b then [] else starred (pools_heading (length pools)) ++ flat_map pool_line pools)
+  at true = none_left_out [] refl
+  at false = out_both (starred (pools_heading (length pools))) (flat_map pool_line pools) (line_out (pools_heading (length pools))) (each_out pool_line (λ x. line_out (pool_text x)) pools)
+
+report_out : (left : Leftovers) → IsLeftOut (report_text left)
+report_out left = out_both (areas_report left.areas) (pools_report left.pools) (areas_out left.areas) (pools_out left.pools)
+
+-- ---- so are the lines of a history
+
+fate_out : (a : ℕ) (o : Option AreaFate) → IsLeftOut (some_fate_text a o)
+fate_out a None = none_left_out [] refl
+fate_out a (Some f) = line_out (fate_text a f)
+
+address_out : (o : Option AddressHistory) → IsLeftOut (address_text o)
+address_out None = none_left_out [] refl
+address_out (Some h) = out_both (some_fate_text h.addr (earlier h)) (some_fate_text h.addr h.latest) (fate_out h.addr (earlier h)) (fate_out h.addr h.latest)
+
+anywhere_out : (o : Option ℕ) → IsLeftOut (anywhere_text o)
+anywhere_out None = none_left_out [] refl
+anywhere_out (Some n) = line_out (anywhere_words n)
+
+held_out : (side : Selection) (held : Leaks) → IsLeftOut (held_text side held)
+held_out side held = at (held.count == 0) where
+  at : (b : Bool) → IsLeftOut (if b then [] else some_held side held)
+  at true = none_left_out [] refl
+  at false = out_both (starred (held_heading side held)) (flat_map leak_line (take 3 held.largest) ++ totals_text held.subpools) (line_out (held_heading side held)) (out_both (flat_map leak_line (take 3 held.largest)) (totals_text held.subpools) (each_out leak_line (λ x. line_out (leak_text x)) (take 3 held.largest)) (totals_out held.subpools))
+
+stays_out : (stays : Leaks) → IsLeftOut (stays_text stays)
+stays_out stays = out_both (flat_map stay_line stays.largest) (more_line (stays.count - 10)) (each_out stay_line (λ x. line_out (stay_text x)) stays.largest) (more_out (stays.count - 10))
+
+pub findings_out : (f : Findings) → IsLeftOut (findings_text f)
+findings_out f =
+    out_both (address_text f.address) (anywhere_text f.anywhere ++ (held_text f.side f.held ++ stays_text f.stays)) (address_out f.address)
+    (out_both (anywhere_text f.anywhere) (held_text f.side f.held ++ stays_text f.stays) (anywhere_out f.anywhere) (out_both (held_text f.side f.held) (stays_text f.stays) (held_out f.side f.held) (stays_out f.stays)))
 
 -- ---- the first line of a text
 
@@ -155,10 +210,10 @@ module _ (e : Entry) (one why report more : List ℕ) (is : one ≡ printing e.e
     at false h = at_end
 
 -- an entry with a report, or none
-entry_left : (e : Entry) (one why more text : List ℕ) (ls : List Leak) → one ≡ printing e.events ++ why → IsLeftOut why → text ≡ reported report_text ls e one → without_starred (text ++ more) ≡ without_starred (printing e.events) ++ without_starred more
+pub entry_left : (e : Entry) (one why more text : List ℕ) (ls : LeftInStep) → one ≡ printing e.events ++ why → IsLeftOut why → text ≡ reported report_text ls e one → without_starred (text ++ more) ≡ without_starred (printing e.events) ++ without_starred more
 entry_left e one why more text ls is out same = at (some_leak ls) same where
-  at : (b : Bool) → text ≡ (if b then with_report (report_text (summary ls)) e one else one) → without_starred (text ++ more) ≡ without_starred (printing e.events) ++ without_starred more
-  at true t = subst (λ x. without_starred (x ++ more) ≡ without_starred (printing e.events) ++ without_starred more) (sym t) (left_with e one why (report_text (summary ls)) more is out (report_out (summary ls)))
+  at : (b : Bool) → text ≡ (if b then with_report (report_text (summary_of ls)) e one else one) → without_starred (text ++ more) ≡ without_starred (printing e.events) ++ without_starred more
+  at true t = subst (λ x. without_starred (x ++ more) ≡ without_starred (printing e.events) ++ without_starred more) (sym t) (left_with e one why (report_text (summary_of ls)) more is out (report_out (summary_of ls)))
   at false t = subst (λ x. without_starred (x ++ more) ≡ without_starred (printing e.events) ++ without_starred more) (sym t) (printed_then e.events one why more is out)
 
 -- ---- runs
@@ -168,3 +223,13 @@ leaks_are none = starred_are (with_leaks report_text printed) (λ history e text
 
 pub explained_leaks_are : NoLineIsStarred → ExplainedLeaksArePrintings
 explained_leaks_are none = starred_are (with_leaks report_text explained) (λ history e text more w. let x = entry_out (set_by_entries history) e e.kind w.0 w.1 in entry_left e w.0 x.0 more text (leaks_at history e) x.1 x.2 w.2) none
+
+pub histories_are : NoLineIsStarred → HistoriesArePrintings
+histories_are none =
+    starred_are (with_history findings_text explained)
+    (λ history e text more w.
+    let h = history_from no_history history in
+    let report = findings_text (findings_of w.1 (stays_at h e)) in
+    let x = entry_out (set_by_entries history) e e.kind w.0 w.2 in
+    subst (λ t. without_starred (t ++ more) ≡ without_starred (printing e.events) ++ without_starred more) (sym w.4) (at_end e w.0 x.0 report more x.1 x.2 (findings_out (findings_of w.1 (stays_at h e)))))
+    none

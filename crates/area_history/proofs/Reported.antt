@@ -17,7 +17,7 @@ use Rattle.mvs_model.specs.Job.{JobValue}
 use Rattle.mvs_model.specs.Pools.{Pool, in_parts}
 use Rattle.mvs_model.specs.Reasons.{Holds}
 use Rattle.mvs_model.specs.declared.reason.Holder.{Holder}
-use Rattle.mvs_model.specs.declared.reason.Holder.TheVariants.{Nobody, Part}
+use Rattle.mvs_model.specs.declared.reason.Holder.TheVariants.{Nobody, Outside, Part}
 use Rattle.mvs_model.specs.Reading.{FaultOf, LineOf}
 use Rattle.mvs_model.specs.State.{Holding, State, is_plain, plain}
 use Rattle.mvs_model.specs.Storage.{Regions, end_of}
@@ -43,11 +43,11 @@ use Rattle.mvs_job.specs.Trace.{Closed, Entry, Executed, Exhausted, Faulty, IsEx
 use Rattle.mvs_job.proofs.Hearing.{line_stays}
 use Rattle.area_history.specs.declared.account.Account.{Account}
 use Rattle.area_history.specs.declared.grant.AreaGrant.{AreaGrant}
-use Rattle.area_history.specs.declared.grant.Leak.{Leak}
-use Rattle.area_history.specs.declared.largest.Leaks.{Leaks}
-use Rattle.area_history.specs.Accounts.{IsKept, IsLedger, IsSettled, KeepsAccount, Sees, may_end}
-use Rattle.area_history.specs.Leaking.{summary}
-use Rattle.area_history.specs.Ledgers.{Ledger, any_leak, begun, ends_step, ends_task, granted_at, granted_by, granted_in, in_step, is_step_end, leaks_at, leaks_in, leaks_with, ledger_after, ledger_from, left_in, new_step, no_step, some_leak}
+use Rattle.area_history.specs.declared.account.Leftovers.{Leftovers}
+use Rattle.area_history.specs.Accounts.{IsKept, IsLedger, IsSettled, KeepsAccount, Sees, may_end, summary_of}
+use Rattle.area_history.specs.Ledgers.{Ledger, any_leak, begun, ends_step, ends_task, granted_at, granted_by, granted_in, in_step, is_step_end, Left, leaks_at, leaks_with, ledger_after, ledger_from, left_in, left_of, new_step, no_step, nothing_left, pools_at, pools_by, pools_in, some_leak}
+use Rattle.area_history.specs.declared.pools.PoolBuild.{PoolBuild}
+use Rattle.area_history.specs.Histories.{events_at, events_by, events_in}
 use Rattle.area_history.specs.Reporting.{Knows, after_first_line, changes_step, reported, with_report}
 use Rattle.area_history.proofs.Ended.{observed}
 
@@ -82,10 +82,10 @@ knows_next first old now a b history e known ledger is = record {
   leaked = is ∙ ap (λ x. x || some_leak (leaks_at history e)) known.leaked ∙ or_turned (any_leak no_step history) first (some_leak (leaks_at history e)) ∙ ap (λ x. x || first) (sym (any_snoc no_step history e));
 }
 
-pub same_leaked : (old : Bool) (ls : List Leak) → some_leak ls ≡ false → old ≡ (old || some_leak ls)
+pub same_leaked : (old : Bool) (ls : Left) → some_leak ls ≡ false → old ≡ (old || some_leak ls)
 same_leaked old ls e = sym (or_false old) ∙ ap (λ x. old || x) (sym e)
 
-pub now_leaked : (old : Bool) (ls : List Leak) → some_leak ls ≡ true → true ≡ (old || some_leak ls)
+pub now_leaked : (old : Bool) (ls : Left) → some_leak ls ≡ true → true ≡ (old || some_leak ls)
 now_leaked true ls e = refl
 now_leaked false ls e = sym e
 
@@ -152,10 +152,20 @@ module _ (n : ℕ) (bytes : List ℕ) (w : WalkValue) (t : LineEvent) (e : Entry
   pub granted_so : granted_by n read (events_of_line n w t) w.step ≡ granted_at e
   granted_so = by_entry (λ k v o. granted_by k read v o) ∙ read_as n bytes e read (λ o l. granted_by e.number l e.events e.after) (granted_in e) (λ k. refl) (λ job l. refl) (λ job fault. refl) t is.of_line reads
 
+  -- the pools after it
+  pub built_so : (pools : List PoolBuild) → pools_by n read (events_of_line n w t) w.step pools ≡ pools_at e pools
+  built_so pools =
+      by_entry (λ k v o. pools_by k read v o pools) ∙ read_as n bytes e read (λ o l. pools_by e.number l e.events e.after pools) (λ o k. pools_in e o k pools) (λ k. refl) (λ job l. refl) (λ job fault. refl) t is.of_line reads
+
+  -- what it did to storage
+  pub events_so : (areas : ℕ) → events_by n read (events_of_line n w t) w.step areas ≡ events_at e areas
+  events_so areas =
+      by_entry (λ k v o. events_by k read v o areas) ∙ read_as n bytes e read (λ o l. events_by e.number l e.events e.after areas) (λ o k. events_in e areas o k) (λ k. refl) (λ job l. refl) (λ job fault. refl) t is.of_line reads
+
 -- ---- the account
 
 -- what was left when the job step task ended
-abbrev over_found : Account → Option Leaks
+abbrev over_found : Account → Option Leftovers
 over_found a = if a.is_over then Some a.found else None
 
 over_is : (a : Account) → a.is_over ≡ true → over_found a ≡ Some a.found
@@ -164,7 +174,7 @@ over_is a e = ap (λ b. if b then Some a.found else None) e
 over_none : (a : Account) → a.is_over ≡ false → over_found a ≡ None
 over_none a e = ap (λ b. if b then Some a.found else None) e
 
-one_found : (x y : Leaks) → Some x ≡ Some y → x ≡ y
+one_found : (x y : Leftovers) → Some x ≡ Some y → x ≡ y
 one_found x y e = cc
 
 over_same : (old new : Account) → KeepsAccount old new → over_found new ≡ over_found old
@@ -176,6 +186,7 @@ over_same old new k = at old.is_over refl where
 -- what a line changes of it before it is kept
 pub line_keeps : (mid after : Account) (step : Option JobValue) (line : List ℕ) (t : LineEvent) (w : WalkValue) → ObservesLine observed mid step line t w after → KeepsAccount mid after
 line_keeps mid after step line t w h = record {
+  pools = line_stays mid after (λ (a : Account). a.pools) observed (λ job t request refusal left k. k.kept.pools) step line t w h;
   root = line_stays mid after (λ (a : Account). a.root) observed (λ job t request refusal left k. k.kept.root) step line t w h;
   history = line_stays mid after (λ (a : Account). a.history) observed (λ job t request refusal left k. k.kept.history) step line t w h;
   read = line_stays mid after (λ (a : Account). a.read) observed (λ job t request refusal left k. k.kept.read) step line t w h;
@@ -186,28 +197,29 @@ line_keeps mid after step line t w h = record {
   over = line_stays mid after (λ (a : Account). a.is_over) observed (λ job t request refusal left k. k.kept.is_over) step line t w h
 
 pub ledger_kept : (old new : Account) (l : Ledger) → KeepsAccount old new → IsLedger old l → IsLedger new l
-ledger_kept old new l k is = record { root = k.root ∙ is.root; grants = k.history ∙ is.grants; left = at is.left } where
-  at : ((old.is_over ≡ false) × (l.left ≡ None)) ⊎ ((old.is_over ≡ true) × (ls : List Leak) × (l.left ≡ Some ls) × (old.found ≡ summary ls)) → ((new.is_over ≡ false) × (l.left ≡ None)) ⊎ ((new.is_over ≡ true) × (ls : List Leak) × (l.left ≡ Some ls) × (new.found ≡ summary ls))
+ledger_kept old new l k is = record { root = k.root ∙ is.root; grants = k.history ∙ is.grants; pools = k.pools ∙ is.pools; left = at is.left } where
+  at : ((old.is_over ≡ false) × (l.left ≡ None)) ⊎ ((old.is_over ≡ true) × (ls : Left) × (l.left ≡ Some ls) × (old.found ≡ summary_of ls)) → ((new.is_over ≡ false) × (l.left ≡ None)) ⊎ ((new.is_over ≡ true) × (ls : Left) × (l.left ≡ Some ls) × (new.found ≡ summary_of ls))
   at (inl (f, none)) = inl (k.is_over ∙ f, none)
   at (inr (t, ls, some, found)) = inr (k.is_over ∙ t, ls, some, k.found t ∙ found)
 
 -- what was found is what is left
-pub found_left : (a : Account) (l : Ledger) (step : Option JobValue) → IsLedger a l → IsSettled a step → a.found ≡ summary (left_in l step)
+pub found_left : (a : Account) (l : Ledger) (step : Option JobValue) → IsLedger a l → IsSettled a step → a.found ≡ summary_of (left_in l step)
 found_left a l step is settled = at is.left where
-  at : ((a.is_over ≡ false) × (l.left ≡ None)) ⊎ ((a.is_over ≡ true) × (ls : List Leak) × (l.left ≡ Some ls) × (a.found ≡ summary ls)) → a.found ≡ summary (left_in l step)
-  at (inl (f, none)) = settled f ∙ ap (λ g. summary (leaks_in step g)) is.grants ∙ ap (λ o. summary (unwrap_or o (leaks_in step l.grants))) (sym none)
-  at (inr (t, ls, some, found)) = found ∙ ap (λ o. summary (unwrap_or o (leaks_in step l.grants))) (sym some)
+  at : ((a.is_over ≡ false) × (l.left ≡ None)) ⊎ ((a.is_over ≡ true) × (ls : Left) × (l.left ≡ Some ls) × (a.found ≡ summary_of ls)) → a.found ≡ summary_of (left_in l step)
+  at (inl (f, none)) =
+      settled f ∙ ap (λ g. summary_of (left_of step g a.pools)) is.grants ∙ ap (λ p. summary_of (left_of step l.grants p)) is.pools ∙ ap (λ o. summary_of (unwrap_or o (left_of step l.grants l.pools))) (sym none)
+  at (inr (t, ls, some, found)) = found ∙ ap (λ o. summary_of (unwrap_or o (left_of step l.grants l.pools))) (sym some)
 
 -- the account after the entry of a line is that of the ledger after it
-pub next_ledger : (a b : Account) (l : Ledger) (e : Entry) (n : ℕ) → IsLedger a l → IsKept a n e.events e.after b → granted_by n a.read e.events e.after ≡ granted_at e → (ends_task a.root e.events ≡ true → IsSettled a e.before) → IsLedger b (ledger_after l e)
-next_ledger a b l e n is kept granted settled = at (begun e.events) kept.root kept.history kept.is_over where
+pub next_ledger : (a b : Account) (l : Ledger) (e : Entry) (n : ℕ) → IsLedger a l → IsKept a n e.events e.after b → granted_by n a.read e.events e.after ≡ granted_at e → ((ps : List PoolBuild) → pools_by n a.read e.events e.after ps ≡ pools_at e ps) → (ends_task a.root e.events ≡ true → IsSettled a e.before) → IsLedger b (ledger_after l e)
+next_ledger a b l e n is kept granted built settled = at (begun e.events) kept.root kept.history kept.pools kept.is_over where
   ends : ends_task a.root e.events ≡ ends_task l.root e.events
   ends = ap (λ r. ends_task r e.events) is.root
 
   -- whether the job step task has ended
-  left_after : (b_over : b.is_over ≡ (a.is_over || ends_task a.root e.events)) → ((b.is_over ≡ false) × ((in_step l e).left ≡ None)) ⊎ ((b.is_over ≡ true) × (ls : List Leak) × ((in_step l e).left ≡ Some ls) × (b.found ≡ summary ls))
+  left_after : (b_over : b.is_over ≡ (a.is_over || ends_task a.root e.events)) → ((b.is_over ≡ false) × ((in_step l e).left ≡ None)) ⊎ ((b.is_over ≡ true) × (ls : Left) × ((in_step l e).left ≡ Some ls) × (b.found ≡ summary_of ls))
   left_after over = by_end (ends_task l.root e.events) refl where
-    by_end : (x : Bool) → ends_task l.root e.events ≡ x → ((b.is_over ≡ false) × ((in_step l e).left ≡ None)) ⊎ ((b.is_over ≡ true) × (ls : List Leak) × ((in_step l e).left ≡ Some ls) × (b.found ≡ summary ls))
+    by_end : (x : Bool) → ends_task l.root e.events ≡ x → ((b.is_over ≡ false) × ((in_step l e).left ≡ None)) ⊎ ((b.is_over ≡ true) × (ls : Left) × ((in_step l e).left ≡ Some ls) × (b.found ≡ summary_of ls))
     by_end true x =
         inr (over ∙ ap (λ y. a.is_over || y) (ends ∙ x) ∙ or_true a.is_over, left_in l e.before, ap (λ y. if y then Some (left_in l e.before) else l.left) x, kept.found ∙ found_left a l e.before is (settled (ends ∙ x))) where
           or_true : (c : Bool) → (c || true) ≡ true
@@ -220,57 +232,66 @@ next_ledger a b l e n is kept granted settled = at (begun e.events) kept.root ke
       over_is_old : b.is_over ≡ a.is_over
       over_is_old = over ∙ ap (λ y. a.is_over || y) (ends ∙ x) ∙ or_false a.is_over
 
-      by_left : ((a.is_over ≡ false) × (l.left ≡ None)) ⊎ ((a.is_over ≡ true) × (ls : List Leak) × (l.left ≡ Some ls) × (a.found ≡ summary ls)) → ((b.is_over ≡ false) × ((in_step l e).left ≡ None)) ⊎ ((b.is_over ≡ true) × (ls : List Leak) × ((in_step l e).left ≡ Some ls) × (b.found ≡ summary ls))
+      by_left : ((a.is_over ≡ false) × (l.left ≡ None)) ⊎ ((a.is_over ≡ true) × (ls : Left) × (l.left ≡ Some ls) × (a.found ≡ summary_of ls)) → ((b.is_over ≡ false) × ((in_step l e).left ≡ None)) ⊎ ((b.is_over ≡ true) × (ls : Left) × ((in_step l e).left ≡ Some ls) × (b.found ≡ summary_of ls))
       by_left (inl (f, none)) = inl (over_is_old ∙ f, left_is ∙ none)
       by_left (inr (t, ls, some, found)) = inr (over_is_old ∙ t, ls, left_is ∙ some, kept.found ∙ found)
 
-  at : (o : Option Name) → b.root ≡ unwrap_or (option_map (λ t. Some t) o) a.root → b.history ≡ (if is_some o then [] else a.history ++ granted_by n a.read e.events e.after) → b.is_over ≡ (not (is_some o) && (a.is_over || ends_task a.root e.events)) → IsLedger b (unwrap_or (option_map new_step o) (in_step l e))
-  at (Some t) root history over = record { root = root; grants = history; left = inl (over, refl) }
-  at None root history over = record { root = root ∙ is.root; grants = history ∙ ap (λ g. g ++ granted_by n a.read e.events e.after) is.grants ∙ ap (λ g. l.grants ++ g) granted; left = left_after over }
+  at : (o : Option Name) → b.root ≡ unwrap_or (option_map (λ t. Some t) o) a.root → b.history ≡ (if is_some o then [] else a.history ++ granted_by n a.read e.events e.after) → b.pools ≡ (if is_some o then [] else pools_by n a.read e.events e.after a.pools) → b.is_over ≡ (not (is_some o) && (a.is_over || ends_task a.root e.events)) → IsLedger b (unwrap_or (option_map new_step o) (in_step l e))
+  at (Some t) root history pools over = record { root = root; grants = history; pools = pools; left = inl (over, refl) }
+  at None root history pools over = record {
+    root = root ∙ is.root;
+    grants = history ∙ ap (λ g. g ++ granted_by n a.read e.events e.after) is.grants ∙ ap (λ g. l.grants ++ g) granted;
+    pools = pools ∙ ap (pools_by n a.read e.events e.after) is.pools ∙ built l.pools;
+    left = left_after over;
+  }
 
 -- ---- what is written
 
-pub no_leaks_with : (l : Ledger) (e : Entry) → ends_step e ≡ false → leaks_with l e ≡ []
-no_leaks_with l e x = ap (λ b. if b then left_in l e.before else []) x
+pub no_leaks_with : (l : Ledger) (e : Entry) → ends_step e ≡ false → leaks_with l e ≡ nothing_left
+no_leaks_with l e x = ap (λ b. if b then left_in l e.before else nothing_left) x
 
 pub leaks_left : (l : Ledger) (e : Entry) → ends_step e ≡ true → leaks_with l e ≡ left_in l e.before
-leaks_left l e x = ap (λ b. if b then left_in l e.before else []) x
+leaks_left l e x = ap (λ b. if b then left_in l e.before else nothing_left) x
 
-module _ (report : Leaks → List ℕ) (history : List Entry) (e : Entry) (one : List ℕ) where
+-- whether something was found
+abbrev pub some_found : Leftovers → Bool
+some_found f = nat_lt 0 f.areas.count || nat_lt 0 (length f.pools)
+
+module _ (report : Leftovers → List ℕ) (history : List Entry) (e : Entry) (one : List ℕ) where
   -- the text with the report
   abbrev pub reported_text : List ℕ
   reported_text = reported report (leaks_at history e) e one
 
-  by_leak : (b : Bool) → some_leak (leaks_at history e) ≡ b → reported_text ≡ (if b then with_report (report (summary (leaks_at history e))) e one else one)
-  by_leak b x = ap (λ b. if b then with_report (report (summary (leaks_at history e))) e one else one) x
+  by_leak : (b : Bool) → some_leak (leaks_at history e) ≡ b → reported_text ≡ (if b then with_report (report (summary_of (leaks_at history e))) e one else one)
+  by_leak b x = ap (λ b. if b then with_report (report (summary_of (leaks_at history e))) e one else one) x
 
   -- where nothing is left, the text is as it is
   pub no_report : some_leak (leaks_at history e) ≡ false → one ≡ reported_text
   no_report x = sym (by_leak false x)
 
-  module _ (found : Leaks) (ends : ends_step e ≡ true) (is : found ≡ summary (left_in (ledger_from no_step history) e.before)) where
+  module _ (found : Leftovers) (ends : ends_step e ≡ true) (is : found ≡ summary_of (left_in (ledger_from no_step history) e.before)) where
     leaks_are : leaks_at history e ≡ left_in (ledger_from no_step history) e.before
     leaks_are = leaks_left (ledger_from no_step history) e ends
 
-    found_is : report found ≡ report (summary (leaks_at history e))
-    found_is = ap report is ∙ ap (λ ls. report (summary ls)) (sym leaks_are)
+    found_is : report found ≡ report (summary_of (leaks_at history e))
+    found_is = ap report is ∙ ap (λ ls. report (summary_of ls)) (sym leaks_are)
 
     -- whether something is left
-    pub some_so : nat_lt 0 found.count ≡ some_leak (leaks_at history e)
-    some_so = ap (λ (f : Leaks). nat_lt 0 f.count) is ∙ ap some_leak (sym leaks_are)
+    pub some_so : some_found found ≡ some_leak (leaks_at history e)
+    some_so = ap some_found is ∙ ap some_leak (sym leaks_are)
 
     changes : is_some (begun e.events) ≡ true → changes_step e ≡ true
     changes begins = ap (λ b. b && is_some (begun e.events)) ends ∙ begins
 
     -- where one step ends and another begins, the report is after the first line
-    pub report_between : nat_lt 0 found.count ≡ true → is_some (begun e.events) ≡ true → after_first_line (report found) one ≡ reported_text
+    pub report_between : some_found found ≡ true → is_some (begun e.events) ≡ true → after_first_line (report found) one ≡ reported_text
     report_between some begins =
-        ap (λ r. after_first_line r one) found_is ∙ ap (λ b. if b then after_first_line (report (summary (leaks_at history e))) one else one ++ report (summary (leaks_at history e))) (sym (changes begins)) ∙ sym (by_leak true (sym some_so ∙ some))
+        ap (λ r. after_first_line r one) found_is ∙ ap (λ b. if b then after_first_line (report (summary_of (leaks_at history e))) one else one ++ report (summary_of (leaks_at history e))) (sym (changes begins)) ∙ sym (by_leak true (sym some_so ∙ some))
 
     -- at the last end it is at the end
-    pub report_last : nat_lt 0 found.count ≡ true → is_some (begun e.events) ≡ false → one ++ report found ≡ reported_text
+    pub report_last : some_found found ≡ true → is_some (begun e.events) ≡ false → one ++ report found ≡ reported_text
     report_last some begins =
-        ap (λ r. one ++ r) found_is ∙ ap (λ b. if b then after_first_line (report (summary (leaks_at history e))) one else one ++ report (summary (leaks_at history e))) (sym (ap (λ b. b && is_some (begun e.events)) ends ∙ begins)) ∙ sym (by_leak true (sym some_so ∙ some))
+        ap (λ r. one ++ r) found_is ∙ ap (λ b. if b then after_first_line (report (summary_of (leaks_at history e))) one else one ++ report (summary_of (leaks_at history e))) (sym (ap (λ b. b && is_some (begun e.events)) ends ∙ begins)) ∙ sym (by_leak true (sym some_so ∙ some))
 
 -- ---- where a step ends and another begins
 
@@ -369,9 +390,7 @@ pub place_of_doubleword : (a d : ℕ) → a ≡ 8 * d → a / 8 ≡ d
 place_of_doubleword a d e = omega (arith, e)
 
 -- one that nobody holds, or a pool, is not held outside pools
-pub not_held : (st : State) (d : ℕ) (h : Holder) → IsSteady st → (h ≡ Nobody) ⊎ ((x : Name) × (h ≡ Part x)) → Holds st d h → false ≡ is_plain (get st.held d)
-not_held st d h steady (inl e) is = none_plain st d (subst (Holds st d) e is)
-not_held st d h steady (inr (name, e)) is = let p = subst (Holds st d) e is in part_plain st d name p.0 steady p.1 p.2
-
-pub at_last : {S : Type 0} (P : S → Type 0) (now last : S) → last ≡ now → P now → P last
-at_last P now last same h = subst P (sym same) h
+pub not_held : (st : State) (d : ℕ) (h : Holder) → IsSteady st → (h ≡ Nobody) ⊎ (h ≡ Outside) ⊎ ((x : Name) × (h ≡ Part x)) → Holds st d h → false ≡ is_plain (get st.held d)
+not_held st d h steady (inl e) is = let n = subst (Holds st d) e is in none_plain st d n.0
+not_held st d h steady (inr (inl e)) is = let n = subst (Holds st d) e is in none_plain st d n.0
+not_held st d h steady (inr (inr (name, e))) is = let p = subst (Holds st d) e is in part_plain st d name p.0 steady p.1 p.2

@@ -13,11 +13,10 @@ use Rattle.mvs_job.specs.Trace.{Entry}
 use Rattle.mvs_job.proofs.Hearing.{line_part, line_stays}
 use Rattle.area_history.specs.declared.account.Account.{Account}
 use Rattle.area_history.specs.declared.reporter.Reporter.{Reporter}
-use Rattle.area_history.specs.Accounts.{IsKept, IsLedger, IsObserved, IsSettled, KeepsAccount, Sees}
-use Rattle.area_history.specs.Leaking.{summary}
-use Rattle.area_history.specs.Ledgers.{Ledger, ends_step, ends_task, granted_at, granted_by, is_step_end, leaks_at, ledger_after, ledger_from, left_in, no_step, some_leak}
+use Rattle.area_history.specs.Accounts.{IsKept, IsLedger, IsObserved, IsSettled, KeepsAccount, Sees, summary_of}
+use Rattle.area_history.specs.Ledgers.{Ledger, ends_step, ends_task, granted_at, granted_by, is_step_end, leaks_at, ledger_after, ledger_from, left_in, no_step, pools_by, some_leak}
 use Rattle.area_history.proofs.Ended.{observed, settled_at_end}
-use Rattle.area_history.proofs.Reported.{ends_as, found_left, granted_so, ledger_kept, line_keeps, next_ledger, no_leaks_with, settled_between, some_so}
+use Rattle.area_history.proofs.Reported.{built_so, ends_as, found_left, granted_so, ledger_kept, line_keeps, next_ledger, no_leaks_with, settled_between, some_found, some_so}
 
 module _ {C F : Type 0} (heard : Hearing C) where
   -- what it keeps of a refusal
@@ -55,10 +54,11 @@ module _ (n : ℕ) (bytes : List ℕ) (w : WalkValue) (t : LineEvent) (e : Entry
       next_ledger self new l e n (ledger_kept mid self l keeps ledger)
       (subst (λ v. IsKept self n v e.after new) (sym is.events) (subst (λ o. IsKept self n (events_of_line n w t) o new) (sym is.after) kept))
       (ap (λ v. granted_by n self.read v e.after) is.events ∙ ap (granted_by n self.read (events_of_line n w t)) is.after ∙ granted_is)
+      (λ ps. ap (λ v. pools_by n self.read v e.after ps) is.events ∙ ap (λ o. pools_by n self.read (events_of_line n w t) o ps) is.after ∙ built_so n bytes w t e is self.read reads ps)
       (λ ends. settled_at_end n bytes w e mid self sees t is h (ap (λ r. ends_task r e.events) (sym keeps.root) ∙ ends))
 
   -- what was found where a step ends and another begins
-  pub found_between : (history : List Entry) (new : Account) → IsLedger mid (ledger_from no_step history) → new.found ≡ self.found → list_any is_step_end (events_of_line n w t) ≡ true → new.found ≡ summary (left_in (ledger_from no_step history) e.before)
+  pub found_between : (history : List Entry) (new : Account) → IsLedger mid (ledger_from no_step history) → new.found ≡ self.found → list_any is_step_end (events_of_line n w t) ≡ true → new.found ≡ summary_of (left_in (ledger_from no_step history) e.before)
   found_between history new ledger same ends = same ∙ found_left self (ledger_from no_step history) e.before (ledger_kept mid self (ledger_from no_step history) keeps ledger) (settled_between n bytes w e mid self sees t is h ends)
 
   step_ends : (b : Bool) → b ≡ list_any is_step_end (events_of_line n w t) → ends_step e ≡ b
@@ -68,7 +68,7 @@ module _ (n : ℕ) (bytes : List ℕ) (w : WalkValue) (t : LineEvent) (e : Entry
   pub none_ends : (history : List Entry) (b : Bool) → b ≡ list_any is_step_end (events_of_line n w t) → b ≡ false → some_leak (leaks_at history e) ≡ false
   none_ends history b same off = ap some_leak (no_leaks_with (ledger_from no_step history) e (step_ends b same ∙ off))
 
-  pub none_left : (history : List Entry) (new : Account) (one : List ℕ) (b found : Bool) → IsLedger mid (ledger_from no_step history) → new.found ≡ self.found → b ≡ list_any is_step_end (events_of_line n w t) → found ≡ nat_lt 0 new.found.count → found ≡ false → some_leak (leaks_at history e) ≡ false
+  pub none_left : (history : List Entry) (new : Account) (one : List ℕ) (b found : Bool) → IsLedger mid (ledger_from no_step history) → new.found ≡ self.found → b ≡ list_any is_step_end (events_of_line n w t) → found ≡ some_found new.found → found ≡ false → some_leak (leaks_at history e) ≡ false
   none_left history new one b found ledger same ends counts off = by_end b refl where
     by_end : (x : Bool) → b ≡ x → some_leak (leaks_at history e) ≡ false
     by_end false x = none_ends history b ends x

@@ -19,9 +19,13 @@ use Rattle.mvs_job.specs.declared.consumer.End.TheVariants as end
 use Rattle.mvs_job.specs.Granting.{IsReadIn}
 use Rattle.mvs_job.specs.Trace.{Entry}
 use Rattle.area_history.specs.declared.account.Account.{Account}
-use Rattle.area_history.specs.declared.grant.Leak.{Leak}
+use Rattle.area_history.specs.declared.account.Leftovers.{Leftovers}
 use Rattle.area_history.specs.Leaking.{summary}
-use Rattle.area_history.specs.Ledgers.{Ledger, begun, ends_task, granted_by, leaks_in}
+use Rattle.area_history.specs.Ledgers.{Ledger, Left, begun, ends_task, granted_by, left_of, pools_by}
+
+-- what is left, with the areas in short
+abbrev pub summary_of : Left → Leftovers
+summary_of left = record { areas = summary left.areas; pools = left.pools }
 
 -- whether a line can end the step or its job step task without a refusal
 abbrev pub may_end : Option Name → Line → Bool
@@ -42,13 +46,14 @@ closes_step (end.Exhausted ended) = false
 pub record KeepsAccount (old new : Account) : Type 0 where
   pub root : new.root ≡ old.root
   pub history : new.history ≡ old.history
+  pub pools : new.pools ≡ old.pools
   pub read : new.read ≡ old.read
   pub is_over : new.is_over ≡ old.is_over
   pub found : old.is_over ≡ true → new.found ≡ old.found
 
 -- What is left in a step was found, if the job step task runs.
 abbrev pub IsSettled : Account → Option JobValue → Type 0
-IsSettled a step = a.is_over ≡ false → a.found ≡ summary (leaks_in step a.history)
+IsSettled a step = a.is_over ≡ false → a.found ≡ summary_of (left_of step a.history a.pools)
 
 -- It has looked at this line, which comes next in this step.
 pub record Sees (a : Account) (step : Option JobValue) (line : List ℕ) : Type 0 where
@@ -60,6 +65,7 @@ pub record IsLooked (old : Account) (step : Option JobValue) (line : List ℕ) (
   pub sees : Sees new step line
   pub root : new.root ≡ old.root
   pub history : new.history ≡ old.history
+  pub pools : new.pools ≡ old.pools
   pub is_over : new.is_over ≡ old.is_over
   pub found : old.is_over ≡ true → new.found ≡ old.found
 
@@ -72,6 +78,7 @@ pub record IsObserved (old : Account) (job : JobValue) (t : Name) (request : Req
 pub record IsKept (old : Account) (number : ℕ) (events : List Event) (after : Option JobValue) (new : Account) : Type 0 where
   pub root : new.root ≡ unwrap_or (option_map (λ t. Some t) (begun events)) old.root
   pub history : new.history ≡ (if is_some (begun events) then [] else old.history ++ granted_by number old.read events after)
+  pub pools : new.pools ≡ (if is_some (begun events) then [] else pools_by number old.read events after old.pools)
   pub is_over : new.is_over ≡ (not (is_some (begun events)) && (old.is_over || ends_task old.root events))
   pub found : new.found ≡ old.found
 
@@ -79,4 +86,5 @@ pub record IsKept (old : Account) (number : ℕ) (events : List Event) (after : 
 pub record IsLedger (a : Account) (l : Ledger) : Type 0 where
   pub root : a.root ≡ l.root
   pub grants : a.history ≡ l.grants
-  pub left : ((a.is_over ≡ false) × (l.left ≡ None)) ⊎ ((a.is_over ≡ true) × (ls : List Leak) × (l.left ≡ Some ls) × (a.found ≡ summary ls))
+  pub pools : a.pools ≡ l.pools
+  pub left : ((a.is_over ≡ false) × (l.left ≡ None)) ⊎ ((a.is_over ≡ true) × (ls : Left) × (l.left ≡ Some ls) × (a.found ≡ summary_of ls))

@@ -1,6 +1,15 @@
+pub mod Totals
+pub mod Pools
 pub mod Leaking
 pub mod LeakTexts
 pub mod JsonReports
+pub mod JsonHistories
 pub mod Ledgers
 pub mod Accounts
 pub mod Reporting
+pub mod Anywhere
+pub mod Histories
+pub mod HistoryTexts
+pub mod Chronicles
+pub mod LastAreas
+pub mod ReleaseIndex

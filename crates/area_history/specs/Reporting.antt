@@ -9,11 +9,9 @@ use Rattle.mvs_job.specs.Explaining.{without_starred}
 use Rattle.mvs_job.specs.Printed.{printed}
 use Rattle.mvs_job.specs.Trace.{Ends, Entry, IsTrace}
 use Rattle.area_history.specs.declared.account.Account.{Account}
-use Rattle.area_history.specs.Accounts.{IsLedger}
-use Rattle.area_history.specs.Ledgers.{any_leak, begun, ends_step, granted_at, ledger_from, leaks_at, no_step, some_leak}
-use Rattle.area_history.specs.declared.grant.Leak.{Leak}
-use Rattle.area_history.specs.declared.largest.Leaks.{Leaks}
-use Rattle.area_history.specs.Leaking.{summary}
+use Rattle.area_history.specs.declared.account.Leftovers.{Leftovers}
+use Rattle.area_history.specs.Accounts.{IsLedger, summary_of}
+use Rattle.area_history.specs.Ledgers.{Left, any_leak, begun, ends_step, granted_at, ledger_from, leaks_at, no_step, some_leak}
 use Rattle.area_history.specs.LeakTexts.{report_text}
 
 -- a text with another one after its first line
@@ -29,13 +27,13 @@ changes_step e = ends_step e && is_some (begun e.events)
 abbrev pub with_report : List ℕ → Entry → List ℕ → List ℕ
 with_report report e text = if changes_step e then after_first_line report text else text ++ report
 
--- The text of an entry at which a step ends with these leaks, or none.
-abbrev pub reported : (Leaks → List ℕ) → List Leak → Entry → List ℕ → List ℕ
-reported report ls e text = if some_leak ls then with_report (report (summary ls)) e text else text
+-- the text of an entry with which a step ends in which this is left, or nothing
+abbrev pub reported : (Leftovers → List ℕ) → Left → Entry → List ℕ → List ℕ
+reported report left e text = if some_leak left then with_report (report (summary_of left)) e text else text
 
 -- What is written for an entry: what another consumer writes, with a report of this form of the leaks of the step that ends. Memory may be needed
 -- for the areas that a line is granted, and for the text of an entry with the end of a step.
-abbrev pub with_leaks : (Leaks → List ℕ) → Piece → Piece
+abbrev pub with_leaks : (Leftovers → List ℕ) → Piece → Piece
 with_leaks report piece = record {
   may = λ history e text. (one : List ℕ) × piece.may history e one × (text ≡ reported report (leaks_at history e) e one);
   needs = λ e. piece.needs e ⊎ (granted_at e ≢ []) ⊎ (changes_step e ≡ true);
@@ -48,7 +46,7 @@ pub record Knows (first now : Bool) (a : Account) (entries : List Entry) : Type 
 
 -- The text between two moments of a writer is what a consumer writes for these entries, a trace of the script that ends so, with reports
 -- of leaks; and this is whether a step of them ends with a leak.
-pub record IsReported (report : Leaks → List ℕ) (piece : Piece) (before after : Option (List ℕ)) (script : List ℕ) (outcome : Outcome) (leaked : Bool) (entries : List Entry) : Type 0 where
+pub record IsReported (report : Leftovers → List ℕ) (piece : Piece) (before after : Option (List ℕ)) (script : List ℕ) (outcome : Outcome) (leaked : Bool) (entries : List Entry) : Type 0 where
   pub trace : IsTrace script entries (Ends outcome)
   pub text : List ℕ
   pub is : WritesPieces (with_leaks report piece) entries text

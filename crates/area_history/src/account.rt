@@ -1,6 +1,6 @@
 //! What a reporter keeps of the step that runs.
 
-ghost use Rattle.std.specs.Prelude.{◌≡◌, ◌≢◌, ◌+◌, ◌++◌, [], ℕ, List, None, Some, false, true, OnErr, OnOk};
+ghost use Rattle.std.specs.Prelude.{◌≡◌, ◌≢◌, ◌+◌, ◌++◌, ◌||◌, [], ℕ, List, None, Some, false, length, nat_lt, true, OnErr, OnOk};
 ghost use Rattle.mvs_model.specs.declared.name.Name.{Name as TaskName};
 ghost use Rattle.mvs_model.specs.Finite.{has};
 ghost use Rattle.mvs_model.specs.FullAnswers.{full_answer};
@@ -9,21 +9,21 @@ ghost use Rattle.mvs_model.specs.State.{State};
 ghost use Rattle.mvs_job.specs.Granting.{IsReadIn};
 ghost use Rattle.mvs_job.specs.LineEvents.{IsAvailable, WalkValue, events_of_line};
 ghost use Rattle.mvs_job.specs.Observing.{is_end};
-ghost use Rattle.area_history.specs.Accounts.{IsKept, IsLedger, IsLooked, IsObserved, IsSettled, KeepsAccount, may_end};
-ghost use Rattle.area_history.specs.Ledgers.{ends_task, granted_by, leaks_in, no_step, plain_in};
-ghost use Rattle.area_history.specs.Leaking.{summary};
+ghost use Rattle.area_history.specs.Accounts.{IsKept, IsLedger, IsLooked, IsObserved, IsSettled, KeepsAccount, may_end, summary_of};
+ghost use Rattle.area_history.specs.Ledgers.{ends_task, granted_by, no_step, nothing_left, parts_in, plain_in};
 
-use crate::grant::Holdings;
+use crate::grant::{Holdings, Selection};
 use crate::history::AreaHistory;
 use crate::largest::Leaks;
-use crate::obtained::push_granted;
-use job_script::read_line;
+use crate::obtained::{keep_built, push_granted};
+use crate::pools::{BuiltPools, LeftPools, no_pools, none_left, push_pools_left};
+use job_script::{is_same_name, read_line};
 use mvs_job::{Job, LineEvent, Walk};
 use mvs_model::answer::Answer;
 use mvs_model::error::OutOfMemory;
 use mvs_model::line::{Line, SourceRequest, Statement};
 use mvs_model::name::Name;
-use mvs_model::place::Addr;
+use mvs_model::place::{Addr, Place};
 use mvs_model::reason::Holder;
 use mvs_model::refusal::{Consequence, Refusal};
 use mvs_model::request::Request;
@@ -33,6 +33,8 @@ use std::alloc::Global;
 impl Holdings for Job {
     ghost plain = { plain_in };
 
+    ghost parts = { parts_in };
+
     fn is_plain(&self, doubleword: u32) -> bool {
         let step = self.step();
         if doubleword >= 0x1000_0000 {
@@ -40,8 +42,59 @@ impl Holdings for Job {
         }
         match step.machine().holder(Addr::new(8 * doubleword)) {
             Holder::Subpool(..) | Holder::Unowned => true,
-            Holder::Nobody | Holder::Part(_) => false,
+            Holder::Nobody | Holder::Outside | Holder::Part(_) => false,
         }
+    }
+
+    fn has_plain(&self, place: Place) -> bool {
+        let (first, count) = (place.addr().get() / 8, place.len() / 8);
+        if count == 0 {
+            return true;
+        }
+        if !self.is_plain(first) {
+            return false;
+        }
+        let whole = Place::new(Addr::new(8 * first), 8 * count);
+        self.step().bytes(whole).is_some()
+    }
+
+    fn parts(&self, pool: &Name) -> u32 {
+        match self.step().machine().newest(pool) {
+            Some(newest) => newest.parts,
+            None => 0,
+        }
+    }
+}
+
+/// What is left in a step: areas, and cell pools.
+#[derive(Drop)]
+pub struct Leftovers {
+    pub(crate) areas: Leaks,
+    pub(crate) pools: LeftPools,
+}
+
+impl Leftovers {
+    /// Makes those of a step in which nothing is left.
+    pub(crate) fn none() -> Leftovers {
+        Leftovers {
+            areas: Leaks::none(),
+            pools: none_left(),
+        }
+    }
+
+    // Removes all.
+    fn clear(&mut self)
+        ensures { self.new ≡ summary_of nothing_left }
+    {
+        self.areas.clear();
+        self.pools.clear();
+    }
+
+    /// Returns whether something is left.
+    pub(crate) fn is_some(&self) -> bool
+        ensures { result ≡ (nat_lt 0 self.now.areas.count || nat_lt 0 (length self.now.pools)) }
+    {
+        self.areas.is_some() || self.pools.len() > 0
     }
 }
 
@@ -52,16 +105,18 @@ pub struct Account {
     pub(crate) root: Option<Name>,
     /// The areas that were granted.
     pub(crate) history: AreaHistory,
+    /// The cell pools that were built.
+    pub(crate) pools: BuiltPools,
     /// The next line.
     pub(crate) read: Line,
     /// Whether the job step task has ended.
     pub(crate) is_over: bool,
     /// What was left when the job step task ended; if it runs, what is left before a line that may end it or the step.
-    pub(crate) found: Leaks,
+    pub(crate) found: Leftovers,
 }
 
-// Returns whether an answer ends its task.
-fn is_end(answer: &Answer) -> bool
+/// Returns whether an answer ends its task.
+pub(crate) fn is_end(answer: &Answer) -> bool
     ensures { (st : State) (fallen : List TaskName) (t : TaskName)
         → result ≡ is_end (full_answer st fallen t answer.now) }
 {
@@ -83,19 +138,12 @@ fn is_end(answer: &Answer) -> bool
     }
 }
 
-// Returns whether two names are the same.
-fn is_same(one: &Name, other: &Name) -> bool
-    ensures { result ≡ same_name one.now other.now }
-{
-    *one == *other
-}
-
 // Returns whether a task is the job step task.
 fn is_root(root: &Option<Name>, task: &Name) -> bool
     ensures { result ≡ has (same_name task.now) root.now }
 {
     match root {
-        Some(name) => is_same(task, name),
+        Some(name) => is_same_name(task, name),
         None => false,
     }
 }
@@ -129,8 +177,8 @@ fn may_end(root: &Option<Name>, read: &Line) -> bool
     }
 }
 
-// Reads the next line: nothing, if no step runs or the line has a fault.
-fn read_in(walk: &Walk, line: &[u8], read: &mut Line)
+/// Reads the next line: nothing, if no step runs or the line has a fault.
+pub(crate) fn read_in(walk: &Walk, line: &[u8], read: &mut Line)
     ensures { IsReadIn walk.now.step line.now read.new }
 {
     if walk.job().is_none() {
@@ -151,9 +199,10 @@ impl Account {
         Account {
             root: None,
             history: AreaHistory::new(alloc),
+            pools: no_pools(),
             read: Line::Nothing,
             is_over: false,
-            found: Leaks::none(),
+            found: Leftovers::none(),
         }
     }
 
@@ -162,9 +211,12 @@ impl Account {
         ensures kept { KeepsAccount self.old self.new }
         ensures found { IsSettled self.new (Some job.now) }
     {
-        if !self.is_over {
-            self.found = self.history.settle(job);
+        if self.is_over {
+            return;
         }
+        self.found.areas = self.history.survey(&Selection::All, job);
+        self.found.pools.clear();
+        push_pools_left(&mut self.found.pools, self.pools.as_slice(), job);
     }
 
     /// Finds what is left in the step that runs, if its job step task does.
@@ -205,15 +257,18 @@ impl Account {
     fn begin(&mut self, task: Name)
         ensures root { self.new.root ≡ Some task }
         ensures history { self.new.history ≡ [] }
+        ensures pools { self.new.pools ≡ [] }
         ensures is_over { self.new.is_over ≡ false }
         ensures found { self.new.found ≡ self.old.found }
     {
         self.root = Some(task);
         self.history.clear();
+        self.pools.clear();
         self.is_over = false;
     }
 
-    /// Keeps what becomes of a line: the areas that it was granted, and whether it ends the job step task or begins a step.
+    /// Keeps what becomes of a line: the areas that it was granted, the pool that it built, and whether it ends the job step task or
+    /// begins a step.
     pub(crate) fn keep(
         &mut self,
         number: u32,
@@ -233,6 +288,7 @@ impl Account {
             return Ok(());
         }
         push_granted(&mut self.history, number, &self.read, walk, line_event)?;
+        keep_built(&mut self.pools, number, &self.read, walk, line_event);
         self.is_over = self.is_over || ends_root(&self.root, line_event);
         Ok(())
     }

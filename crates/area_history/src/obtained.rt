@@ -7,10 +7,11 @@ ghost use Rattle.mvs_model.specs.declared.name.Name.{Name as TaskName};
 ghost use Rattle.request_forms.specs.Facts.{listed};
 ghost use Rattle.mvs_job.specs.Granting.{is_grant, reports_grant};
 ghost use Rattle.mvs_job.specs.LineEvents.{IsAvailable, WalkValue, events_of_line};
-ghost use Rattle.area_history.specs.Ledgers.{area_grant, area_grants, granted_by, obtained_by};
+ghost use Rattle.area_history.specs.Ledgers.{area_grant, area_grants, built_with, granted_by, obtained_by, pools_by};
 
 use crate::grant::AreaGrant;
 use crate::history::AreaHistory;
+use crate::pools::{BuiltPools, PoolBuild, part_len, with_pool};
 use mvs_job::{Job, LineEvent, Walk};
 use mvs_model::answer::Answer;
 use mvs_model::error::OutOfMemory;
@@ -38,8 +39,8 @@ fn is_grant(answer: &Answer) -> bool
     }
 }
 
-// Returns whether the events of a line say that a request was granted.
-fn reports_grant(line_event: &LineEvent) -> bool
+/// Returns whether the events of a line say that a request was granted.
+pub(crate) fn reports_grant(line_event: &LineEvent) -> bool
     ensures { (number : ℕ) (walk : WalkValue) → IsAvailable walk line_event.now
         → result ≡ reports_grant (events_of_line number walk line_event.now) }
 {
@@ -167,5 +168,60 @@ pub(crate) fn push_granted(
     match walk.job() {
         Some(job) => push_obtained(history, line, task, job, written),
         None => Ok(()),
+    }
+}
+
+// Returns the pool that a task's request built.
+fn built_with(line: u32, task: &Name, job: &Job, written: &SourceRequest) -> Option<PoolBuild>
+    ensures { result ≡ built_with line task.now job.now written.now }
+{
+    let SourceRequest::Build {
+        pool,
+        number,
+        size,
+        primary,
+        secondary,
+        ..
+    } = written
+    else {
+        return None;
+    };
+    let Some((subpool, owner)) = job.step().machine().resolved_owner(task, *number) else {
+        return None;
+    };
+    Some(PoolBuild {
+        pool: *pool,
+        first: part_len(size, primary),
+        further: part_len(size, secondary),
+        line,
+        task: *task,
+        subpool,
+        owner,
+    })
+}
+
+/// Keeps the pool that a line built, if it did, by what was read of it.
+pub(crate) fn keep_built(
+    pools: &mut BuiltPools,
+    line: u32,
+    read: &Line,
+    walk: &Walk,
+    line_event: &LineEvent,
+)
+    requires { IsAvailable walk.now line_event.now }
+    ensures { pools.new
+        ≡ pools_by line read.now (events_of_line line walk.now line_event.now) walk.now.step pools.old }
+{
+    let Line::Statement(task, Statement::Request(written)) = read else {
+        return;
+    };
+    if !reports_grant(line_event) {
+        return;
+    }
+    let Some(job) = walk.job() else {
+        return;
+    };
+    if let Some(built) = built_with(line, task, job, written) {
+        *pools = with_pool(pools, &built, job);
     }
 }

@@ -8,9 +8,8 @@ ghost use Rattle.std.specs.List.{list_any};
 ghost use Rattle.area_history.specs.Ledgers.{is_step_end, no_step};
 ghost use Rattle.area_history.specs.Reporting.{Knows, after_first_line, with_leaks};
 
-use crate::account::Account;
+use crate::account::{Account, Leftovers};
 use crate::format::ReportFormat;
-use crate::largest::Leaks;
 use crate::texts::line_len;
 use job_script::write_all;
 use mvs_job::{Consumer, End, Job, LineEvent, Observer, Stop, Walk};
@@ -68,14 +67,14 @@ fn print_with_report<W: Write, F: ReportFormat>(
     writer: &mut Watched<W>,
     text: &[u8],
     format: &F,
-    leaks: &Leaks,
+    left: &Leftovers,
 ) -> Result<(), Failed>
     ensures { Prints W.contents writer.old writer.new result
-        (after_first_line (F.report leaks.now) text.now) }
+        (after_first_line (F.report left.now) text.now) }
 {
     let len = first_line_len(text);
     write_all(writer, &text[..len])?;
-    format.print(writer, leaks)?;
+    format.print(writer, left)?;
     write_all(writer, &text[len..])
 }
 

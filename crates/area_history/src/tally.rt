@@ -1,21 +1,39 @@
 //! What is left of the areas of a step.
 
-ghost use Rattle.std.specs.Prelude.{◌≡◌, ◌≤◌, ◌+◌, ◌/◌, ◌∷◌, [], ℕ, length, take};
-ghost use Rattle.area_history.specs.Leaking.{Fit, IsClear, is_covered, is_marked, leaks, ranked, total};
+ghost use Rattle.std.specs.Prelude.{◌≡◌, ◌≤◌, ◌+◌, ◌/◌, ◌∷◌, [], ℕ, length, take, true, if◌then◌else◌};
+ghost use Rattle.area_history.specs.Leaking.{Fit, IsClear, has_room, is_covered, is_marked, leaks, ranked, selects, total};
+ghost use Rattle.area_history.specs.Totals.{by_subpool, by_task};
 
-use crate::grant::{AreaGrant, Holdings};
+use crate::grant::{AreaGrant, Holdings, Selection};
 use crate::largest::Leaks;
 use crate::marks::Marks;
 
-// Returns what is left of the areas of a step. It goes from the last area to the first, and marks the doublewords of each.
-pub(crate) fn tally<P: Holdings>(grants: &[AreaGrant], marks: &mut Marks, step: &P) -> Leaks
+/// Returns the doublewords of an area, if it is selected.
+pub(crate) fn selected(which: &Selection, grant: &AreaGrant, doublewords: u32) -> u32
+    ensures { result ≡ (if selects which.now grant.now then doublewords else 0) }
+{
+    if which.selects(grant) { doublewords } else { 0 }
+}
+
+// Returns what is left of selected areas. It goes from the last area to the first, and marks the doublewords of each.
+pub(crate) fn tally<P: Holdings>(
+    grants: &[AreaGrant],
+    marks: &mut Marks,
+    which: &Selection,
+    step: &P,
+) -> Leaks
     requires clear { IsClear marks.old }
     requires fit { Fit marks.old grants.now }
-    ensures largest { result.largest ≡ take 10 (ranked (leaks (P.plain step.now) grants.now)) }
-    ensures count { result.count ≡ length (leaks (P.plain step.now) grants.now) }
-    ensures bytes { result.bytes ≡ total (leaks (P.plain step.now) grants.now) }
+    ensures largest { result.largest
+        ≡ take 10 (ranked (leaks (selects which.now) (P.plain step.now) grants.now)) }
+    ensures count { result.count ≡ length (leaks (selects which.now) (P.plain step.now) grants.now) }
+    ensures bytes { result.bytes ≡ total (leaks (selects which.now) (P.plain step.now) grants.now) }
+    ensures subpools { result.subpools
+        ≡ take 10 (by_subpool (leaks (selects which.now) (P.plain step.now) grants.now)) }
+    ensures tasks { result.tasks
+        ≡ take 10 (by_task (leaks (selects which.now) (P.plain step.now) grants.now)) }
     ensures marks { (d : ℕ) → is_marked marks.new d ≡ is_covered grants.now d }
-    ensures len { length marks.new ≡ length marks.old }
+    ensures room { (d : ℕ) → has_room marks.new d ≡ has_room marks.old d }
 {
     let mut found = Leaks::none();
     let mut rest = grants.len();
@@ -23,17 +41,17 @@ pub(crate) fn tally<P: Holdings>(grants: &[AreaGrant], marks: &mut Marks, step: 
         rest -= 1;
         let grant = &grants[rest];
         let doublewords = marks.take(grant.place, step);
-        found.add(grant, doublewords);
+        found.add(grant, selected(which, grant, doublewords));
     }
     found
 }
 
 // Removes the marks of areas.
 pub(crate) fn unmark(grants: &[AreaGrant], marks: &mut Marks)
-    requires marked { (d : ℕ) → is_marked marks.old d ≡ is_covered grants.now d }
+    requires marked { (d : ℕ) → is_marked marks.old d ≡ true → is_covered grants.now d ≡ true }
     requires fit { Fit marks.old grants.now }
     ensures clear { IsClear marks.new }
-    ensures len { length marks.new ≡ length marks.old }
+    ensures room { (d : ℕ) → has_room marks.new d ≡ has_room marks.old d }
 {
     let mut done = 0;
     'grants: while done < grants.len() {

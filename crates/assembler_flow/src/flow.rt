@@ -71,7 +71,7 @@ struct Branch<'a> {
     statement: &'a SourceStatement,
 }
 
-// The register of an address that is nothing but an offset and a register, as `4(,14)`, `0(14)` or `START-PROG(,15)`.
+// Returns the register of an address that is nothing but an offset and a register, as `4(,14)`, `0(14)` or `START-PROG(,15)`.
 fn based(operand: &str) -> Option<&str> {
     let (offset, rest) = operand.split_once('(')?;
     let is_number = offset.chars().all(|letter| letter.is_ascii_digit());

@@ -19,12 +19,12 @@ pub struct Sections {
     starts: BTreeMap<String, usize>,
 }
 
-// The characters at a symbol.
+// Returns the characters at a symbol.
 fn characters_at<'a>(symbols: &'a Symbols, symbol: &str) -> Option<&'a str> {
     Some(symbols.get(symbol)?.characters.as_ref()?.as_str())
 }
 
-// The program that a statement attaches.
+// Returns the program that a statement attaches.
 fn attached_by<'a>(symbols: &'a Symbols, statement: &'a SourceStatement) -> Option<&'a str> {
     if !statement.operation.starts_with("ATTACH") {
         return None;
@@ -39,12 +39,12 @@ fn attached_by<'a>(symbols: &'a Symbols, statement: &'a SourceStatement) -> Opti
     None
 }
 
-// Whether a statement says that its program may reside above 16 megabytes.
+// Returns whether a statement says that its program may reside above 16 megabytes.
 fn is_above(statement: &SourceStatement) -> bool {
     statement.operation.as_str() == "RMODE" && matches!(statement.field.as_str(), "ANY" | "31")
 }
 
-// The label of the first section.
+// Returns the label of the first section.
 fn first_section(statements: &[SourceStatement]) -> &str {
     for statement in statements {
         if begins_section(statement) && !statement.label.is_empty() {

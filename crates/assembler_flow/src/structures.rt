@@ -92,8 +92,8 @@ impl StructureReading {
     fn leave_loop(&mut self, place: usize, is_conditional: bool) -> Result<(), AllocError> {
         match self.ends_of_loops.last() {
             Some(end) => {
-                let behind = end.saturating_add(1);
-                self.put(place, leaving(behind, "ENDDO", is_conditional))
+                let next = end.saturating_add(1);
+                self.put(place, leaving(next, "ENDDO", is_conditional))
             }
             None => Ok(()),
         }

@@ -92,12 +92,12 @@ pub struct SymbolNames {
     times: BTreeMap<String, u32>,
 }
 
-// Whether a name may have a character.
+// Returns whether a name may have a character.
 fn is_of_name(letter: char) -> bool {
     matches!(letter, 'A'..='Z' | '0'..='9' | '@' | '#' | '$')
 }
 
-// The characters of a symbol that a name may have, from the first that is no digit on, up to a number.
+// Returns the characters of a symbol that a name may have, from the first that is no digit on, up to a number.
 fn shortened(alloc: Global, symbol: &str, most: usize) -> Result<String, AllocError> {
     let name: String = symbol
         .chars()

@@ -20,7 +20,7 @@ pub struct Keys {
     pub authorized: &'static [&'static str],
 }
 
-// The key and the value of an operand that has one.
+// Returns the key and the value of an operand that has one.
 fn keyed(operand: &str) -> Option<(&str, &str)> {
     let (key, value) = operand.split_once('=')?;
     if !key.is_empty() && key.chars().all(|letter| letter.is_ascii_alphanumeric()) {

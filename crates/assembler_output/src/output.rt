@@ -56,7 +56,7 @@ impl From<AllocError> for ScriptStop {
     }
 }
 
-// Whether a line of a script says a statement.
+// Returns whether a line of a script says a statement.
 fn is_statement(line: &str) -> bool {
     let mut read = Line::Nothing;
     match read_line(line.as_bytes(), false, &mut read) {
@@ -65,12 +65,12 @@ fn is_statement(line: &str) -> bool {
     }
 }
 
-// The front of a line that a script may have.
+// Returns the front of a line that a script may have.
 fn cut(alloc: Global, line: &str) -> Result<String, AllocError> {
     line.chars().take(LONGEST).collect(alloc)
 }
 
-// The line of the source in which something is found.
+// Returns the line of the source in which something is found.
 fn source_line(alloc: Global, found: &FoundLine) -> Result<String, AllocError> {
     let number = found.number;
     if found.member.is_empty() {
@@ -80,7 +80,7 @@ fn source_line(alloc: Global, found: &FoundLine) -> Result<String, AllocError> {
     format!(in alloc; "{member}:{number}")
 }
 
-// In which loop a request is.
+// Returns the text that says in which loop a request is.
 fn within(alloc: Global, found: &FoundLine) -> Result<String, AllocError> {
     match &found.in_loop {
         Some(label) => format!(in alloc; " in loop {label}"),
@@ -88,7 +88,7 @@ fn within(alloc: Global, found: &FoundLine) -> Result<String, AllocError> {
     }
 }
 
-// The line of a statement of a script, with the source as a remark.
+// Returns the line of a statement of a script, with the source as a remark.
 fn statement_line(
     alloc: Global,
     found: &FoundLine,
@@ -104,7 +104,7 @@ fn statement_line(
     )
 }
 
-// The comment on something that needs attention.
+// Returns the comment on something that needs attention.
 fn comment(alloc: Global, found: &FoundLine, why: &str) -> Result<String, AllocError> {
     let line = source_line(alloc, found)?;
     let source = found.source.as_str();
@@ -122,7 +122,7 @@ enum WrittenLine<'a> {
     Open(String),
 }
 
-// What becomes of the statement of a task: a line that the script does not take needs attention.
+// Returns what becomes of the statement of a task: a line that the script does not take needs attention.
 fn statement_of<'a>(
     alloc: Global,
     found: &FoundLine,
@@ -137,7 +137,7 @@ fn statement_of<'a>(
     Ok(WrittenLine::Open(why))
 }
 
-// What becomes of something that is found.
+// Returns what becomes of something that is found.
 fn line_of(alloc: Global, found: &FoundLine) -> Result<WrittenLine<'_>, AllocError> {
     match &found.saying {
         Saying::Statement { task, text } => statement_of(alloc, found, task, text),
@@ -148,7 +148,7 @@ fn line_of(alloc: Global, found: &FoundLine) -> Result<WrittenLine<'_>, AllocErr
     }
 }
 
-// Something that is found as JSON.
+// Returns a line that was found, as JSON.
 fn json_of(
     alloc: Global,
     found: &FoundLine,
@@ -170,7 +170,7 @@ fn json_of(
     json.end()
 }
 
-// Something that is found as a line of the script.
+// Returns a line that was found, as a line of the script.
 fn script_line(
     alloc: Global,
     found: &FoundLine,
@@ -187,7 +187,7 @@ fn put<W: Write>(writer: &mut W, line: &str) -> Result<(), ScriptStop> {
     writeln!(writer, "{line}").map_err(|error| ScriptStop::from(error.kind()))
 }
 
-// The comment on the region: what was written, or that the largest one is assumed.
+// Returns the comment on the region: what was written, or that the largest one is assumed.
 fn region_comment(alloc: Global, form: ScriptForm<'_>) -> Result<String, AllocError> {
     let RegionPages { below, above } = form.region.unwrap_or(LARGEST);
     let written = form.written;

@@ -10,7 +10,7 @@ use std::io::Write;
 /// How many bytes a card of a constant has.
 const OF_A_CARD: usize = 16;
 
-// A constant of some bytes.
+// Returns a constant of some bytes.
 fn hexadecimal(alloc: Global, bytes: &[u8]) -> Result<String, AllocError> {
     let mut text = String::from_str(alloc, "X'")?;
     for byte in bytes {
@@ -70,7 +70,7 @@ impl<W: Write> Writing<W> {
         self.cards.go("OKAY")
     }
 
-    /// A request that touches bytes.
+    /// Writes a request that touches bytes.
     pub fn of_bytes(
         &mut self,
         entry: &StepEntry,
@@ -84,7 +84,7 @@ impl<W: Write> Writing<W> {
         }
     }
 
-    /// The place of an area.
+    /// Writes a WHERE: the place of an area.
     pub fn of_where(&mut self, name: &Name) -> Result<(), ProgramFault> {
         self.point_to_name(2, name)?;
         self.cards.code("L", "0,0(,2)")?;

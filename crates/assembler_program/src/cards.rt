@@ -40,7 +40,7 @@ fn pad(card: &mut String, column: usize) -> Result<(), AllocError> {
     Ok(())
 }
 
-// The places at which a text of operands may be parted: after its commas outside of quotes.
+// Returns the places at which a text of operands may be parted: after its commas outside of quotes.
 fn parts(alloc: Global, operands: &str) -> Result<Vec<String>, AllocError> {
     let mut parts = Vec::new(alloc);
     let mut part = String::new(alloc);
@@ -61,15 +61,17 @@ fn parts(alloc: Global, operands: &str) -> Result<Vec<String>, AllocError> {
 }
 
 impl<W: Write> Cards<W> {
+    /// Makes a writer of cards. It writes nothing.
     pub fn new(alloc: Global, writer: W) -> Cards<W> {
         Cards { alloc, writer }
     }
 
+    /// Returns the allocator.
     pub fn alloc(&self) -> Global {
         self.alloc
     }
 
-    /// A card as it is.
+    /// Writes a card as it is.
     pub fn card(&mut self, text: &str) -> Result<(), ProgramFault> {
         let writer = &mut self.writer;
         writeln!(writer, "{text}").map_err(|_| ProgramFault::Write)
@@ -83,7 +85,7 @@ impl<W: Write> Cards<W> {
         Ok(())
     }
 
-    /// A comment, as much of it as a card has room for.
+    /// Writes a comment, as much of it as a card has room for.
     pub fn comment(&mut self, text: &str) -> Result<(), ProgramFault> {
         let mut card = String::from_str(self.alloc, "* ")?;
         for letter in text.chars().take(LAST - 2) {
@@ -92,7 +94,7 @@ impl<W: Write> Cards<W> {
         self.card(&card)
     }
 
-    /// A statement. Operands that have no room go on in the next card.
+    /// Writes a statement. Operands that have no room continue on the next card.
     pub fn statement(
         &mut self,
         label: &str,
@@ -119,7 +121,7 @@ impl<W: Write> Cards<W> {
         self.card(card.trim_end())
     }
 
-    /// An instruction or macro without a label.
+    /// Writes an instruction or macro without a label.
     pub fn code(&mut self, operation: &str, operands: &str) -> Result<(), ProgramFault> {
         self.statement("", operation, operands)
     }

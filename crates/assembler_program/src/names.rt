@@ -11,19 +11,20 @@ pub struct Table {
     names: Vec<Name>,
 }
 
-/// The text of a name.
+/// Returns the text of a name.
 pub fn text_of(name: &Name) -> &str {
     str::from_utf8(name.text()).unwrap_or("")
 }
 
 impl Table {
+    /// Makes an empty table.
     pub fn new(alloc: Global) -> Table {
         Table {
             names: Vec::new(alloc),
         }
     }
 
-    /// The number of a name, which is new or not.
+    /// Returns the number of a name, which is new or not.
     pub fn number(&mut self, name: &Name) -> Result<usize, AllocError> {
         let place = self.names.iter().position(|other| *other == *name);
         match place {
@@ -35,6 +36,7 @@ impl Table {
         }
     }
 
+    /// Returns the names, in the order of their numbers.
     pub fn names(&self) -> &[Name] {
         &self.names
     }
@@ -55,6 +57,7 @@ pub struct StepNames {
 }
 
 impl StepNames {
+    /// Makes an empty table.
     pub fn new(alloc: Global) -> StepNames {
         StepNames {
             tasks: Table::new(alloc),
@@ -64,7 +67,7 @@ impl StepNames {
         }
     }
 
-    /// The program of a task resides there from now on. That of the first one stays where it is: its name is in use as long as the
+    /// Keeps where the program of a task resides from now on. That of the first one stays where it is: its name is in use as long as the
     /// step lasts.
     pub fn reside(&mut self, task: &Name, residence: Residence) -> Result<(), AllocError> {
         match self.residences.first() {
@@ -74,7 +77,7 @@ impl StepNames {
         Ok(())
     }
 
-    /// Where the program of a task resides.
+    /// Returns where the program of a task resides.
     pub fn residence(&self, task: &Name) -> Residence {
         let mut found = Residence::Below;
         for (name, residence) in self.residences.iter() {

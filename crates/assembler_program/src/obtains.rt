@@ -21,7 +21,7 @@ const PAGE: u32 = 12;
 /// The bit that ends a list of lengths.
 const END_OF_LIST: u32 = 0x8000_0000;
 
-/// The word for a form of GETMAIN and FREEMAIN.
+/// Returns the word for a form of GETMAIN and FREEMAIN.
 pub fn word_for(form: Form) -> &'static str {
     match form {
         Form::R => "R",
@@ -38,12 +38,12 @@ pub fn word_for(form: Form) -> &'static str {
     }
 }
 
-/// A length as it is rounded up to doublewords.
+/// Returns a length rounded up to doublewords.
 pub fn rounded(length: u32) -> u32 {
     length.div_ceil(8).saturating_mul(8)
 }
 
-// A constant that is a list of lengths.
+// Returns a constant that is a list of lengths.
 fn length_list(alloc: Global, lengths: &Lengths) -> Result<String, AllocError> {
     let mut text = String::new(alloc);
     let count = lengths.len();
@@ -76,7 +76,7 @@ impl fmt::Display for Boundaries {
     }
 }
 
-/// A location, where a program resides there.
+/// Returns the operand LOC of a request, by where the program resides.
 pub fn location(loc: Loc, residence: Residence) -> &'static str {
     match (loc, residence) {
         (Loc::Below, _) | (Loc::Res, Residence::Below) => "24",
@@ -84,7 +84,7 @@ pub fn location(loc: Loc, residence: Residence) -> &'static str {
     }
 }
 
-// Whether a form takes a location.
+// Returns whether a form takes a location.
 fn takes_location(form: Form) -> bool {
     matches!(
         form,
@@ -93,7 +93,7 @@ fn takes_location(form: Form) -> bool {
 }
 
 impl<W: Write> Writing<W> {
-    // What follows the lengths of a request.
+    // Returns what follows the lengths of a request.
     fn rest(
         &self,
         entry: &StepEntry,
@@ -124,7 +124,7 @@ impl<W: Write> Writing<W> {
         Ok(())
     }
 
-    // A request whose area comes in register 1, and its length in register 0 where it is variable.
+    // Writes a request whose area comes in register 1, and its length in register 0 where it is variable.
     fn obtain_in_register(
         &mut self,
         entry: &StepEntry,
@@ -145,7 +145,7 @@ impl<W: Write> Writing<W> {
         }
     }
 
-    // A request whose area comes in words.
+    // Writes a request whose area comes in words.
     fn obtain_in_words(
         &mut self,
         entry: &StepEntry,
@@ -172,7 +172,7 @@ impl<W: Write> Writing<W> {
         self.point(3, "WORDS")
     }
 
-    // A request for one area of a length.
+    // Writes a request for one area of a length.
     fn obtain_fixed(
         &mut self,
         entry: &StepEntry,
@@ -194,7 +194,7 @@ impl<W: Write> Writing<W> {
         self.cards.go("RC0")
     }
 
-    // A request for one area of some length.
+    // Writes a request for one area of some length.
     fn obtain_variable(
         &mut self,
         entry: &StepEntry,
@@ -217,7 +217,7 @@ impl<W: Write> Writing<W> {
         self.cards.go("RCLEN")
     }
 
-    // A request for one area of some length that comes in words: loads the address in register 1 and the length in register 0.
+    // Writes a request for one area of some length that comes in words: loads the address in register 1 and the length in register 0.
     fn obtain_some_in_words(
         &mut self,
         entry: &StepEntry,
@@ -229,7 +229,7 @@ impl<W: Write> Writing<W> {
         self.cards.code("L", "0,4(,3)")
     }
 
-    // The least and the greatest length of a request, with their label.
+    // Writes the least and the greatest length of a request, with their label.
     fn put_bounds(&mut self, entry: &StepEntry, ask: &AreaRequest) -> Result<(), ProgramFault> {
         let alloc = self.cards.alloc();
         let label = format!(in alloc; "X{}", entry.number)?;
@@ -237,7 +237,7 @@ impl<W: Write> Writing<W> {
         self.cards.statement(&label, "DC", &bounds)
     }
 
-    // A request for a list of areas.
+    // Writes a request for a list of areas.
     fn obtain_list(
         &mut self,
         entry: &StepEntry,
@@ -272,7 +272,7 @@ impl<W: Write> Writing<W> {
         self.cards.statement(label, "DC", &list)
     }
 
-    /// A request for one area or for a list of them.
+    /// Writes a request for one area or for a list of them.
     pub fn obtain(
         &mut self,
         entry: &StepEntry,

@@ -85,7 +85,7 @@ impl<W: Write> Writing<W> {
         self.cards.go("RC0")
     }
 
-    /// A request of a pool.
+    /// Writes a request of a pool.
     pub fn of_pool(
         &mut self,
         entry: &StepEntry,

@@ -17,7 +17,7 @@ struct ProgramReading {
     steps: u32,
 }
 
-// The statement of a line, without its task.
+// Returns the statement of a line, without its task.
 fn statement_text(line: &str) -> &str {
     match line.split_once(' ') {
         Some((_, text)) => text.trim(),
@@ -25,7 +25,7 @@ fn statement_text(line: &str) -> &str {
     }
 }
 
-// Whether a statement of a line is one of STORAGE.
+// Returns whether a statement of a line is one of STORAGE.
 fn is_of_storage(line: &str) -> bool {
     statement_text(line).starts_with("STORAGE")
 }
@@ -43,7 +43,7 @@ fn name_tasks(names: &mut StepNames, entries: &[StepEntry]) -> Result<(), AllocE
 }
 
 impl<W: Write> Writing<W> {
-    // What the first line of the step prints, and which slot is that of its task.
+    // Writes what the first line of the step prints, and which slot is that of its task.
     fn put_region(&mut self, entry: &StepEntry) -> Result<(), ProgramFault> {
         let Statement::Region {
             below,
@@ -69,7 +69,7 @@ impl<W: Write> Writing<W> {
         self.cards.statement("FIRST", "EQU", &task)
     }
 
-    // The line of a statement, as the first task looks it up.
+    // Writes the line of a statement, as the first task looks it up.
     fn put_line(&mut self, entry: &StepEntry) -> Result<(), ProgramFault> {
         let alloc = self.cards.alloc();
         let task = self.task(&entry.task)?;
@@ -87,7 +87,7 @@ impl<W: Write> Writing<W> {
         self.cards.statement("", "DC", &operands)
     }
 
-    // The lines of a step, but for reports.
+    // Writes the lines of a step, but for reports.
     fn put_lines(&mut self, entries: &[StepEntry]) -> Result<(), ProgramFault> {
         self.cards.statement("LINES", "DS", "0F")?;
         for (place, entry) in entries.iter().enumerate() {
@@ -98,7 +98,7 @@ impl<W: Write> Writing<W> {
         self.cards.statement("", "DC", "A(0)")
     }
 
-    // The slot of a task.
+    // Writes the slot of a task.
     fn put_slot(&mut self, label: &str, name: &Name) -> Result<(), ProgramFault> {
         let alloc = self.cards.alloc();
         let text = text_of(name);
@@ -110,7 +110,7 @@ impl<W: Write> Writing<W> {
         self.cards.statement(label, "DC", &operands)
     }
 
-    // The slots of the tasks, and the list of them in byte order.
+    // Writes the slots of the tasks, and the list of them in byte order.
     fn put_slots(&mut self) -> Result<(), ProgramFault> {
         let alloc = self.cards.alloc();
         let mut tasks = Vec::new(alloc);
@@ -130,7 +130,7 @@ impl<W: Write> Writing<W> {
         Ok(())
     }
 
-    // Three words for each of a number of names of areas or pools: address, length, and whether it is set.
+    // Writes three words for each of a number of names of areas or pools: address, length, and whether it is set.
     fn put_places(&mut self, letter: &str, count: usize) -> Result<(), ProgramFault> {
         let alloc = self.cards.alloc();
         for number in 1..=count {
@@ -140,7 +140,7 @@ impl<W: Write> Writing<W> {
         Ok(())
     }
 
-    // The program of a step.
+    // Writes the program of a step.
     fn put_step(&mut self, entries: &[StepEntry]) -> Result<(), ProgramFault> {
         name_tasks(&mut self.names, entries)?;
         self.cards.cards(DRIVER)?;
@@ -185,7 +185,7 @@ fn end_step<W: Write + Drop>(
     Ok(())
 }
 
-// The statement of a line, if it has one.
+// Returns the statement of a line, if it has one.
 fn entry_of(
     alloc: Global,
     line: &str,

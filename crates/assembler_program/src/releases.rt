@@ -11,7 +11,7 @@ use mvs_model::request::Lengths;
 use std::io::Write;
 
 impl<W: Write> Writing<W> {
-    // A release of one area.
+    // Writes a release of one area.
     fn release_area(
         &mut self,
         entry: &StepEntry,
@@ -30,7 +30,7 @@ impl<W: Write> Writing<W> {
         self.cards.go("RC0")
     }
 
-    // STORAGE RELEASE of the area to which register 2 points.
+    // Writes STORAGE RELEASE of the area to which register 2 points.
     fn storage_release(&mut self, form: Form, number: u8, length: u32) -> Result<(), ProgramFault> {
         let condition = if is_conditional(form) { "YES" } else { "NO" };
         let operands = format!(in self.cards.alloc();
@@ -39,7 +39,7 @@ impl<W: Write> Writing<W> {
         self.cards.code("STORAGE", &operands)
     }
 
-    // FREEMAIN of the area to which register 2 points: in the E forms the address is in a word, to which register 3 points.
+    // Writes FREEMAIN of the area to which register 2 points: in the E forms the address is in a word, to which register 3 points.
     fn freemain(&mut self, form: Form, number: u8, length: u32) -> Result<(), ProgramFault> {
         let is_in_word = matches!(form, Form::Ec | Form::Eu);
         if is_in_word {
@@ -54,7 +54,7 @@ impl<W: Write> Writing<W> {
         self.cards.code("FREEMAIN", &operands)
     }
 
-    // A release of an area by the two words that its name has.
+    // Writes a release of an area by the two words that its name has.
     fn release_named(&mut self, form: Form, number: u8, area: &Name) -> Result<(), ProgramFault> {
         self.point_to_name(3, area)?;
         let word = word_for(form);
@@ -64,7 +64,7 @@ impl<W: Write> Writing<W> {
         self.cards.go("RC0")
     }
 
-    // A release of a list of areas.
+    // Writes a release of a list of areas.
     fn release_list(
         &mut self,
         entry: &StepEntry,
@@ -93,7 +93,7 @@ impl<W: Write> Writing<W> {
         Ok(())
     }
 
-    // FREEMAIN of the list to which registers 3 and 4 point.
+    // Writes FREEMAIN of the list to which registers 3 and 4 point.
     fn freemain_list(&mut self, form: Form, number: u8) -> Result<(), ProgramFault> {
         let word = word_for(form);
         let operands = format!(in self.cards.alloc(); "{word},LA=(4),A=(3),SP={number}")?;
@@ -102,7 +102,7 @@ impl<W: Write> Writing<W> {
         self.cards.go("RC0")
     }
 
-    // A release of a whole subpool.
+    // Writes a release of a whole subpool.
     fn release_whole(
         &mut self,
         entry: &StepEntry,
@@ -123,7 +123,7 @@ impl<W: Write> Writing<W> {
         self.cards.go("RC0")
     }
 
-    /// A release of any kind.
+    /// Writes a release of any kind.
     pub fn release(
         &mut self,
         entry: &StepEntry,

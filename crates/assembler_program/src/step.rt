@@ -18,7 +18,7 @@ pub struct StepEntry {
     pub is_storage: bool,
 }
 
-/// Whether a statement is written as a routine.
+/// Returns whether a statement is written as a routine.
 pub fn is_written(statement: &Statement) -> bool {
     matches!(statement, Statement::Request(_) | Statement::Where(_))
 }
@@ -31,19 +31,19 @@ pub struct Writing<W> {
 }
 
 impl<W: Write> Writing<W> {
-    /// The label of an area or a cell.
+    /// Returns the label of an area or a cell.
     pub fn area(&mut self, name: &Name) -> Result<String, AllocError> {
         let number = self.names.areas.number(name)?;
         format!(in self.cards.alloc(); "N{number}")
     }
 
-    /// The label of a pool.
+    /// Returns the label of a pool.
     pub fn pool(&mut self, name: &Name) -> Result<String, AllocError> {
         let number = self.names.pools.number(name)?;
         format!(in self.cards.alloc(); "P{number}")
     }
 
-    /// The label of a task.
+    /// Returns the label of a task.
     pub fn task(&mut self, name: &Name) -> Result<String, AllocError> {
         let number = self.names.tasks.number(name)?;
         format!(in self.cards.alloc(); "T{number}")
@@ -110,7 +110,7 @@ impl<W: Write> Writing<W> {
         self.cards.code("BRASL", "14,SETAREA")
     }
 
-    // What a request is written as.
+    // Writes a request.
     fn request(&mut self, entry: &StepEntry, written: &SourceRequest) -> Result<(), ProgramFault> {
         match written {
             SourceRequest::Obtain { .. } | SourceRequest::ObtainList { .. } => self.obtain(

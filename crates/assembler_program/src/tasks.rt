@@ -12,7 +12,7 @@ use std::io::Write;
 /// The numbers that a task may have under subpools of its own.
 const NUMBERS: u8 = 128;
 
-// The numbers that are given, or shared, from 1 on.
+// Returns the numbers that are given, or shared, from 1 on.
 fn numbers(alloc: Global, gifts: &Gifts, is_given: bool) -> Result<Vec<u8>, AllocError> {
     let mut numbers = Vec::new(alloc);
     for number in 1..NUMBERS {
@@ -28,7 +28,7 @@ fn numbers(alloc: Global, gifts: &Gifts, is_given: bool) -> Result<Vec<u8>, Allo
     Ok(numbers)
 }
 
-// A constant that is a list of numbers, its length in front.
+// Returns a constant that is a list of numbers, with its length first.
 fn number_list(alloc: Global, numbers: &[u8]) -> Result<String, AllocError> {
     let mut text = format!(in alloc; "AL1({})", numbers.len())?;
     for number in numbers {
@@ -38,7 +38,7 @@ fn number_list(alloc: Global, numbers: &[u8]) -> Result<String, AllocError> {
 }
 
 impl<W: Write> Writing<W> {
-    // The operand of ATTACH for some numbers: one as it is, several by a list.
+    // Returns the operand of ATTACH for some numbers: one as it is, several by a list.
     fn presents(
         &self,
         entry: &StepEntry,
@@ -54,7 +54,7 @@ impl<W: Write> Writing<W> {
         }
     }
 
-    // The list of some numbers, if they are several.
+    // Writes the list of some numbers, if there are several.
     fn put_list(
         &mut self,
         entry: &StepEntry,
@@ -97,7 +97,7 @@ impl<W: Write> Writing<W> {
         self.cards.code("BRASL", "14,NEWSLOT")
     }
 
-    // ATTACHX of a task with what it is given and shares.
+    // Writes ATTACHX of a task with what it is given and shares.
     fn attachx(
         &mut self,
         task: &str,
@@ -114,7 +114,7 @@ impl<W: Write> Writing<W> {
         self.cards.go("ATTD")
     }
 
-    /// A request that begins or ends a task.
+    /// Writes a request that begins or ends a task.
     pub fn of_task(
         &mut self,
         entry: &StepEntry,
@@ -138,7 +138,7 @@ impl<W: Write> Writing<W> {
         }
     }
 
-    /// The task of a step begins.
+    /// Begins the task of a step.
     pub fn begin(&mut self, task: &Name, residence: Residence) -> Result<(), ProgramFault> {
         Ok(self.names.reside(task, residence)?)
     }

@@ -147,7 +147,7 @@ STEPEND1 LARL  2,TSTEP
          L     14,12(,13)
          LM    0,12,20(13)
          BR    14
-*  Tells the text at register 1, behind the line and its task.
+*  Prints the text at register 1, after the line and its task.
 SAY      ST    14,SAYBACK
          LA    2,OUTTEXT
          SR    3,3

@@ -32,11 +32,11 @@ pub fn convert(
     known: KnownValues<'_>,
     given: &mut GivenNames,
     operands: &MacroOperands,
-    asked: Macro,
+    wanted: Macro,
 ) -> Result<Converted, Unsaid> {
     let request = MacroRequest { known, operands };
     let mut text = String::new(known.alloc);
-    let comes = match asked {
+    let comes = match wanted {
         Macro::Getmain => Some(request.getmain(&mut given.names, &mut text)?),
         Macro::Freemain => {
             request.freemain(&mut given.names, &mut text)?;

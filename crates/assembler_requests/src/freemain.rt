@@ -15,7 +15,7 @@ const KEYS: Keys = Keys {
 /// The greatest length that register 0 holds without a subpool number.
 const MOST_IN_REGISTER: u32 = 0xFF_FFFF;
 
-// A form as the script has it: those of one letter are unconditional.
+// Returns a form as the script has it: those of one letter are unconditional.
 fn form_of(form: &str) -> &str {
     match form {
         "E" => "EU",

@@ -163,11 +163,11 @@ impl<'a> MacroRequest<'a> {
     pub fn getmain(self, names: &mut SymbolNames, text: &mut String) -> Result<Comes, Unsaid> {
         self.operands.check(&KEYS)?;
         let form = self.operands.at(0);
-        let Some(asked) = asks_of(form) else {
+        let Some(wanted) = asks_of(form) else {
             return Err(self.no_form(form));
         };
         write!(text, "GETMAIN {form}")?;
-        match asked {
+        match wanted {
             Asks::InRegister => self.get_in_register(names, text),
             Asks::SomeInRegister => self.get_some_in_register(names, text),
             Asks::InWord => self.get_in_word(names, text),

@@ -13,7 +13,7 @@ pub struct MacroRequest<'a> {
     pub operands: &'a MacroOperands,
 }
 
-// The front of a text before a character, or all of it.
+// Returns the front of a text before a character, or all of it.
 fn before(text: &str, end: char) -> &str {
     match text.split_once(end) {
         Some((front, _)) => front,
@@ -21,7 +21,7 @@ fn before(text: &str, end: char) -> &str {
     }
 }
 
-// The first of the values of LOC, of which a second is for real storage.
+// Returns the first of the values of LOC, of which a second is for real storage.
 fn first_location(loc: &str) -> &str {
     match loc.strip_prefix("(") {
         Some(rest) => before(before(rest, ','), ')'),

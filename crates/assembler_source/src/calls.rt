@@ -164,7 +164,14 @@ impl SourceWalk<'_> {
         self.script.put_mark(statement, mark)
     }
 
-    // Processes a conditional branch to the address in a register. A path takes it if it goes to the next place of the path.
+    // Returns whether a register has the return address of the task that runs, as far as is known.
+    fn ends_task_by(&self, register: u8) -> bool {
+        register == RETURN_ADDRESS
+            && self.frames.link().is_none()
+            && self.place_in(register).is_none()
+    }
+
+    // Processes a conditional branch to the address in a register. A path takes it if it goes to the next point of the path.
     fn may_branch(
         &mut self,
         place: usize,
@@ -174,6 +181,9 @@ impl SourceWalk<'_> {
         if !self.way.is_path() {
             let mark = return_mark(self.source.alloc, self.source.statements, place)?;
             return self.script.put_mark(statement, mark);
+        }
+        if self.ends_task_by(register) && self.way.takes_end() {
+            return self.end_task(place, statement, "RETURN");
         }
         let Some(next) = self.way.next() else {
             return Ok(());

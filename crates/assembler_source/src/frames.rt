@@ -24,7 +24,7 @@ pub enum Inside {
 
 /// A routine or task in which the path is, and where it continues after it.
 #[derive(Drop)]
-pub struct Frame {
+pub struct CallFrame {
     pub back: usize,
     pub inside: Inside,
 }
@@ -32,7 +32,7 @@ pub struct Frame {
 /// The routines and tasks in which a path is, the innermost last.
 #[derive(Drop)]
 pub struct Frames {
-    frames: Vec<Frame>,
+    frames: Vec<CallFrame>,
 }
 
 /// The most routines and tasks in which a path may be.
@@ -74,7 +74,7 @@ impl Frames {
 
     /// Enters a routine or a task. It fails if memory is exhausted.
     pub fn enter(&mut self, back: usize, inside: Inside) -> Result<(), AllocError> {
-        self.frames.push(Frame { back, inside })?;
+        self.frames.push(CallFrame { back, inside })?;
         Ok(())
     }
 
@@ -133,7 +133,7 @@ impl Frames {
     }
 
     /// Leaves the innermost routine or task.
-    pub fn leave(&mut self) -> Option<Frame> {
+    pub fn leave(&mut self) -> Option<CallFrame> {
         self.frames.pop()
     }
 

@@ -2,7 +2,7 @@
 
 use crate::frames::{Frames, Inside};
 use crate::options::{Choices, Schedule};
-use crate::way::{ConversionRefusal, Way};
+use crate::way::{ConversionRefusal, Way, Waypoint};
 use assembler_flow::{Layout, Loop, Loops, Sections, begins_section, flow_of};
 use assembler_operands::{OpenCause, OpenReason, Unsaid};
 use assembler_requests::{Attached, Converted, GivenNames, convert};
@@ -205,7 +205,7 @@ impl<'a> SourceWalk<'a> {
     // Converts the request at a place; None if it is a list form, which is no request.
     fn convert(
         &mut self,
-        asked: Macro,
+        wanted: Macro,
         place: usize,
         statement: &'a SourceStatement,
     ) -> Result<Option<Converted>, Unsaid> {
@@ -217,7 +217,7 @@ impl<'a> SourceWalk<'a> {
             held: &self.held,
             statement,
             time,
-            behind: source
+            following: source
                 .statements
                 .get(place.saturating_add(1)..)
                 .unwrap_or(&[]),
@@ -227,17 +227,17 @@ impl<'a> SourceWalk<'a> {
             return Ok(None);
         }
         let operands = operands_of(source.alloc, source.statements, statement, how)?;
-        Ok(Some(convert(known, &mut self.given, &operands, asked)?))
+        Ok(Some(convert(known, &mut self.given, &operands, wanted)?))
     }
 
     // Processes a request.
     fn pass_request(
         &mut self,
-        asked: Macro,
+        wanted: Macro,
         place: usize,
         statement: &'a SourceStatement,
     ) -> Result<(), AllocError> {
-        match self.convert(asked, place, statement) {
+        match self.convert(wanted, place, statement) {
             Ok(Some(request)) => {
                 self.held.call(statement)?;
                 self.put_converted(place, statement, request)
@@ -313,8 +313,8 @@ impl<'a> SourceWalk<'a> {
             return Ok(());
         }
         self.note(place)?;
-        if let Some(asked) = macro_of(&statement.operation) {
-            return self.pass_request(asked, place, statement);
+        if let Some(wanted) = macro_of(&statement.operation) {
+            return self.pass_request(wanted, place, statement);
         }
         if statement.operation.as_str() == "COPY" {
             return self.mark(statement, "the member is not there (-I DIR)");
@@ -432,12 +432,26 @@ impl<'a> SourceWalk<'a> {
                 "the path has too many statements, and stops here",
             )?;
         }
-        if let Some(place) = self.way.next() {
-            if let Some(statement) = self.source.statements.get(place) {
-                self.mark(statement, "the path does not come here")?;
+        Ok(self.mark_rest()?)
+    }
+
+    // Marks the next point of the path, if one is left.
+    fn mark_rest(&mut self) -> Result<(), AllocError> {
+        let source = self.source;
+        let (statement, mark) = match self.way.waypoint() {
+            Some(Waypoint::Place(place)) => {
+                (source.statements.get(place), "the path does not come here")
             }
+            Some(Waypoint::End) => (
+                source.statements.last(),
+                "the path does not come to a conditional return of the task",
+            ),
+            None => return Ok(()),
+        };
+        match statement {
+            Some(statement) => self.mark(statement, mark),
+            None => Ok(()),
         }
-        Ok(())
     }
 }
 

@@ -43,6 +43,18 @@ impl From<NoName> for ConversionRefusal {
     }
 }
 
+/// What stands in a path for the end of a task, if no statement has the label.
+const END: &str = "END";
+
+/// What a path comes to next.
+#[derive(Clone, Copy, Debug, PartialEq, Eq)]
+pub enum Waypoint {
+    /// The statement at a place.
+    Place(usize),
+    /// The end of the task that runs, by a conditional return.
+    End,
+}
+
 // How often a loop is written, and how often its branch has gone back.
 #[derive(Clone, Copy)]
 struct Round {
@@ -53,33 +65,34 @@ struct Round {
 /// The choices of a reader, as places of a source.
 #[derive(Drop)]
 pub struct Way {
-    path: Option<Vec<usize>>,
-    /// How many places of the path were reached.
+    path: Option<Vec<Waypoint>>,
+    /// How many points of the path were reached.
     reached: usize,
     /// By the place of the branch that closes a loop, how often the loop is written.
     rounds: BTreeMap<usize, Round>,
     pub schedule: Schedule,
 }
 
-// Returns the place of a label of the path.
-fn place_of(alloc: Global, layout: &Layout, label: &str) -> Result<usize, ConversionRefusal> {
+// Returns the point of a path that a label stands for.
+fn waypoint_of(alloc: Global, layout: &Layout, label: &str) -> Result<Waypoint, ConversionRefusal> {
     match layout.place_of(label) {
-        Some(place) => Ok(place),
+        Some(place) => Ok(Waypoint::Place(place)),
+        None if label == END => Ok(Waypoint::End),
         None => Err(ConversionRefusal::NoLabel(String::from_str(alloc, label)?)),
     }
 }
 
-// Returns the places of the labels of a path.
-fn places_of(
+// Returns the points of a path that its labels stand for.
+fn waypoints_of(
     alloc: Global,
     layout: &Layout,
     labels: &[String],
-) -> Result<Vec<usize>, ConversionRefusal> {
-    let mut places = Vec::new(alloc);
+) -> Result<Vec<Waypoint>, ConversionRefusal> {
+    let mut points = Vec::new(alloc);
     for label in labels {
-        places.push(place_of(alloc, layout, label)?)?;
+        points.push(waypoint_of(alloc, layout, label)?)?;
     }
-    Ok(places)
+    Ok(points)
 }
 
 // Returns the place of the branch that closes the loop from a label.
@@ -106,7 +119,7 @@ impl Way {
         choices: &Choices,
     ) -> Result<Way, ConversionRefusal> {
         let path = match &choices.path {
-            Some(labels) => Some(places_of(alloc, layout, labels)?),
+            Some(labels) => Some(waypoints_of(alloc, layout, labels)?),
             None => None,
         };
         let mut rounds = BTreeMap::new(alloc);
@@ -131,9 +144,26 @@ impl Way {
         self.path.is_some()
     }
 
-    /// Returns the next place of the path, if one is left.
-    pub fn next(&self) -> Option<usize> {
+    /// Returns the next point of the path, if one is left.
+    pub fn waypoint(&self) -> Option<Waypoint> {
         self.path.as_ref()?.get(self.reached).copied()
+    }
+
+    /// Returns the place to which the path comes next, if that is a statement.
+    pub fn next(&self) -> Option<usize> {
+        match self.waypoint()? {
+            Waypoint::Place(place) => Some(place),
+            Waypoint::End => None,
+        }
+    }
+
+    /// Returns whether the path comes next to the end of the task, and counts that it does.
+    pub fn takes_end(&mut self) -> bool {
+        if self.waypoint() != Some(Waypoint::End) {
+            return false;
+        }
+        self.reached = self.reached.saturating_add(1);
+        true
     }
 
     /// Notes that a place is reached.

@@ -19,7 +19,7 @@ pub const CONTINUATION: usize = 71;
 pub const GO_ON: usize = 15;
 
 impl SourceLine {
-    /// Whether the next line belongs to the statement.
+    /// Returns whether the next line belongs to the statement.
     pub fn is_continued(&self) -> bool {
         match self.text.chars().nth(CONTINUATION) {
             Some(mark) => mark != ' ',
@@ -28,7 +28,7 @@ impl SourceLine {
     }
 }
 
-// A character of a text, if it is one: a tab is a blank, and what is not plain is a point.
+// Returns a character of a text, if it is one: a tab is a blank, and what is not plain is a point.
 fn plain(letter: char) -> Option<char> {
     match letter {
         '\n' | ' '..='~' => Some(letter),
@@ -38,7 +38,7 @@ fn plain(letter: char) -> Option<char> {
     }
 }
 
-// The text of some bytes, in which each character has one column.
+// Returns the text of some bytes, in which each character has one column.
 fn plain_text(alloc: Global, source: &[u8]) -> Result<String, AllocError> {
     let mut text = String::new(alloc);
     match str::from_utf8(source) {
@@ -60,12 +60,12 @@ fn plain_text(alloc: Global, source: &[u8]) -> Result<String, AllocError> {
     Ok(text)
 }
 
-/// A number of columns of a text, from one on.
+/// Returns a number of columns of a text, from one on.
 pub fn columns(alloc: Global, text: &str, from: usize, count: usize) -> Result<String, AllocError> {
     text.chars().skip(from).take(count).collect(alloc)
 }
 
-// The lines of a text that is source.
+// Returns the lines of a text that is source.
 fn lines_of_source(alloc: Global, text: &str) -> Result<Vec<SourceLine>, AllocError> {
     let mut lines = Vec::new(alloc);
     let mut number = 0u32;
@@ -77,7 +77,7 @@ fn lines_of_source(alloc: Global, text: &str) -> Result<Vec<SourceLine>, AllocEr
     Ok(lines)
 }
 
-// The lines of source in a listing.
+// Returns the lines of source in a listing.
 fn lines_of_listing(alloc: Global, text: &str) -> Result<Vec<SourceLine>, AllocError> {
     let mut lines = Vec::new(alloc);
     let mut listing = Listing::new();
@@ -89,7 +89,7 @@ fn lines_of_listing(alloc: Global, text: &str) -> Result<Vec<SourceLine>, AllocE
     Ok(lines)
 }
 
-/// The lines of a source, or of a listing of it, which is known by its heads of columns.
+/// Returns the lines of a source, or of a listing of it, which is known by its heads of columns.
 pub fn source_lines(alloc: Global, source: &[u8]) -> Result<Vec<SourceLine>, AllocError> {
     let text = plain_text(alloc, source)?;
     if text.lines().any(|line| header_column(line).is_some()) {

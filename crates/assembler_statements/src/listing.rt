@@ -6,7 +6,7 @@ use std::alloc::{AllocError, Global};
 /// How many columns of source a listing shows.
 const SHOWN: usize = 80;
 
-/// Where the last digit of the number of a statement is, if a line is a head of columns.
+/// Returns where the last digit of the number of a statement is, if a line is a head of columns.
 pub fn header_column(line: &str) -> Option<usize> {
     if line.contains("Source Statement") && line.contains("Loc") {
         Some(line.find("Stmt")?.saturating_add(3))
@@ -28,12 +28,12 @@ pub struct Listing {
     continued: bool,
 }
 
-// Whether a line is a message of the assembler, or names the base registers of a page.
+// Returns whether a line is a message of the assembler, or names the base registers of a page.
 fn is_remark(line: &str) -> bool {
     line.starts_with("**") || line.contains("ASMA") || line.contains("Active Usings:")
 }
 
-// Whether a line is a COPY, whose statements come in the listing.
+// Returns whether a line is a COPY, whose statements come in the listing.
 fn is_copy(text: &str) -> bool {
     match text.split_once(' ') {
         Some((_, rest)) => {
@@ -44,12 +44,12 @@ fn is_copy(text: &str) -> bool {
     }
 }
 
-// Whether some columns of a line are blank.
+// Returns whether some columns of a line are blank.
 fn is_blank(line: &str, count: usize) -> bool {
     line.chars().take(count).all(|letter| letter == ' ')
 }
 
-// The number of a statement that ends in a column, or after it where it is long, and the column after it.
+// Returns the number of a statement that ends in a column, or after it where it is long, and the column after it.
 fn number_at(alloc: Global, line: &str, column: usize) -> Result<Option<(u32, usize)>, AllocError> {
     let mut digits = String::new(alloc);
     let mut end = 0usize;
@@ -73,6 +73,7 @@ fn number_at(alloc: Global, line: &str, column: usize) -> Result<Option<(u32, us
 }
 
 impl Listing {
+    /// Makes the state before the first line of a listing.
     pub fn new() -> Listing {
         Listing {
             column: None,
@@ -81,7 +82,7 @@ impl Listing {
         }
     }
 
-    // The source of a line, which begins in a column.
+    // Returns the source of a line, which begins in a column.
     fn found(
         &mut self,
         alloc: Global,
@@ -100,7 +101,7 @@ impl Listing {
         Ok(Some(found))
     }
 
-    // The source of a line that has no number of a statement, if it continues one; a title ends the source of its page.
+    // Returns the source of a line that has no number of a statement, if it continues one; a title ends the source of its page.
     fn take_unnumbered(
         &mut self,
         alloc: Global,
@@ -117,7 +118,7 @@ impl Listing {
         Ok(None)
     }
 
-    // The source of a line of a page, if it has any. A mark after the number says where it comes from: `=` is for COPY.
+    // Returns the source of a line of a page, if it has any. A mark after the number says where it comes from: `=` is for COPY.
     fn take_of_page(
         &mut self,
         alloc: Global,
@@ -136,7 +137,7 @@ impl Listing {
         }
     }
 
-    /// The source of the next line, if it has any. What a macro was expanded to is left out, and so are messages.
+    /// Returns the source of the next line, if it has any. What a macro was expanded to is left out, and so are messages.
     pub fn take(&mut self, alloc: Global, line: &str) -> Result<Option<SourceLine>, AllocError> {
         if let Some(column) = header_column(line) {
             self.column = Some(column);

@@ -29,7 +29,7 @@ impl OpenQuotes {
         }
     }
 
-    // Whether a quote after the last character asks for the length of a symbol.
+    // Returns whether a quote after the last character asks for the length of a symbol.
     fn asks_for_length(&self) -> bool {
         (self.last == 'L' || self.last == 'l') && !is_of_symbol(self.before)
     }

@@ -63,14 +63,14 @@ struct StatementReading {
     continues: bool,
 }
 
-// A word in upper case.
+// Returns a word in upper case.
 fn upper(alloc: Global, word: &str) -> Result<String, AllocError> {
     word.chars()
         .map(|letter| letter.to_ascii_uppercase())
         .collect(alloc)
 }
 
-// The first word of a text, and what follows it and its blanks.
+// Returns the first word of a text, and what follows it and its blanks.
 fn word_of(text: &str) -> (&str, &str) {
     match text.split_once(' ') {
         Some((word, rest)) => (word, rest.trim_start()),

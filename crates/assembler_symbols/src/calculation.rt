@@ -38,7 +38,7 @@ enum Operator {
 }
 
 impl Operator {
-    // Whether it is applied before another one that follows it.
+    // Returns whether it is applied before another one that follows it.
     fn is_before(self, next: Operator) -> bool {
         match (self, next) {
             (Operator::Open, _) => false,
@@ -48,7 +48,7 @@ impl Operator {
         }
     }
 
-    // What it makes of two values.
+    // Returns what it makes of two values.
     fn apply(self, left: Value, right: Value) -> Option<Value> {
         match self {
             Operator::Open => None,
@@ -75,7 +75,7 @@ impl Operator {
 enum Term {
     /// A number or a symbol.
     Word,
-    /// A symbol of which the length is asked.
+    /// A symbol whose length is wanted.
     Length,
     Hexadecimal,
     Binary,
@@ -127,7 +127,7 @@ impl Calculation<'_> {
         }
     }
 
-    // The value of the last word.
+    // Returns the value of the last word.
     fn word_value(&self) -> Option<Value> {
         let word = self.word.as_str();
         match self.term {
@@ -249,7 +249,7 @@ impl Calculation<'_> {
         }
     }
 
-    // The value of the whole expression.
+    // Returns the value of the whole expression.
     fn end(&mut self) -> Result<Value, NoValue> {
         self.end_word()?;
         for _ in 0..self.operators.len() {

@@ -20,12 +20,12 @@ pub struct Constant<'a> {
 /// The most bytes of a constant that are kept.
 const MOST_KEPT: u32 = 4096;
 
-// What is between the first parentheses, and after them.
+// Returns what is between the first parentheses, and after them.
 fn in_parentheses(text: &str) -> Option<(&str, &str)> {
     text.strip_prefix("(")?.split_once(')')
 }
 
-// A number before a text, as digits or in parentheses, and what follows it.
+// Returns a number before a text, as digits or in parentheses, and what follows it.
 fn leading<'a>(
     alloc: Global,
     symbols: &Symbols,
@@ -40,7 +40,7 @@ fn leading<'a>(
     Ok((digits.parse::<u32>().ok(), rest))
 }
 
-// What is between the quotes or parentheses of a constant.
+// Returns what is between the quotes or parentheses of a constant.
 fn nominal(text: &str) -> Option<&str> {
     match text.strip_prefix("'") {
         Some(rest) => rest.strip_suffix("'"),
@@ -48,7 +48,7 @@ fn nominal(text: &str) -> Option<&str> {
     }
 }
 
-// The bytes of a value of a kind where no length is written.
+// Returns the bytes of a value of a kind where no length is written.
 fn implied(kind: char) -> Option<u32> {
     match kind {
         'C' | 'X' | 'B' | 'P' | 'Z' => Some(1),
@@ -74,20 +74,20 @@ impl<'a> Constant<'a> {
         let Some(kind) = letters.next() else {
             return Ok(None);
         };
-        let mut behind = letters.as_str();
+        let mut modifiers = letters.as_str();
         let mut is_double = false;
         if kind == 'F' || kind == 'A' {
-            if let Some(double) = behind.strip_prefix("D") {
-                behind = double;
+            if let Some(double) = modifiers.strip_prefix("D") {
+                modifiers = double;
                 is_double = true;
             }
         }
-        let (length, value) = match behind.strip_prefix("L") {
+        let (length, value) = match modifiers.strip_prefix("L") {
             Some(modifier) => leading(alloc, symbols, modifier)?,
-            None => (None, behind),
+            None => (None, modifiers),
         };
         let is_plain = value.is_empty() || value.starts_with("'") || value.starts_with("(");
-        if !is_plain || behind.starts_with("L") && length.is_none() {
+        if !is_plain || modifiers.starts_with("L") && length.is_none() {
             return Ok(None);
         }
         Ok(Some(Constant {
@@ -98,7 +98,7 @@ impl<'a> Constant<'a> {
         }))
     }
 
-    /// The boundary on which it begins.
+    /// Returns the boundary on which it begins.
     pub fn boundary(&self) -> u32 {
         match (self.kind, self.length) {
             ('F' | 'H' | 'A' | 'Y' | 'V' | 'E' | 'D' | 'L' | 'S' | 'Q' | 'R' | 'J', None) => {
@@ -109,7 +109,7 @@ impl<'a> Constant<'a> {
         }
     }
 
-    // The bytes that a text takes, written as it is.
+    // Returns the bytes that a text takes, written as it is.
     fn length_of_text(&self, text: &str) -> Option<u32> {
         let letters = u32::try_from(text.len()).ok()?;
         match self.kind {
@@ -120,7 +120,7 @@ impl<'a> Constant<'a> {
         }
     }
 
-    /// The bytes of one value, which are the length of its symbol.
+    /// Returns the bytes of one value, which are the length of its symbol.
     pub fn length(&self) -> Option<u32> {
         match (self.length, self.text) {
             (Some(length), _) => Some(length),
@@ -129,7 +129,7 @@ impl<'a> Constant<'a> {
         }
     }
 
-    // How many values are between the quotes or parentheses.
+    // Returns how many values are between the quotes or parentheses.
     fn count(&self, alloc: Global) -> Result<u32, AllocError> {
         match self.text {
             Some(text) if !matches!(self.kind, 'C' | 'X' | 'B') => {
@@ -140,7 +140,7 @@ impl<'a> Constant<'a> {
         }
     }
 
-    /// The bytes that it takes, if that is known.
+    /// Returns the bytes that it takes, if that is known.
     pub fn size(&self, alloc: Global) -> Result<Option<i64>, AllocError> {
         let count = i64::from(self.count(alloc)?);
         Ok(match (self.repeats, self.length()) {
@@ -151,7 +151,7 @@ impl<'a> Constant<'a> {
         })
     }
 
-    // The numbers that are its values, if all are known.
+    // Returns the numbers that are its values, if all are known.
     fn numbers(&self, alloc: Global, symbols: &Symbols) -> Result<Option<Vec<i64>>, AllocError> {
         let Some(text) = self.text else {
             return Ok(None);
@@ -218,7 +218,7 @@ impl<'a> Constant<'a> {
         Ok(true)
     }
 
-    /// The characters that it is, if it has any.
+    /// Returns the characters that it is, if it has any.
     pub fn characters(&self) -> Option<&'a str> {
         match (self.kind, self.text) {
             ('C', Some(text)) => Some(text.trim_end()),

@@ -70,7 +70,7 @@ impl Symbols {
         self.table.get(name)
     }
 
-    // The place up to which the source was read.
+    // Returns the place up to which the source was read.
     fn here(&self) -> Value {
         Value {
             run: self.run,

@@ -16,7 +16,7 @@ pub fn is_symbol(text: &str) -> bool {
     begins && text.chars().all(|letter| is_of_symbol(letter))
 }
 
-// A register by its number, or by a symbol for it.
+// Returns a register by its number, or by a symbol for it.
 fn register(alloc: Global, symbols: &Symbols, text: &str) -> Result<Option<u8>, AllocError> {
     Ok(match number_of(alloc, symbols, text)? {
         Some(number) if number >= 0 && number < 16 => u8::try_from(number).ok(),

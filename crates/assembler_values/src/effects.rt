@@ -60,7 +60,7 @@ fn effect_of(operation: &str) -> Does {
     Does::Other
 }
 
-// The symbol with which an operand begins.
+// Returns the symbol with which an operand begins.
 fn first_symbol(operand: &str) -> &str {
     let rest = operand.trim_start_matches(|letter: char| is_of_symbol(letter));
     operand.strip_suffix(rest).unwrap_or("")
@@ -74,7 +74,7 @@ struct Instruction<'a> {
     statement: &'a SourceStatement,
 }
 
-// The symbol of which a literal is the address: `A(symbol)` or `V(symbol)`.
+// Returns the symbol of which a literal is the address: `A(symbol)` or `V(symbol)`.
 fn addressed(literal: &str) -> Option<&str> {
     let kind = literal.strip_prefix("A").or(literal.strip_prefix("V"))?;
     let symbol = inside(kind)?;

@@ -62,7 +62,7 @@ impl Comes {
     }
 }
 
-// Whether a register is one of those from one on to another; after register 15 comes register 0.
+// Returns whether a register is one of those from one on to another; after register 15 comes register 0.
 fn is_between(register: u8, from: u8, to: u8) -> bool {
     if from <= to {
         from <= register && register <= to

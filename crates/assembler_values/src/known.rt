@@ -16,5 +16,5 @@ pub struct KnownValues<'a> {
     /// How often the statement was executed, this time among them.
     pub time: u32,
     /// The statements after it.
-    pub behind: &'a [SourceStatement],
+    pub following: &'a [SourceStatement],
 }

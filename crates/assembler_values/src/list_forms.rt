@@ -18,7 +18,7 @@ pub enum MacroForm<'a> {
     Execute(Option<&'a str>),
 }
 
-// The label of the list that an execute form names: (E,label) or (E,(register)).
+// Returns the label of the list that an execute form names: (E,label) or (E,(register)).
 fn label_of<'a>(known: KnownValues<'a>, named: &'a str) -> Result<Option<&'a str>, AllocError> {
     if let Some(register) = in_register(known.alloc, known.symbols, named)? {
         return Ok(match known.held.register(register) {
@@ -32,7 +32,7 @@ fn label_of<'a>(known: KnownValues<'a>, named: &'a str) -> Result<Option<&'a str
     })
 }
 
-// What a form of a macro says: L or (L,..) a list, (E,..) a list that is executed.
+// Returns what a form of a macro says: L or (L,..) a list, (E,..) a list that is executed.
 fn form_of<'a>(known: KnownValues<'a>, form: &'a str) -> Result<MacroForm<'a>, AllocError> {
     if form == "L" || form.starts_with("(L,") {
         return Ok(MacroForm::List);
@@ -64,7 +64,7 @@ pub fn how_written<'a>(
     Ok(MacroForm::Standard)
 }
 
-// The list form of a macro that has a label.
+// Returns the list form of a macro that has a label.
 fn list_form<'a>(
     statements: &'a [SourceStatement],
     operation: &str,

@@ -18,7 +18,7 @@ const MOST_ITEMS: usize = 64;
 /// How many statements after a request are looked through for the word that its address is stored in.
 const LOOKED_THROUGH: usize = 12;
 
-// The number that the first word of a symbol has.
+// Returns the number that the first word of a symbol has.
 fn first_word(symbol: &Symbol) -> Option<i64> {
     match symbol.bytes.as_slice() {
         [a, b, c, d, ..] => Some(i64::from(u32::from_be_bytes([*a, *b, *c, *d]))),
@@ -27,7 +27,7 @@ fn first_word(symbol: &Symbol) -> Option<i64> {
     }
 }
 
-// The words of a list up to the one that has its first bit set, if there is one.
+// Returns the words of a list up to the one that has its first bit set, if there is one.
 fn words_of(alloc: Global, bytes: &[u8]) -> Result<Option<Vec<u32>>, AllocError> {
     let mut words = Vec::new(alloc);
     for chunk in bytes.chunks_exact(4).take(MOST_ITEMS) {
@@ -44,7 +44,7 @@ fn words_of(alloc: Global, bytes: &[u8]) -> Result<Option<Vec<u32>>, AllocError>
     Ok(None)
 }
 
-// The bytes of a list, of which the first one says how many follow.
+// Returns the bytes of a list, of which the first one says how many follow.
 fn counted_bytes(bytes: &[u8]) -> Option<&[u8]> {
     match bytes {
         [count, rest @ ..] => rest.get(..*count as usize),
@@ -53,7 +53,7 @@ fn counted_bytes(bytes: &[u8]) -> Option<&[u8]> {
 }
 
 impl<'a> KnownValues<'a> {
-    // The number that a word holds, if it is constant.
+    // Returns the number that a word holds, if it is constant.
     fn constant_in(self, symbol: &str) -> Option<i64> {
         if self.held.stored(symbol).is_some() {
             return None;
@@ -61,7 +61,7 @@ impl<'a> KnownValues<'a> {
         first_word(self.symbols.get(symbol)?)
     }
 
-    // The number that a register holds, if it is known.
+    // Returns the number that a register holds, if it is known.
     fn held_number(self, register: u8) -> Option<i64> {
         match self.held.register(register)? {
             Content::Number(number) => Some(*number),
@@ -70,12 +70,12 @@ impl<'a> KnownValues<'a> {
         }
     }
 
-    // Why an operand is not converted.
+    // Returns why an operand is not converted.
     fn refusal(self, why: OpenCause, key: &str, text: &str) -> Unsaid {
         Unsaid::of_operand(self.alloc, why, key, text)
     }
 
-    // What a register holds, as a text that follows its name.
+    // Returns what a register holds, as a text that follows its name.
     fn text_of(self, register: u8) -> Result<String, AllocError> {
         let alloc = self.alloc;
         match self.held.register(register) {
@@ -87,7 +87,7 @@ impl<'a> KnownValues<'a> {
         }
     }
 
-    // Why an operand in a register is not converted: what the register holds.
+    // Returns why an operand in a register is not converted: what the register holds.
     fn refusal_of(self, register: u8, key: &str, text: &str) -> Unsaid {
         match self.text_of(register) {
             Ok(held) => Unsaid::of_register(self.alloc, key, text, register, &held),
@@ -95,7 +95,7 @@ impl<'a> KnownValues<'a> {
         }
     }
 
-    // The number in a register, or why it is not known.
+    // Returns the number in a register, or why it is not known.
     fn number_in(self, register: u8, key: &str, text: &str) -> Result<u32, Unsaid> {
         let number = match self.held_number(register) {
             Some(number) => u32::try_from(number).ok(),
@@ -122,7 +122,7 @@ impl<'a> KnownValues<'a> {
         }
     }
 
-    // The two numbers that some parts are, if there are two.
+    // Returns the two numbers that some parts are, if there are two.
     fn two_numbers(self, key: &str, parts: &[String]) -> Result<Option<(u32, u32)>, Unsaid> {
         let [first, second] = parts else {
             return Ok(None);
@@ -140,7 +140,7 @@ impl<'a> KnownValues<'a> {
         self.two_numbers(key, &parts)
     }
 
-    // The symbol to which a register points.
+    // Returns the symbol to which a register points.
     fn symbol_in(self, register: u8) -> Option<&'a str> {
         match self.held.register(register)? {
             Content::Place(symbol) => Some(symbol.as_str()),
@@ -162,7 +162,7 @@ impl<'a> KnownValues<'a> {
         Err(self.refusal(OpenCause::NoWord, key, text))
     }
 
-    // The area of which a word or a register holds the address.
+    // Returns the area of which a word or a register holds the address.
     fn area_in(self, content: Option<&'a Content>) -> Option<&'a str> {
         match content {
             Some(Content::Word(symbol)) if self.constant_in(symbol).is_none() => {
@@ -172,7 +172,7 @@ impl<'a> KnownValues<'a> {
         }
     }
 
-    // The area of which a word holds the address.
+    // Returns the area of which a word holds the address.
     fn area_in_word(self, word: &'a str) -> Option<&'a str> {
         match self.held.stored(word) {
             Some(content) => self.area_in(Some(content)),
@@ -196,7 +196,7 @@ impl<'a> KnownValues<'a> {
         Err(self.refusal(OpenCause::NoWord, key, text))
     }
 
-    // The bytes at an address.
+    // Returns the bytes at an address.
     fn bytes_at(self, key: &str, text: &'a str) -> Result<&'a [u8], Unsaid> {
         let symbol = self.symbol_at(key, text)?;
         match self.symbols.get(symbol) {
@@ -232,7 +232,7 @@ impl<'a> KnownValues<'a> {
         }
     }
 
-    // The word in which a statement stores a register, if it does.
+    // Returns the word in which a statement stores a register, if it does.
     fn stored_by(
         self,
         statement: &'a SourceStatement,
@@ -250,9 +250,9 @@ impl<'a> KnownValues<'a> {
         Ok(None)
     }
 
-    // The word in which a register is stored next.
+    // Returns the word in which a register is stored next.
     fn word_after(self, register: u8) -> Result<Option<&'a str>, AllocError> {
-        for statement in self.behind.iter().take(LOOKED_THROUGH) {
+        for statement in self.following.iter().take(LOOKED_THROUGH) {
             if let Some(word) = self.stored_by(statement, register)? {
                 return Ok(Some(word));
             }

@@ -78,6 +78,6 @@ within_unpassed b n last passed some bytes is low =
 pub within_before : (b n m r : ℕ) → 0 < b → 0 < n → m % b ≡ 0 → b ≤ m → m - b ≤ r → r + n ≤ m → IsWithin b n r
 within_before b n m r h1 h2 h3 h4 h5 h6 = grind (arith, nat_tests, quotient_from, quotient_to, quotient_mono, multiple)
 
--- bytes from before a multiple to behind it pass it
+-- bytes from before a multiple to after it pass it
 pub passes : (b n m q : ℕ) → 0 < b → m % b ≡ 0 → q < m → m ≤ q + n - 1 → IsWithin b n q → ⊥
 passes b n m q h1 h2 h3 h4 h5 = grind (arith, nat_tests, quotient_below, quotient_mono, multiple)

@@ -5,7 +5,7 @@ use Rattle.std.proofs.lemmas.Bool.Decides.{nat_tests}
 use Rattle.boundary_loc.specs.Boundary.{IsLeastMultiple, IsNextStart}
 use Rattle.boundary_loc.proofs.Multiples.{lower_power, within_short, within_multiple, within_earlier}
 
--- the next start behind the next multiple of the bound is a multiple of the bound
+-- the next start after the next multiple of the bound is a multiple of the bound
 next_multiple : (s k m r : ℕ) → m % 2 ^ k ≡ 0 → IsLeastMultiple (2 ^ s) m r → r % 2 ^ k ≡ 0
 next_multiple s k m r on least = grind (arith, nat_tests, cases_lt, lower_power)
 

@@ -13,7 +13,7 @@ use mvs_model::numbers::ABOVE_BEGINS;
 use mvs_model::place::{Addr, Place};
 use mvs_model::want::{Loc, Residence, Side, Want};
 
-// A power of two.
+// Returns a power of two.
 fn power(exponent: Exponent) -> u64
     ensures is { result ≡ 2 ^ exponent }
     ensures some { 0 < result }
@@ -22,7 +22,7 @@ fn power(exponent: Exponent) -> u64
     1u64 << exponent.get()
 }
 
-// The least multiple of the unit from a number on.
+// Returns the least multiple of the unit from a number on.
 fn round_up(number: u64, unit: u64) -> u64
     requires some { 0 < unit }
     requires unit { unit ≤ 2 ^ 31 }
@@ -33,7 +33,7 @@ fn round_up(number: u64, unit: u64) -> u64
     (number + unit - 1) / unit * unit
 }
 
-// The greatest multiple of the unit up to a number.
+// Returns the greatest multiple of the unit up to a number.
 fn round_down(number: u64, unit: u64) -> u64
     requires some { 0 < unit }
     requires unit { unit ≤ 2 ^ 31 }
@@ -42,7 +42,7 @@ fn round_down(number: u64, unit: u64) -> u64
     number / unit * unit
 }
 
-// The bytes from an address up to the next containing boundary.
+// Returns the bytes from an address up to the next containing boundary.
 fn room_within(addr: u64, within: Exponent) -> u64
     ensures { (n : ℕ) → 0 < n → (n ≤ result) ↔ IsWithin (2 ^ within) n addr }
 {
@@ -50,7 +50,7 @@ fn room_within(addr: u64, within: Exponent) -> u64
     bound - addr % bound
 }
 
-// The bytes from an address up to an end, no further than to the containing boundary.
+// Returns the bytes from an address up to an end, no further than to the containing boundary.
 fn room(addr: u64, within: Option<Exponent>, end: u64) -> u64
     ensures { (n : ℕ) → 0 < n → (n ≤ result) ↔ Fits within end n addr }
 {
@@ -74,7 +74,7 @@ fn next_start(first: u64, start: Exponent, within: Option<Exponent>) -> u64
     }
 }
 
-// The last start for a length up to one: that one, or the last before the containing boundary that it would pass.
+// Returns the last start for a length up to one: that one, or the last before the containing boundary that it would pass.
 fn last_start(last: u64, start: Exponent, within: Option<Exponent>, len: u64) -> u64
     requires within { IfSome within (λ k. len ≤ 2 ^ k) }
     requires on_start { last % 2 ^ start ≡ 0 }
@@ -102,7 +102,7 @@ fn is_short(len: u64, within: Option<Exponent>) -> bool
     }
 }
 
-// Whether an area on this side may begin at the address.
+// Returns whether an area on this side may begin at the address.
 fn allows(side: Side, addr: u32) -> bool
     ensures { IsTrue result ↔ Allows side addr }
 {
@@ -255,7 +255,7 @@ pub fn at_in(run: Place, want: &Want, len: u32, addr: Addr) -> Option<Place>
     Some(Place::new(addr, len))
 }
 
-/// The side of a location: BELOW is below, ANY is either, and RES follows the residence of the task (Assembler
+/// Returns the side of a location: BELOW is below, ANY is either, and RES follows the residence of the task (Assembler
 /// Services Reference, GETMAIN, LOC).
 pub fn side(loc: Loc, residence: Residence) -> Side
     ensures { result ≡ side_of loc residence }

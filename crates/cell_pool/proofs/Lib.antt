@@ -3,6 +3,7 @@ pub mod Counts
 pub mod Chains
 pub mod Taken
 pub mod Frame
+pub mod NextPools
 pub mod Only
 pub mod Keeping
 pub mod SameState
@@ -28,6 +29,6 @@ pub mod Released
 pub mod Deleting
 pub mod Tallied
 pub mod Pooled
-pub mod Told
+pub mod PoolFacts
 pub mod Untaken
 pub mod Telling

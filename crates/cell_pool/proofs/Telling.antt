@@ -1,4 +1,4 @@
--- Where a cell is taken, and a part put, of which an address is told.
+-- Where a cell is taken, and a part put, whose address is hinted.
 use Rattle.std.proofs.Common.{◌≡◌, ℕ, ◌+◌, ◌*◌, ◌<◌, inl, inr, Option, Some, sym, ap, ◌∙◌, subst, arith}
 use Rattle.std.specs.FinMap.{FinMap, get}
 use Rattle.mvs_model.specs.declared.name.Name.{Name}

@@ -1,14 +1,16 @@
 //! What is kept of the pools, by their names.
 
-ghost use Rattle.std.specs.Prelude.{◌≡◌, ◌≢◌, ◌<◌, ◌≤◌, ℕ, not, true, Some, None, IsSome, MatchOption};
+ghost use Rattle.std.specs.Prelude.{◌≡◌, ◌≢◌, ◌<◌, ◌≤◌, ℕ, not, true, false, Some, None, IsSome, MatchOption};
 ghost use Rattle.std.specs.FinMap.{get};
 ghost use Rattle.slab.specs.Slab.{get as slab_get, slab_len, Updates};
 ghost use Rattle.mvs_model.specs.Finite.{has, kept};
+ghost use Rattle.mvs_model.specs.NextName.{is_before, IsAfter};
 ghost use Rattle.mvs_model.specs.Storage.{is_one_of};
 ghost use Rattle.cell_pool.specs.declared.entry.PoolEntry.{PoolEntry};
 
 use crate::root::Root;
 use mvs_model::name::Name;
+use mvs_model::next_name::first_of;
 use mvs_model::subpool_set::SubpoolSet;
 use slab::Slab;
 
@@ -19,14 +21,14 @@ pub(crate) struct PoolEntry {
     pub(crate) root: Root,
 }
 
-// Whether no pool is kept.
+// Returns whether no pool is kept.
 pub(crate) fn has_none(entries: &Slab<PoolEntry>) -> bool
     ensures { result ≡ true → (k : ℕ) → slab_get entries.now k ≡ None }
 {
     entries.is_empty()
 }
 
-// The key of the pool of this name.
+// Returns the key of the pool of this name.
 pub(crate) fn find_key(entries: &Slab<PoolEntry>, name: Name) -> Option<usize>
     ensures { MatchOption result
         ((k : ℕ) (x : PoolEntry) → slab_get entries.now k ≡ Some x → x.name ≢ name)
@@ -42,7 +44,7 @@ pub(crate) fn find_key(entries: &Slab<PoolEntry>, name: Name) -> Option<usize>
     None
 }
 
-// What is kept of the pool of this name.
+// Returns what is kept of the pool of this name.
 pub(crate) fn find(entries: &Slab<PoolEntry>, name: Name) -> Option<Root>
     ensures { MatchOption result
         ((k : ℕ) (x : PoolEntry) → slab_get entries.now k ≡ Some x → x.name ≢ name)
@@ -57,6 +59,24 @@ pub(crate) fn find(entries: &Slab<PoolEntry>, name: Name) -> Option<Root>
         }
     }
     None
+}
+
+// Returns the first name of a pool in byte order after the given one.
+pub(crate) fn find_next(entries: &Slab<PoolEntry>, given: &Option<Name>) -> Option<Name>
+    ensures { MatchOption result
+        ((k : ℕ) (x : PoolEntry) → slab_get entries.now k ≡ Some x → IsAfter x.name given.now → ⊥)
+        (λ next. ((k : ℕ) × (x : PoolEntry) × (slab_get entries.now k ≡ Some x)
+        × (x.name ≡ next) × IsAfter next given.now)
+        × ((k : ℕ) (x : PoolEntry) → slab_get entries.now k ≡ Some x
+        → IsAfter x.name given.now → is_before x.name next ≡ false)) }
+{
+    let mut next = None;
+    for key in 0..entries.capacity() {
+        if let Some(entry) = entries.get(key) {
+            next = first_of(next, entry.name, given);
+        }
+    }
+    next
 }
 
 // Keeps something else of the pool at a key.
@@ -83,7 +103,7 @@ pub(crate) fn remove(entries: &mut Slab<PoolEntry>, key: usize)
     let _ = entries.try_remove(key);
 }
 
-// Whether the pool at a key is of a subpool of the set.
+// Returns whether the pool at a key is of a subpool of the set.
 pub(crate) fn is_of_one(entries: &Slab<PoolEntry>, key: usize, subpools: &SubpoolSet) -> bool
     ensures { result
         ≡ has (λ (x : PoolEntry). is_one_of subpools.now x.root.subpool) (slab_get entries.now key) }

@@ -11,12 +11,13 @@ ghost use Rattle.cell_pool.specs.Laying.{LaysOut, PutsWord, IsEquivalentWant};
 use crate::walk::bytes_before;
 use crate::words::{fill, put};
 use mvs_model::bounded::{CellCount, CellSize, Exponent, Length};
+use mvs_model::numbers::{LAST_ADDRESS, LEAST_EXPONENT};
 use mvs_model::place::{Addr, Place};
 use mvs_model::subpool::SubpoolId;
 use mvs_model::want::{Side, Want};
 use subpool_store::Store;
 
-// How long a part is.
+// Returns how long a part is.
 fn part_bytes(size: u32, count: u32) -> u64
     requires size { size ≤ 65536 }
     requires count { count ≤ 65536 }
@@ -32,17 +33,19 @@ pub fn part_want(size: CellSize, count: CellCount, side: Side) -> Want
     ensures { IsEquivalentWant (part_want size count side) result }
 {
     let bytes = part_bytes(size.get(), count.get());
-    let length = bytes.min(0x7FFF_FFF8);
-    Want::fixed(Length::new(length as u32), Exponent::new(3), side)
+    let length = bytes.min(u64::from(LAST_ADDRESS / 8 * 8));
+    Want::fixed(
+        Length::new(length as u32),
+        Exponent::new(LEAST_EXPONENT),
+        side,
+    )
 }
 
 // Returns where a part begins whose first cell is at the hinted address.
 fn part_at_hint(hint: Option<Addr>, count: CellCount) -> Option<Addr>
     ensures { (a : ℕ) → hint ≡ Some (a + head_length count) → result ≡ Some a }
 {
-    let Some(first) = hint else {
-        return None;
-    };
+    let first = hint?;
     let before = bytes_before(count.get());
     if first.get() < before {
         return None;
@@ -70,10 +73,14 @@ pub(crate) fn obtain_part(
         (part_want size count side) q → result ≡ Some q }
 {
     let bytes = part_bytes(size.get(), count.get());
-    if bytes > 0x7FFF_FFFF {
+    if bytes > u64::from(LAST_ADDRESS) {
         return None;
     }
-    let want = Want::fixed(Length::new(bytes as u32), Exponent::new(3), side);
+    let want = Want::fixed(
+        Length::new(bytes as u32),
+        Exponent::new(LEAST_EXPONENT),
+        side,
+    );
     store.obtain(subpool, &want, part_at_hint(hint, count))
 }
 

@@ -17,7 +17,7 @@ use crate::words::{is_set, read_header};
 use mvs_model::place::{Addr, Place};
 use subpool_store::Store;
 
-// Eight bytes from an index on as one number.
+// Returns eight bytes from an index on as one number.
 fn eight_bytes(bytes: &[u8], at: usize) -> u64
     requires { at + 8 ≤ length bytes.now }
     ensures { result ≡ 2 ^ 64 - 1 → (k : ℕ) → at ≤ k → k < at + 8 → slice_index bytes.now k ≡ 255 }
@@ -50,7 +50,7 @@ fn full_words(bytes: &[u8]) -> usize
     at
 }
 
-// How many bytes at the front have all their bits set: whole words first, then single bytes.
+// Returns how many bytes at the front have all their bits set: whole words first, then single bytes.
 fn full_front(bytes: &[u8]) -> usize
     requires { length bytes.now ≤ 65536 / 8 }
     ensures within { result ≤ length bytes.now }
@@ -64,7 +64,7 @@ fn full_front(bytes: &[u8]) -> usize
     bytes.len()
 }
 
-// The first bit of a byte, from the high one on, that is not set.
+// Returns the first bit of a byte, from the high one on, that is not set.
 fn clear_bit(byte: u8) -> Option<u32>
     ensures { MatchOption result ((i : ℕ) → i < 8 → (bit_at byte (7 - i) == 1) ≡ true)
         (λ at. (at < 8) × ((bit_at byte (7 - at) == 1) ≡ false)
@@ -78,7 +78,7 @@ fn clear_bit(byte: u8) -> Option<u32>
     None
 }
 
-// The first bit of some bytes that is not set.
+// Returns the first bit of some bytes that is not set.
 fn first_clear(bytes: &[u8]) -> Option<u32>
     requires { length bytes.now ≤ 65536 / 8 }
     ensures { MatchOption result
@@ -115,7 +115,7 @@ fn first_free(store: &Store, part: u32, count: u32) -> u32
     }
 }
 
-// The first free cell of the earliest part that has one, where some cell is free.
+// Returns the first free cell of the earliest part that has one, where some cell is free.
 fn find_free(store: &Store, root: &Root) -> FreeCell
     requires chain { IsChain store.now.storage root.now }
     requires counted { IsCounted (byte_of store.now.storage) root.now }

@@ -11,6 +11,7 @@ ghost use Rattle.cell_pool.specs.declared.entry.PoolEntry.{PoolEntry as TheEntry
 ghost use Rattle.std.specs.FinMap.{get, empty, len, contains_key};
 ghost use Rattle.mvs_model.specs.Name.{same_name};
 ghost use Rattle.mvs_model.specs.LastPart.{IsNewest};
+ghost use Rattle.mvs_model.specs.NextName.{IsNextName};
 ghost use Rattle.mvs_model.specs.Numbers.{most_pools};
 ghost use Rattle.mvs_model.specs.Finite.{Keeps};
 ghost use Rattle.cell_pool.specs.Building.{Builds, causes_of_build};
@@ -35,7 +36,7 @@ ghost use Rattle.cell_pool.specs.Extended.{Extended, MayAdd, NoRoom};
 ghost use Rattle.cell_pool.specs.Hints.{CellFollowsHint, PartFollowsHint};
 ghost use Rattle.mvs_model.specs.Place.{PlaceValue};
 
-use crate::entry::{PoolEntry, find, find_key, has_none, remove, remove_each, set_root};
+use crate::entry::{PoolEntry, find, find_key, find_next, has_none, remove, remove_each, set_root};
 use crate::laying::{lay_out, obtain_part, put_word};
 use crate::newest::newest_of;
 use crate::open::find_spot;
@@ -97,7 +98,7 @@ impl Model for Pools {
     ghost invariant = { λ p. IsDistinct p.entries.slots × (slab_len p.entries ≤ most_pools) × (most_pools ≤ p.entries.capacity) };
 }
 
-// The taken cell of one of the subpool's pools that has the address.
+// Returns the allocated cell of one of the subpool's pools that has the address.
 fn cell_in(entries: &Slab<PoolEntry>, store: &Store, subpool: SubpoolId, addr: u32) -> Option<Place>
     requires { (k : ℕ) (x : TheEntry) → slab_get entries.now k ≡ Some x
         → IsChain store.now.storage x.root }
@@ -120,7 +121,7 @@ fn cell_in(entries: &Slab<PoolEntry>, store: &Store, subpool: SubpoolId, addr: u
     None
 }
 
-// The taken cell of the pool at a key that has the address, where the pool is one of the subpool.
+// Returns the allocated cell of the pool at a key that has the address, where the pool is one of the subpool.
 fn cell_of(
     entries: &Slab<PoolEntry>,
     store: &Store,
@@ -137,16 +138,14 @@ fn cell_of(
         × (set.contains (taken_of (byte_of store.now.storage) x.root) p.addr ≡ true)
         × (p.len ≡ x.root.cell_size) × (has_address p addr ≡ true)) }
 {
-    let Some(entry) = entries.get(key) else {
-        return None;
-    };
+    let entry = entries.get(key)?;
     if !entry.root.is_of(subpool) {
         return None;
     }
     cell_round(store, &entry.root, addr)
 }
 
-// Whether a pool is one of the subpool, or of any where none is given.
+// Returns whether a pool is one of the subpool, or of any where none is given.
 fn is_among(root: &Root, subpool: &Option<SubpoolId>) -> bool
     ensures { MatchBool result (IsAmong subpool.now root.now.subpool)
         (IsAmong subpool.now root.now.subpool → ⊥) }
@@ -157,7 +156,7 @@ fn is_among(root: &Root, subpool: &Option<SubpoolId>) -> bool
     }
 }
 
-// The name of the pool at a key, where it is one of the subpool, or of any, and a part of it has a doubleword of the place.
+// Returns the name of the pool at a key, where it is one of the subpool, or of any, and a part of it has a doubleword of the place.
 fn entry_meets(
     entries: &Slab<PoolEntry>,
     store: &Store,
@@ -174,9 +173,7 @@ fn entry_meets(
         × IsAmong subpool.now x.root.subpool × Meets store.now.storage x.root place
         × (x.name ≡ name)) }
 {
-    let Some(entry) = entries.get(key) else {
-        return None;
-    };
+    let entry = entries.get(key)?;
     if !is_among(&entry.root, subpool) {
         return None;
     }
@@ -214,7 +211,7 @@ fn any_meets(
     None
 }
 
-// The part before which all parts are full once the cell is given back.
+// Returns the part before which all parts are full once the cell is given back.
 fn open_after(root: &Root, spot: &TakenCell) -> Addr
     requires { spot.now.part < 2 ^ 31 }
     ensures { result ≡ (if spot.now.past then root.now.open_part else spot.now.part) }
@@ -227,7 +224,7 @@ fn open_after(root: &Root, spot: &TakenCell) -> Addr
 }
 
 impl Pools {
-    /// No pool, with room for 64 (that many are this project's choice). No later call takes memory.
+    /// Makes an empty table of pools, with room for 64 (this project's choice). No later call allocates memory.
     pub fn new(alloc: Global) -> Result<Pools, OutOfMemory>
         ensures { IfOk result (λ p. p ≡ empty) }
     {
@@ -237,7 +234,7 @@ impl Pools {
         }
     }
 
-    // What is kept of the pool of this name.
+    // Returns what is kept of the pool of this name.
     fn find(&self, name: &Name) -> Option<Root>
         ensures { result ≡ get self.now name.now }
     {
@@ -351,7 +348,7 @@ impl Pools {
             .insert_reserved(PoolEntry { name: *name, root });
     }
 
-    // How many pools there are.
+    // Returns how many pools there are.
     fn len(&self) -> usize
         ensures { result ≡ len self.now }
     {
@@ -380,16 +377,14 @@ impl Pools {
             → MayAdd store.old.storage root.now q → result ≡ Some (extended root.now q.addr) }
         ensures agree { Agree self.new store.new.storage }
     {
-        let Some(place) = obtain_part(
+        let place = obtain_part(
             store,
             root.subpool,
             root.cell_size,
             root.secondary,
             root.side,
             hint,
-        ) else {
-            return None;
-        };
+        )?;
         let part = place.addr();
         lay_out(store, part.get(), root.secondary.get(), root.cell_size());
         put_word(store, root.last(), part.get());
@@ -450,7 +445,7 @@ impl Pools {
         self.drop_subpools(&subpools);
     }
 
-    /// The same for the pools of a set of subpools.
+    /// Forgets the pools of a set of subpools, before all of their storage is released; the storage is left as it is.
     pub fn drop_subpools(&mut self, subpools: &SubpoolSet)
         ensures { Keeps (get self.old) (λ _ r. not (is_one_of subpools.now r.subpool))
             (get self.new) }
@@ -521,7 +516,7 @@ impl Pools {
         place
     }
 
-    /// Returns the taken cell, of any pool, that has the byte at an address.
+    /// Returns the allocated cell, of any pool, that has the byte at an address.
     pub fn cell_at(&self, store: &Store, addr: Addr) -> Option<Place>
         requires { Agree self.now store.now.storage }
         ensures { MatchOption result
@@ -531,9 +526,7 @@ impl Pools {
             (λ p. IsTakenCell (pools_of self.now store.now.storage) p
             × (has_address p addr ≡ true)) }
     {
-        let Some(subpool) = store.held(addr) else {
-            return None;
-        };
+        let subpool = store.held(addr)?;
         cell_in(&self.entries, store, subpool, addr.get())
     }
 
@@ -578,30 +571,35 @@ impl Pools {
         any_meets(&self.entries, store, &Some(subpool), place)
     }
 
-    /// Whether a pool has the name.
+    /// Returns whether a pool has the name.
     pub fn contains(&self, name: &Name) -> bool
         ensures { (st : Storage) → result ≡ contains_key (pools_of self.now st) name.now }
     {
         self.find(name).is_some()
     }
 
-    /// Whether no more pools can be there.
+    /// Returns the name of the first pool in byte order after the given one, or of the first of all where none is given.
+    pub fn next_pool(&self, given: &Option<Name>) -> Option<Name>
+        ensures { (st : Storage) → IsNextName (get (pools_of self.now st)) given.now result }
+    {
+        find_next(&self.entries, given)
+    }
+
+    /// Returns whether no more pools can be there.
     pub fn is_full(&self) -> bool
         ensures { (st : Storage) → result ≡ nat_le most_pools (len (pools_of self.now st)) }
     {
         self.len() >= MOST_POOLS
     }
 
-    /// What the pool of this name has for a request for a cell. None where no pool has the name.
+    /// Returns what the pool of this name has for a request for a cell. Returns None if no pool has the name.
     pub fn supply(&self, name: &Name) -> Option<Supply>
         ensures { (st : Storage) → Agree self.now st
             → MatchOption result (get (pools_of self.now st) name.now ≡ None)
             (λ supply. (pool : Pool) × (get (pools_of self.now st) name.now ≡ Some pool)
             × IsSupply pool supply) }
     {
-        let Some(root) = self.find(name) else {
-            return None;
-        };
+        let root = self.find(name)?;
         Some(Supply {
             has_free: root.has_free(),
             subpool: root.subpool,
@@ -611,7 +609,7 @@ impl Pools {
         })
     }
 
-    /// How many parts the pool of this name has, and which was put to it last. None where no pool has the name.
+    /// Returns how many parts the pool of this name has, and which was put to it last. Returns None if no pool has the name.
     pub fn newest(&self, store: &Store, name: &Name) -> Option<LastPart>
         requires { Agree self.now store.now.storage }
         ensures { MatchOption result (get (pools_of self.now store.now.storage) name.now ≡ None)
@@ -619,13 +617,11 @@ impl Pools {
             × (get (pools_of self.now store.now.storage) name.now ≡ Some pool)
             × IsNewest pool newest) }
     {
-        let Some(root) = self.find(name) else {
-            return None;
-        };
+        let root = self.find(name)?;
         Some(newest_of(store, &root))
     }
 
-    /// Whether a taken cell of the pool begins at the address. None where no pool has the name.
+    /// Returns whether a taken cell of the pool begins at the address. Returns None if no pool has the name.
     pub fn is_taken(&self, store: &Store, name: &Name, cell: Addr) -> Option<bool>
         requires { Agree self.now store.now.storage }
         ensures { MatchOption result (get (pools_of self.now store.now.storage) name.now ≡ None)
@@ -633,9 +629,7 @@ impl Pools {
             × (get (pools_of self.now store.now.storage) name.now ≡ Some pool)
             × (taken ≡ set.contains pool.taken cell)) }
     {
-        let Some(root) = self.find(name) else {
-            return None;
-        };
+        let root = self.find(name)?;
         Some(find_taken(store, &root, cell.get()).is_some())
     }
 
@@ -654,7 +648,7 @@ impl Pools {
         spot_of(store, &root, cell)
     }
 
-    /// How many bytes the subpool holds in parts of pools.
+    /// Returns how many bytes the subpool holds in parts of pools.
     pub fn pool_bytes(&self, store: &Store, subpool: SubpoolId) -> u32
         requires { Agree self.now store.now.storage }
         ensures { (o : Owners)

@@ -19,7 +19,7 @@ use mvs_model::subpool::SubpoolId;
 use slab::Slab;
 use subpool_store::Store;
 
-// How many bytes the parts of a pool take.
+// Returns how many bytes the parts of a pool take.
 fn bytes_of(store: &Store, root: &Root) -> u32
     requires chain { IsChain store.now.storage root.now }
     requires bounded { IsBounded store.now.storage.regions }
@@ -37,7 +37,7 @@ fn bytes_of(store: &Store, root: &Root) -> u32
     bytes
 }
 
-// How many bytes the parts of the pool at a key take, where it is one of the subpool.
+// Returns how many bytes the parts of the pool at a key take, where it is one of the subpool.
 fn bytes_at(entries: &Slab<PoolEntry>, store: &Store, key: usize, subpool: SubpoolId) -> u32
     requires chains { (k : ℕ) (x : TheEntry) → slab_get entries.now k ≡ Some x
         → IsChain store.now.storage x.root }
@@ -55,7 +55,7 @@ fn bytes_at(entries: &Slab<PoolEntry>, store: &Store, key: usize, subpool: Subpo
     bytes_of(store, &entry.root)
 }
 
-// How many bytes the parts of the subpool's pools take.
+// Returns how many bytes the parts of the subpool's pools take.
 pub(crate) fn bytes_in(entries: &Slab<PoolEntry>, store: &Store, subpool: SubpoolId) -> u32
     requires chains { (k : ℕ) (x : TheEntry) → slab_get entries.now k ≡ Some x
         → IsChain store.now.storage x.root }

@@ -40,7 +40,7 @@ impl Model for Root {
 }
 
 impl Root {
-    // Where the first part is.
+    // Returns where the first part is.
     pub(crate) fn first(&self) -> u32
         ensures first { result ≡ self.now.first }
         ensures low { result < 2 ^ 31 }
@@ -48,21 +48,21 @@ impl Root {
         self.first.get()
     }
 
-    // Whether the pool is of the subpool.
+    // Returns whether the pool is of the subpool.
     pub(crate) fn is_of(&self, subpool: SubpoolId) -> bool
         ensures { result ≡ (self.now.subpool == subpool) }
     {
         self.subpool.get() == subpool.get()
     }
 
-    // How many parts there are.
+    // Returns how many parts there are.
     pub(crate) fn count(&self) -> u32
         ensures { result ≡ self.now.count }
     {
         self.count
     }
 
-    // The bytes of a cell.
+    // Returns the bytes of a cell.
     pub(crate) fn cell_size(&self) -> u32
         ensures size { result ≡ self.now.cell_size }
         ensures some { 4 ≤ result }
@@ -71,7 +71,7 @@ impl Root {
         self.cell_size.get()
     }
 
-    // Where the last part is.
+    // Returns where the last part is.
     pub(crate) fn last(&self) -> u32
         ensures last { result ≡ self.now.last }
         ensures low { result < 2 ^ 31 }
@@ -79,14 +79,14 @@ impl Root {
         self.last.get()
     }
 
-    // Where a part is before which all parts are full.
+    // Returns where a part is before which all parts are full.
     pub(crate) fn open_part(&self) -> u32
         ensures { result ≡ self.now.open_part }
     {
         self.open_part.get()
     }
 
-    // Whether a cell is free.
+    // Returns whether a cell is free.
     pub(crate) fn has_free(&self) -> bool
         ensures { MatchBool result (1 ≤ self.now.free) (self.now.free ≡ 0) }
     {
@@ -107,7 +107,7 @@ impl Root {
         }
     }
 
-    // The same once a cell is taken in a part before which all parts are full.
+    // Returns the root after one cell was taken in this part, before which all parts are full.
     pub(crate) fn with_taken(&self, part: Addr) -> Root
         requires { 1 ≤ self.now.free }
         ensures { result ≡ record self.now { free = self.now.free - 1; open_part = part } }
@@ -119,7 +119,7 @@ impl Root {
         }
     }
 
-    // The same once a cell is given back, with the part before which all parts are full.
+    // Returns the root after one cell was given back; before `open_part` all parts are full.
     pub(crate) fn with_freed(&self, open_part: Addr) -> Root
         requires { self.now.free < 2 ^ 63 }
         ensures { result ≡ record self.now { free = self.now.free + 1; open_part = open_part } }

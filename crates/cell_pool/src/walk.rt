@@ -66,7 +66,7 @@ pub(crate) fn bytes_before(count: u32) -> u32
     16 + 8 * ((count + 63) / 64)
 }
 
-// How long a part is.
+// Returns how long a part is.
 pub(crate) fn length_of(size: u32, count: u32) -> u32
     requires few { count ≤ 65536 }
     requires short { part_length size count ≤ 0x3000000 }
@@ -82,14 +82,14 @@ fn is_in(from: u32, len: u32, addr: u32) -> bool
     from <= addr && addr - from < len
 }
 
-// Whether the open part is the one at the address, or was met before.
+// Returns whether the open part is the one at the address, or was met before.
 fn is_past(past: bool, part: u32, root: &Root) -> bool
     ensures { result ≡ ((part == root.now.open_part) || past) }
 {
     part == root.open_part() || past
 }
 
-// The part of the pool that has the address.
+// Returns the part of the pool that has the address.
 fn find_part(store: &Store, root: &Root, addr: u32) -> Option<FoundCell>
     requires { IsChain store.now.storage root.now }
     ensures { MatchOption result
@@ -117,7 +117,7 @@ fn find_part(store: &Store, root: &Root, addr: u32) -> Option<FoundCell>
     None
 }
 
-// The number of the cell of a part that begins at the address.
+// Returns the number of the cell of a part that begins at the address.
 fn cell_number(first: u32, size: u32, count: u32, addr: u32) -> Option<u32>
     requires some { 1 ≤ size }
     ensures { MatchOption result
@@ -137,7 +137,7 @@ fn cell_number(first: u32, size: u32, count: u32, addr: u32) -> Option<u32>
     Some(cell)
 }
 
-// The cell of the pool that begins at the address, taken or not.
+// Returns the cell of the pool that begins at the address, taken or not.
 fn find_begun(store: &Store, root: &Root, addr: u32) -> Option<Begun>
     requires { IsChain store.now.storage root.now }
     ensures { MatchOption result
@@ -147,13 +147,9 @@ fn find_begun(store: &Store, root: &Root, addr: u32) -> Option<Begun>
         × (b.cell < b.count)
         × (addr ≡ b.part + head_length b.count + b.cell * root.now.cell_size)) }
 {
-    let Some(found) = find_part(store, root, addr) else {
-        return None;
-    };
+    let found = find_part(store, root, addr)?;
     let first = found.part + bytes_before(found.count);
-    let Some(cell) = cell_number(first, root.cell_size(), found.count, addr) else {
-        return None;
-    };
+    let cell = cell_number(first, root.cell_size(), found.count, addr)?;
     Some(Begun {
         part: found.part,
         cell,
@@ -163,16 +159,14 @@ fn find_begun(store: &Store, root: &Root, addr: u32) -> Option<Begun>
     })
 }
 
-// The taken cell of the pool that begins at the address.
+// Returns the allocated cell of the pool that begins at the address.
 pub(crate) fn find_taken(store: &Store, root: &Root, addr: u32) -> Option<TakenCell>
     requires { IsChain store.now.storage root.now }
     ensures { MatchOption result
         (is_taken (byte_of store.now.storage) root.now addr ≡ false)
         (λ s. IsTakenAt store.now.storage root.now s.part s.cell s.taken s.past addr) }
 {
-    let Some(begun) = find_begun(store, root, addr) else {
-        return None;
-    };
+    let begun = find_begun(store, root, addr)?;
     if !flag(store, begun.part, begun.cell) {
         return None;
     }
@@ -184,7 +178,7 @@ pub(crate) fn find_taken(store: &Store, root: &Root, addr: u32) -> Option<TakenC
     })
 }
 
-// The free cell of the pool that begins at the address.
+// Returns the free cell of the pool that begins at the address.
 pub(crate) fn find_untaken(store: &Store, root: &Root, addr: u32) -> Option<FreeCell>
     requires chain { IsChain store.now.storage root.now }
     requires counted { IsCounted (byte_of store.now.storage) root.now }
@@ -194,9 +188,7 @@ pub(crate) fn find_untaken(store: &Store, root: &Root, addr: u32) -> Option<Free
         × (s.count ≡ count_at (byte_of store.now.storage) s.part)
         × (addr ≡ s.part + head_length s.count + s.cell * root.now.cell_size)) }
 {
-    let Some(begun) = find_begun(store, root, addr) else {
-        return None;
-    };
+    let begun = find_begun(store, root, addr)?;
     if flag(store, begun.part, begun.cell) {
         return None;
     }
@@ -226,7 +218,7 @@ fn cell_with(first: u32, size: u32, count: u32, addr: u32) -> Option<u32>
     Some(cell)
 }
 
-// Where the cell of the pool begins that has the address.
+// Returns where the cell of the pool begins that has the address.
 fn begin_of_cell(store: &Store, root: &Root, addr: u32) -> Option<u32>
     requires { IsChain store.now.storage root.now }
     ensures cell { MatchOption result
@@ -236,14 +228,10 @@ fn begin_of_cell(store: &Store, root: &Root, addr: u32) -> Option<u32>
         × (addr < first + root.now.cell_size)) }
     ensures low { IfSome result (λ first. first < 2 ^ 31) }
 {
-    let Some(found) = find_part(store, root, addr) else {
-        return None;
-    };
+    let found = find_part(store, root, addr)?;
     let first = found.part + bytes_before(found.count);
     let size = root.cell_size();
-    let Some(cell) = cell_with(first, size, found.count, addr) else {
-        return None;
-    };
+    let cell = cell_with(first, size, found.count, addr)?;
     Some(first + cell * size)
 }
 
@@ -262,7 +250,7 @@ pub(crate) fn spot_of(store: &Store, root: &Root, addr: Addr) -> CellPosition
     CellPosition::Inside(Addr::new(first))
 }
 
-// The taken cell of the pool that has the address.
+// Returns the allocated cell of the pool that has the address.
 pub(crate) fn cell_round(store: &Store, root: &Root, addr: u32) -> Option<Place>
     requires { IsChain store.now.storage root.now }
     ensures { MatchOption result
@@ -270,14 +258,10 @@ pub(crate) fn cell_round(store: &Store, root: &Root, addr: u32) -> Option<Place>
         (λ p. (set.contains (taken_of (byte_of store.now.storage) root.now) p.addr ≡ true)
         × (p.len ≡ root.now.cell_size) × (has_address p addr ≡ true)) }
 {
-    let Some(found) = find_part(store, root, addr) else {
-        return None;
-    };
+    let found = find_part(store, root, addr)?;
     let first = found.part + bytes_before(found.count);
     let size = root.cell_size();
-    let Some(cell) = cell_with(first, size, found.count, addr) else {
-        return None;
-    };
+    let cell = cell_with(first, size, found.count, addr)?;
     if !flag(store, found.part, cell) {
         return None;
     }
@@ -295,7 +279,7 @@ fn overlaps(from: u32, len: u32, other: u32, other_len: u32) -> bool
     from < other + other_len && other < from + len
 }
 
-// Whether a part of the pool has a doubleword of the place.
+// Returns whether a part of the pool has a doubleword of the place.
 pub(crate) fn meets(store: &Store, root: &Root, place: Place) -> bool
     requires { IsChain store.now.storage root.now }
     ensures { MatchBool result (Meets store.now.storage root.now place)

@@ -20,7 +20,7 @@ pub struct Header {
     pub taken: u32,
 }
 
-// The word at an index, its high byte first.
+// Returns the word at an index, its high byte first.
 fn word_in(bytes: &[u8], at: usize) -> u32
     requires { at + 4 ≤ length bytes.now }
     ensures { result
@@ -31,7 +31,7 @@ fn word_in(bytes: &[u8], at: usize) -> u32
     u32::from_be_bytes([bytes[at], bytes[at + 1], bytes[at + 2], bytes[at + 3]])
 }
 
-// The words of the part at an address.
+// Returns the words of the part at an address.
 pub fn read_header(store: &Store, part: u32) -> Header
     requires low { part < 2 ^ 31 }
     requires held { AllHeld store.now.storage (place_at part 16) }
@@ -47,7 +47,7 @@ pub fn read_header(store: &Store, part: u32) -> Header
     }
 }
 
-// The byte at an address.
+// Returns the byte at an address.
 pub(crate) fn byte(store: &Store, addr: u32) -> u8
     requires low { addr < 2 ^ 31 }
     requires held { AllHeld store.now.storage (place_at addr 1) }
@@ -56,7 +56,7 @@ pub(crate) fn byte(store: &Store, addr: u32) -> u8
     store.bytes(Place::new(Addr::new(addr), 1))[0]
 }
 
-// Whether the bit is set.
+// Returns whether the bit is set.
 pub(crate) fn is_set(byte: u8, bit: u32) -> bool
     requires { bit < 8 }
     ensures { result ≡ (bit_at byte (7 - bit) == 1) }
@@ -64,7 +64,7 @@ pub(crate) fn is_set(byte: u8, bit: u32) -> bool
     (byte >> (7 - bit)) & 1 == 1
 }
 
-// The byte with the bit set or not.
+// Returns the byte with the bit set or not.
 fn with_bit(byte: u8, bit: u32, value: bool) -> u8
     requires { bit < 8 }
     ensures { (k : ℕ) → k < 8
@@ -74,7 +74,7 @@ fn with_bit(byte: u8, bit: u32, value: bool) -> u8
     if value { byte | mask } else { byte & !mask }
 }
 
-// Whether the flag of a cell of the part at an address is set.
+// Returns whether the flag of a cell of the part at an address is set.
 pub fn flag(store: &Store, part: u32, cell: u32) -> bool
     requires low { part + 16 + cell / 8 < 2 ^ 31 }
     requires held { AllHeld store.now.storage (place_at (part + 16 + cell / 8) 1) }

@@ -1,4 +1,4 @@
--- The words of a line, and the operands behind the form of a row.
+-- The words of a line, and the operands after the form of a row.
 use Rattle.std.proofs.Common.{◌≡◌, ℕ, ◌+◌, ◌-◌, List, [], ◌∷◌, length, drop, take, arith, refl, sym, ap, subst, ◌∙◌, true, false, Option, Some, None, length-append}
 use Rattle.std.specs.Prelude.{◌==◌, flat_map, slice_get, unwrap_or, MatchOption, if◌then◌else◌}
 use Rattle.std.specs.List.{list_any}
@@ -54,7 +54,7 @@ field_at line rest text (front, parts) behind same s =
     let long : length line ≡ length front + length text = ap length parts ∙ length-append front text in
     record { front = front; place = omega (arith, long); parts = parts; words = same ∙ behind; start = s }
 
--- ---- behind a form
+-- ---- after a form
 
 -- the row is that of the form alone
 pub same_row : (op form : List ℕ) (xs : List (List ℕ)) → row_of op (form ∷ xs) ≡ row_of op (form ∷ [])
@@ -77,26 +77,26 @@ pub line_behind : (row : grammar.Row) (line : List ℕ) (o : Option FormOperands
     → MatchOption o (operands_after_form row os ≡ []) (λ o. (row_at o.row ≡ row) × AreAfterForm row at os o.at o.text.now)
     → MatchOption o (operands_after_form row (operands_of line) ≡ []) (λ o. (row_at o.row ≡ row) × AreOperands row line o.at o.text.now)
 line_behind row line None at text os field e none = ap (operands_after_form row) e ∙ none
-line_behind row line (Some o) at text os field e (same, behind) = (same, record { start = at; field = text; behind = field; form = subst (λ os. AreAfterForm row at os o.at o.text.now) (sym e) behind })
+line_behind row line (Some o) at text os field e (same, behind) = (same, record { start = at; field = text; is_field = field; form = subst (λ os. AreAfterForm row at os o.at o.text.now) (sym e) behind })
 
 -- the columns of the first operand that is refused
-pub operand_blamed : (row : grammar.Row) (line : List ℕ) (fault : Fault) (at : ℕ) (text operand : List ℕ) (behind : ℕ) (told : Fault) (columns : Columns)
-    → AreOperands row line at text → IsRefused row (parts_within 0 (field_in text)) behind operand told
-    → columns ≡ columns_of (length line) (at + behind + (part_of row told operand).0) (part_of row told operand).1
+pub operand_blamed : (row : grammar.Row) (line : List ℕ) (fault : Fault) (at : ℕ) (text operand : List ℕ) (behind : ℕ) (reported : Fault) (columns : Columns)
+    → AreOperands row line at text → IsRefused row (parts_within 0 (field_in text)) behind operand reported
+    → columns ≡ columns_of (length line) (at + behind + (part_of row reported operand).0) (part_of row reported operand).1
     → first_of (flat_map (operand_checks row) (with_left (operands_after_form row (operands_of line)))) ≡ Some fault
-    → (told ≡ fault) × IsOperandBlamed row line fault columns
-operand_blamed row line fault at text operand behind told columns operands refused is first =
+    → (reported ≡ fault) × IsOperandBlamed row line fault columns
+operand_blamed row line fault at text operand behind reported columns operands refused is first =
     let parts = operands.form.parts ∙ refused.parts in
-    let here : Some told ≡ Some fault = sym (fault_at row refused.left operand refused.right told refused.taken refused.refused) ∙ ap (λ os. first_of (flat_map (operand_checks row) (with_left os))) (sym parts) ∙ first in
-    let same : told ≡ fault = cc in (
+    let here : Some reported ≡ Some fault = sym (fault_at row refused.left operand refused.right reported refused.taken refused.refused) ∙ ap (λ os. first_of (flat_map (operand_checks row) (with_left os))) (sym parts) ∙ first in
+    let same : reported ≡ fault = cc in (
       same,
       subst (λ f. IsOperandBlamed row line f columns) same (record {
         start = operands.start;
         field = operands.field;
         at = behind;
         operand = operand;
-        behind = operands.behind;
+        is_field = operands.is_field;
         refused = record { left = refused.left; right = refused.right; parts = parts; taken = refused.taken; refused = refused.refused; place = refused.place };
-        columns = is ∙ ap (λ n. columns_of (length line) (n + behind + (part_of row told operand).0) (part_of row told operand).1) operands.form.place;
+        columns = is ∙ ap (λ n. columns_of (length line) (n + behind + (part_of row reported operand).0) (part_of row reported operand).1) operands.form.place;
       }),
     )

@@ -14,5 +14,5 @@ pub record AreAfterForm (row : Row) (start : ℕ) (operands : List (List ℕ)) (
 pub record AreOperands (row : Row) (bytes : List ℕ) (at : ℕ) (text : List ℕ) : Type 0 where
   pub start : ℕ
   pub field : List ℕ
-  pub behind : IsField bytes start field
+  pub is_field : IsField bytes start field
   pub form : AreAfterForm row start (operands_of bytes) at text

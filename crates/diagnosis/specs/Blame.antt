@@ -51,14 +51,14 @@ abbrev pub columns_of : ℕ → ℕ → ℕ → Columns
 columns_of size at count = if nat_lt at size then record { first = at + 1; last = at + min (max 1 count) (size - at) } else record { first = size; last = size }
 
 -- The columns are those of the first operand that is refused.
-pub record IsOperandBlamed (row : Row) (bytes : List ℕ) (fault : Fault) (told : Columns) : Type 0 where
+pub record IsOperandBlamed (row : Row) (bytes : List ℕ) (fault : Fault) (reported : Columns) : Type 0 where
   pub start : ℕ
   pub field : List ℕ
   pub at : ℕ
   pub operand : List ℕ
-  pub behind : IsField bytes start field
+  pub is_field : IsField bytes start field
   pub refused : IsRefused row (operands_after_form row (operands_of bytes)) at operand fault
-  pub columns : told ≡ columns_of (length bytes) (start + before (form_before row (operands_of bytes)) + at + (part_of row fault operand).0) (part_of row fault operand).1
+  pub columns : reported ≡ columns_of (length bytes) (start + before (form_before row (operands_of bytes)) + at + (part_of row fault operand).0) (part_of row fault operand).1
 
 -- The columns are in the line.
 pub record AreWithin (bytes : List ℕ) (columns : Columns) : Type 0 where

@@ -26,7 +26,7 @@ pub struct OperandError<'a> {
     pub columns: Columns,
 }
 
-/// The first operand of a line that its row does not take.
+/// Returns the first operand of a line that its row does not take.
 pub fn blamed_operand(line: &[u8]) -> Option<OperandError<'_>>
     ensures blamed { (row : grammar.Row) (fault : LineFault)
         → row_of (operation_in line.now) (operands_of line.now) ≡ Some row

@@ -1,11 +1,11 @@
 //! What of a line is to blame for a fault that is none of an operand.
 
-use crate::LONGEST;
 use crate::hint::Hint;
 use crate::lacking::{conflict, missing};
 use crate::message::Message;
 use crate::near::{near_form, near_operation};
 use crate::operands::{OperationField, field_of, second_word};
+use job_script::MOST_LINE_BYTES;
 use job_script::addresses::is_name;
 use job_script::operations::read_operation;
 use job_script::split_once::{next_operand, skip_blanks, split_once};
@@ -21,12 +21,12 @@ pub struct FaultSpan<'a> {
     pub hint: Hint<'a>,
 }
 
-/// Where the end of a line begins.
+/// Returns where the end of a line begins.
 pub fn place_of(line: &[u8], end: &[u8]) -> usize {
     line.len().saturating_sub(end.len())
 }
 
-// On a byte that no script may have.
+// Returns the hint for a byte that no script may have.
 fn byte_hint(line: &[u8], at: usize, byte: u8) -> Hint<'static> {
     match byte {
         b'\t' => Hint::Says("this is a tab: use blanks"),
@@ -39,7 +39,7 @@ fn byte_hint(line: &[u8], at: usize, byte: u8) -> Hint<'static> {
     }
 }
 
-// The first byte that no script may have.
+// Returns the first byte that no script may have.
 fn invalid_byte(line: &[u8]) -> FaultSpan<'static> {
     for (at, byte) in line.iter().enumerate() {
         if *byte < b' ' || *byte > b'~' {
@@ -54,7 +54,7 @@ fn invalid_byte(line: &[u8]) -> FaultSpan<'static> {
     whole(line, Message::Something)
 }
 
-// All of a line.
+// Returns the fault of a whole line.
 fn whole<'a>(line: &[u8], said: Message<'a>) -> FaultSpan<'a> {
     FaultSpan {
         at: 0,
@@ -64,7 +64,7 @@ fn whole<'a>(line: &[u8], said: Message<'a>) -> FaultSpan<'a> {
     }
 }
 
-// On the operations of other macros that obtain or release storage, or that scripts of beginners have.
+// Returns the hint for the operation of another macro that obtains or releases storage, or that scripts of beginners have.
 fn other_operation(word: &[u8]) -> Option<Hint<'static>> {
     match word {
         b"IARV64" | b"IARCP64" | b"IARST64" => {
@@ -126,7 +126,7 @@ fn task_fault<'a>(task: &'a [u8], line: &'a [u8]) -> FaultSpan<'a> {
     }
 }
 
-// The form of a field of operands.
+// Returns the form of a field of operands.
 fn form_fault<'a>(alloc: Global, field: &OperationField<'a>) -> FaultSpan<'a> {
     let (form, _) = next_operand(field.text);
     let hint = match near_form(alloc, field.operation, form) {
@@ -142,7 +142,7 @@ fn form_fault<'a>(alloc: Global, field: &OperationField<'a>) -> FaultSpan<'a> {
     }
 }
 
-// What is wrong with the task, the operation or the form.
+// Returns what is wrong with the task, the operation or the form.
 fn unknown(alloc: Global, line: &[u8]) -> FaultSpan<'_> {
     let (task, rest) = split_once(line, b' ');
     if !is_name(task) {
@@ -173,7 +173,7 @@ fn unknown(alloc: Global, line: &[u8]) -> FaultSpan<'_> {
     }
 }
 
-// A first statement that is another one than REGION, or a script without a statement.
+// Returns the fault of a first statement that is not REGION, or of a script without a statement.
 fn out_of_place(line: &[u8]) -> FaultSpan<'_> {
     if line.is_empty() {
         return whole(line, Message::NoStatement);
@@ -191,7 +191,7 @@ fn out_of_place(line: &[u8]) -> FaultSpan<'_> {
 
 // Describes a line that is too long. Only bytes that a line can have are checked, and they are there however it was read.
 fn too_long(line: &[u8]) -> Message<'_> {
-    let front = &line[..line.len().min(LONGEST)];
+    let front = &line[..line.len().min(MOST_LINE_BYTES)];
     if front.contains(&0) {
         Message::NoText
     } else {
@@ -199,12 +199,12 @@ fn too_long(line: &[u8]) -> Message<'_> {
     }
 }
 
-/// What of a line is to blame for its fault, where that is none of an operand.
+/// Returns what of a line is to blame for its fault, where that is none of an operand.
 pub fn find_fault<'a>(alloc: Global, line: &'a [u8], fault: Fault) -> FaultSpan<'a> {
     match fault {
         Fault::TooLong => FaultSpan {
-            at: LONGEST,
-            count: line.len().saturating_sub(LONGEST),
+            at: MOST_LINE_BYTES,
+            count: line.len().saturating_sub(MOST_LINE_BYTES),
             said: too_long(line),
             hint: Hint::Nothing,
         },

@@ -44,7 +44,7 @@ impl fmt::Display for FormsWith {
     }
 }
 
-/// Whether a form of an operation takes a key.
+/// Returns whether a form of an operation takes a key.
 pub fn takes(operation: Operation, form: &[u8], key: Key) -> bool {
     match operation.row(form) {
         Some(row) => {
@@ -57,7 +57,7 @@ pub fn takes(operation: Operation, form: &[u8], key: Key) -> bool {
     }
 }
 
-// The byte of a plain one in EBCDIC, as code page 1047 has it.
+// Returns the byte of a plain one in EBCDIC, as code page 1047 has it.
 fn ebcdic(byte: u8) -> Option<u8> {
     match byte {
         b'A'..=b'I' => Some(byte - b'A' + 0xC1),
@@ -72,7 +72,7 @@ fn ebcdic(byte: u8) -> Option<u8> {
     }
 }
 
-/// Whether each byte is a letter, a digit or a blank, which are the same in all code pages.
+/// Returns whether each byte is a letter, a digit or a blank, which are the same in all code pages.
 pub fn is_common(text: &[u8]) -> bool {
     text.iter().all(|byte| ebcdic(*byte).is_some())
 }

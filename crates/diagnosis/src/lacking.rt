@@ -14,7 +14,7 @@ use job_script::operations::{Operation, read_operation};
 use job_script::rows::{Row, Rule};
 use job_script::split_once::{next_operand, next_word, split_once};
 
-/// How a statement is called, its row of the table, and the text of its operands, where there is one.
+/// Returns how a statement is called, its row of the table, and the text of its operands, where there is one.
 pub fn row_of<'a>(
     operation: Operation,
     field: Option<OperationField<'a>>,
@@ -63,7 +63,7 @@ fn is_partner(given: &GivenOperands<'_>, key: Key) -> bool
     false
 }
 
-// Of each keyword of a row, whether it is missing.
+// Returns for each keyword of a row whether it is missing.
 fn lacking(given: &GivenOperands<'_>) -> [bool; 8]
     requires { IsRead given.now }
 {
@@ -79,8 +79,8 @@ fn lacking(given: &GivenOperands<'_>) -> [bool; 8]
 
 // Describes what follows the operands: a word with an equals sign was meant as an operand.
 fn remark_hint(text: &[u8]) -> Hint<'_> {
-    let (_, behind) = next_word(text);
-    let (remark, _) = next_word(behind);
+    let (_, rest) = next_word(text);
+    let (remark, _) = next_word(rest);
     if remark.contains(&b'=') {
         Hint::Remark(remark)
     } else {
@@ -99,7 +99,7 @@ fn missing_at<'a>(line: &[u8], text: &'a [u8], said: Message<'a>) -> FaultSpan<'
     }
 }
 
-// The operands that a row requires of a field, and that are not there.
+// Returns the operands that a row requires of a field, and that are not there.
 fn missing_of<'a>(
     called: StatementName<'a>,
     row: Row,
@@ -137,7 +137,7 @@ fn form_missing<'a>(operation: Operation, field: &OperationField<'a>) -> Option<
     })
 }
 
-/// What is missing in a line.
+/// Returns what is missing in a line.
 pub fn missing(line: &[u8]) -> Option<FaultSpan<'_>> {
     let (word, rest) = second_word(line);
     let operation = read_operation(word)?;
@@ -155,7 +155,7 @@ pub fn missing(line: &[u8]) -> Option<FaultSpan<'_>> {
     Some(missing_at(line, field.text, missing_of(called, row, text)?))
 }
 
-// The rule that operands break, and a key of it that was given.
+// Returns the rule that operands break, and a key of it that was given.
 fn broken(given: &GivenOperands<'_>) -> Option<(Message<'static>, Key)>
     requires { IsRead given.now }
 {
@@ -188,7 +188,7 @@ fn broken(given: &GivenOperands<'_>) -> Option<(Message<'static>, Key)>
     None
 }
 
-// Where the operand with a key begins, and how many bytes it has.
+// Returns where the operand with a key begins, and how many bytes it has.
 fn keyed(text: &[u8], key: &[u8]) -> Option<(usize, usize)> {
     let mut rest = text;
     'operands: loop {
@@ -204,7 +204,7 @@ fn keyed(text: &[u8], key: &[u8]) -> Option<(usize, usize)> {
     }
 }
 
-// The rule that the operands of a text break.
+// Returns the rule that the operands of a text break.
 fn broken_by(row: Row, text: &[u8]) -> Option<(Message<'static>, Key)> {
     let mut given = GivenOperands::none(row);
     match given.take_field(Some(text)) {
@@ -213,7 +213,7 @@ fn broken_by(row: Row, text: &[u8]) -> Option<(Message<'static>, Key)> {
     }
 }
 
-/// Which operands of a line exclude each other.
+/// Returns which operands of a line exclude each other.
 pub fn conflict(line: &[u8]) -> Option<FaultSpan<'_>> {
     let (word, _) = second_word(line);
     let (_, row, text) = row_of(read_operation(word)?, field_of(line))?;

@@ -32,15 +32,14 @@ pub use crate::unserved::{NotServed, Suggestion};
 use crate::values::{key_hint, keyword_of, range_hint, value_hint};
 use crate::words::StatementName;
 pub use crate::words::{Plain, PlainName};
-use job_script::fault_digit;
 use job_script::operations::read_operation;
 use job_script::split_once::split_once;
+use job_script::{MOST_LINE_BYTES, fault_digit};
 use mvs_model::line::Fault;
 use std::alloc::Global;
 use std::fmt;
 
 /// The most bytes of a line that is printed.
-const LONGEST: usize = 255;
 
 /// What is wrong with a line.
 #[derive(Clone, Copy)]
@@ -52,21 +51,21 @@ pub struct Diagnosis<'a> {
     hint: Hint<'a>,
 }
 
-// How the statement of a line is called.
+// Returns how the statement of a line is called.
 fn called_in(line: &[u8]) -> Option<StatementName<'_>> {
     let (word, _) = second_word(line);
     let (called, _, _) = row_of_field(read_operation(word)?, field_of(line))?;
     Some(called)
 }
 
-// On an operand without a key.
+// Returns the hint for an operand without a key.
 fn positional_hint<'a>(alloc: Global, line: &[u8], blamed: &OperandError<'a>) -> Hint<'a> {
-    let behind = match line.get(blamed.at) {
+    let follows = match line.get(blamed.at) {
         Some(b' ') => true,
         _ => false,
     };
     if blamed.operand.is_empty() {
-        return if behind {
+        return if follows {
             Hint::Says("a blank ends the operands")
         } else {
             Hint::Nothing
@@ -82,7 +81,7 @@ fn positional_hint<'a>(alloc: Global, line: &[u8], blamed: &OperandError<'a>) ->
     }
 }
 
-// On an operand that is not taken.
+// Returns the hint for an operand that is not taken.
 fn operand_hint<'a>(
     alloc: Global,
     line: &[u8],
@@ -99,7 +98,13 @@ fn operand_hint<'a>(
     match blamed.fault {
         Fault::InvalidOperand => value_hint(alloc, keyword.kind, text),
         Fault::OutOfRange => range_hint(key, keyword.kind, text),
-        _ => Hint::Nothing,
+        Fault::TooLong
+        | Fault::InvalidByte
+        | Fault::UnknownOperation
+        | Fault::MissingOperand
+        | Fault::Repeated
+        | Fault::Conflicting
+        | Fault::OutOfPlace => Hint::Nothing,
     }
 }
 
@@ -186,7 +191,7 @@ impl fmt::Display for Diagnosis<'_> {
             fault_digit(self.fault),
             self.said
         )?;
-        if self.line.is_empty() || self.line.len() > LONGEST {
+        if self.line.is_empty() || self.line.len() > MOST_LINE_BYTES {
             return Ok(());
         }
         write_marked(f, self.line, self.columns)?;

@@ -76,7 +76,7 @@ impl fmt::Display for Missing {
     }
 }
 
-// What is wrong with an operand that has a key.
+// Returns what is wrong with an operand that has a key.
 fn write_keyed<W: fmt::Write>(
     f: &mut fmt::Formatter<W>,
     called: &StatementName<'_>,
@@ -92,7 +92,14 @@ fn write_keyed<W: fmt::Write>(
         ),
         Some(keyword) => match blamed.fault {
             Fault::Repeated => write!(f, "{operand}: duplicate"),
-            _ => write!(
+            Fault::TooLong
+            | Fault::InvalidByte
+            | Fault::UnknownOperation
+            | Fault::InvalidOperand
+            | Fault::MissingOperand
+            | Fault::OutOfRange
+            | Fault::Conflicting
+            | Fault::OutOfPlace => write!(
                 f,
                 "{operand}: {} takes {}",
                 Plain(key),
@@ -102,7 +109,7 @@ fn write_keyed<W: fmt::Write>(
     }
 }
 
-// What is wrong with an operand.
+// Returns what is wrong with an operand.
 fn write_operand<W: fmt::Write>(
     f: &mut fmt::Formatter<W>,
     called: &StatementName<'_>,

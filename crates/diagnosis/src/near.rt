@@ -5,7 +5,7 @@ use job_script::rows::Row;
 use std::alloc::Global;
 use strsim::osa_distance;
 
-// How many edits lead from one word to another that may be meant.
+// Returns how many edits lead from one word to another that may be meant.
 fn edits(alloc: Global, word: &str, other: &str) -> Option<usize> {
     let most = if word.len() <= 3 { 1 } else { 2 };
     match osa_distance(alloc, word, other) {
@@ -14,7 +14,7 @@ fn edits(alloc: Global, word: &str, other: &str) -> Option<usize> {
     }
 }
 
-/// How many edits lead from one word to another that may be meant.
+/// Returns how many edits lead from one word to another that may be meant.
 pub fn edits_between(alloc: Global, word: &[u8], other: &[u8]) -> Option<usize> {
     match (str::from_utf8(word), str::from_utf8(other)) {
         (Ok(word), Ok(other)) => edits(alloc, word, other),
@@ -32,7 +32,7 @@ pub struct Nearest<'a> {
 }
 
 impl<'a> Nearest<'a> {
-    /// None so far. A word of another alphabet, or of more than sixteen bytes, has none.
+    /// Makes a search for the words nearest to one. A word of another alphabet, or of more than sixteen bytes, has none.
     pub fn new(alloc: Global, word: &'a [u8]) -> Nearest<'a> {
         let word = match str::from_utf8(word) {
             Ok(text) if text.len() <= 16 => text,
@@ -56,12 +56,13 @@ impl<'a> Nearest<'a> {
         }
     }
 
+    /// Returns the nearest word, if there is one.
     pub fn found(&self) -> Option<&'static str> {
         self.found
     }
 }
 
-/// The operation that is meant by a word.
+/// Returns the operation that is meant by a word.
 pub fn near_operation(alloc: Global, word: &[u8]) -> Option<&'static str> {
     let mut nearest = Nearest::new(alloc, word);
     for operation in OPERATIONS {
@@ -70,7 +71,7 @@ pub fn near_operation(alloc: Global, word: &[u8]) -> Option<&'static str> {
     nearest.found()
 }
 
-/// The form of an operation that is meant by a word.
+/// Returns the form of an operation that is meant by a word.
 pub fn near_form(alloc: Global, operation: Operation, word: &[u8]) -> Option<&'static str> {
     let mut nearest = Nearest::new(alloc, word);
     for form in operation.forms() {
@@ -79,7 +80,7 @@ pub fn near_form(alloc: Global, operation: Operation, word: &[u8]) -> Option<&'s
     nearest.found()
 }
 
-/// The key of a row that is meant by a word.
+/// Returns the key of a row that is meant by a word.
 pub fn near_key(alloc: Global, row: Row, word: &[u8]) -> Option<&'static str> {
     let mut nearest = Nearest::new(alloc, word);
     for keyword in row.keywords() {
@@ -88,7 +89,7 @@ pub fn near_key(alloc: Global, row: Row, word: &[u8]) -> Option<&'static str> {
     nearest.found()
 }
 
-/// One of some words that is meant by another one.
+/// Returns one of some words that is meant by another one.
 pub fn near_word(
     alloc: Global,
     words: &'static [&'static str],

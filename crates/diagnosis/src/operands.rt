@@ -35,11 +35,11 @@ pub fn second_word(line: &[u8]) -> (&[u8], &[u8])
     ensures rest { words result.1.now ≡ drop 2 (words line.now) }
     ensures end { IsEnd line.now result.1.now }
 {
-    let (_, behind) = next_word(line);
-    next_word(behind)
+    let (_, rest) = next_word(line);
+    next_word(rest)
 }
 
-/// The field of operands of a line, where it has one.
+/// Returns the field of operands of a line, where it has one.
 pub fn field_of(line: &[u8]) -> Option<OperationField<'_>>
     ensures field { MatchOption result
         ((rows_of (operation_in line.now) ≡ []) ⊎ (operands_of line.now ≡ []))
@@ -70,7 +70,7 @@ pub fn field_of(line: &[u8]) -> Option<OperationField<'_>>
 fn operands_after_form<'a>(field: &OperationField<'a>) -> Option<FormOperands<'a>>
     requires room { field.now.at + length field.now.text.now < 2 ^ 63 }
     requires formed { takes_form (operation_text field.now.operation) ≡ true }
-    ensures behind { (row : grammar.Row)
+    ensures operands { (row : grammar.Row)
         → row_of (operation_text field.now.operation)
         (parts_within 0 (field_in field.now.text.now))
         ≡ Some row
@@ -98,7 +98,7 @@ fn operands_after_form<'a>(field: &OperationField<'a>) -> Option<FormOperands<'a
 // Returns the operands of an operation without a form.
 fn without_form<'a>(field: &OperationField<'a>) -> Option<FormOperands<'a>>
     requires { takes_form (operation_text field.now.operation) ≡ false }
-    ensures behind { (row : grammar.Row)
+    ensures operands { (row : grammar.Row)
         → row_of (operation_text field.now.operation)
         (parts_within 0 (field_in field.now.text.now))
         ≡ Some row

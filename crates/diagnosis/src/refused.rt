@@ -34,7 +34,7 @@ fn expected(given: &GivenOperands<'_>) -> Option<Kind> {
     }
 }
 
-/// The first operand that a row does not take, of those that a text starts with.
+/// Returns the first operand that a row does not take, of those that a text starts with.
 pub fn first_refused<'a>(row: Row, field: &'a [u8]) -> Option<Refused<'a>>
     ensures refused { MatchOption result
         (first_of
@@ -81,7 +81,7 @@ pub fn part_of(row: Row, fault: Fault, operand: &[u8]) -> (usize, usize)
     }
 }
 
-// Whether one of some keywords has a key.
+// Returns whether one of some keywords has a key.
 fn have(keywords: &[Keyword], key: &[u8]) -> bool
     ensures { result ≡ list_any (λ k. bytes_eq (key_text k.key) key.now) keywords.now }
 {
@@ -93,7 +93,7 @@ fn have(keywords: &[Keyword], key: &[u8]) -> bool
     false
 }
 
-/// Whether a row takes a key.
+/// Returns whether a row takes a key.
 pub fn takes(row: Row, key: &[u8]) -> bool
     ensures { result ≡ list_any (λ k. bytes_eq k.key key.now) (row_at row).keywords }
 {

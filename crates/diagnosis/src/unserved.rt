@@ -19,7 +19,7 @@ pub enum Suggestion {
     /// A line before this one is to begin the task, or to set the name.
     Before(u32),
     /// A later line does.
-    Behind(u32),
+    After(u32),
 }
 
 // What there is not: an active task, or a name that is set.
@@ -62,7 +62,7 @@ fn leads(byte: u8) -> bool {
     matches!(byte, b' ' | b',' | b'(' | b'=')
 }
 
-// Whether a name may end before such a byte.
+// Returns whether a name may end before such a byte.
 fn follows(byte: u8) -> bool {
     matches!(byte, b' ' | b',' | b')' | b'+')
 }
@@ -73,12 +73,12 @@ fn is_word_at(line: &[u8], at: usize, name: &[u8]) -> bool {
         Some(byte) => leads(*byte),
         None => true,
     };
-    let behind = match line.get(at.saturating_add(name.len())) {
+    let after = match line.get(at.saturating_add(name.len())) {
         Some(byte) => follows(*byte),
         None => true,
     };
     match line.get(at..) {
-        Some(rest) => before && behind && rest.starts_with(name),
+        Some(rest) => before && after && rest.starts_with(name),
         None => false,
     }
 }
@@ -96,7 +96,7 @@ fn place_of(line: &[u8], name: &[u8]) -> usize {
 }
 
 impl<'a> NotServed<'a> {
-    /// A line whose task is not active.
+    /// Makes the message about a line whose task is not active.
     pub fn without_task(line: &'a [u8], task: Name, clue: Suggestion) -> NotServed<'a>
         ensures { 1 ≤ length line.now → AreWithin line.now result.columns }
     {
@@ -110,7 +110,7 @@ impl<'a> NotServed<'a> {
         }
     }
 
-    /// A line with a name that is not set.
+    /// Makes the message about a line with a name that is not set.
     pub fn without_name(line: &'a [u8], name: Name, clue: Suggestion) -> NotServed<'a>
         ensures { 1 ≤ length line.now → AreWithin line.now result.columns }
     {
@@ -132,7 +132,7 @@ impl<'a> NotServed<'a> {
             Suggestion::Nothing => Ok(()),
             Suggestion::Meant(name) => write!(f, " did you mean {}?", Plain(name.text())),
             Suggestion::Before(line) => self.lacked.write_before(f, *line),
-            Suggestion::Behind(line) => self.lacked.write_later(f, *line),
+            Suggestion::After(line) => self.lacked.write_later(f, *line),
         }
     }
 }

@@ -12,12 +12,12 @@ use job_script::rows::{Keyword, Row};
 use job_script::split_once::split_once;
 use std::alloc::Global;
 
-// Whether a text has a letter in lower case.
+// Returns whether a text has a letter in lower case.
 fn has_lower(text: &[u8]) -> bool {
     text.iter().any(|byte| byte.is_ascii_lowercase())
 }
 
-// The number that up to ten digits write.
+// Returns the number that up to ten digits write.
 fn short_number(text: &[u8]) -> Option<u64> {
     if text.len() > 10 {
         return None;
@@ -25,7 +25,7 @@ fn short_number(text: &[u8]) -> Option<u64> {
     read_number(text)
 }
 
-// The number that a text means which is not written in decimal: hexadecimal, or a product.
+// Returns the number that a text means which is not written in decimal: hexadecimal, or a product.
 fn meant_number(text: &[u8]) -> Option<u64> {
     if let Some(digits) = quoted(text) {
         if digits.is_empty() || digits.len() > 8 || !are_hex_digits(digits) {
@@ -55,11 +55,11 @@ fn number_hint(text: &[u8]) -> Hint<'_> {
     if inside(text).is_some() {
         return Hint::Says("one number, without parentheses");
     }
-    let behind = after_digits(text);
-    if behind.len() < text.len() && behind.contains(&b'=') {
-        return Hint::Comma(behind);
+    let rest = after_digits(text);
+    if rest.len() < text.len() && rest.contains(&b'=') {
+        return Hint::Comma(rest);
     }
-    match behind {
+    match rest {
         [b'K', ..] | [b'k', ..] | [b'M', ..] | [b'm', ..] => Hint::Says(
             "give the length in bytes, in decimal",
         ),
@@ -123,7 +123,7 @@ fn word_hint(alloc: Global, words: &'static [&'static str], text: &[u8]) -> Hint
     }
 }
 
-/// On a text that is not of a kind.
+/// Returns the hint for a text that is not of a kind.
 pub fn value_hint(alloc: Global, kind: Kind, text: &[u8]) -> Hint<'_> {
     match kind {
         Kind::Number(_, _) => number_hint(text),
@@ -142,17 +142,22 @@ pub fn value_hint(alloc: Global, kind: Kind, text: &[u8]) -> Hint<'_> {
             Hint::Says("in parentheses, such as (X,Y)")
         }
         Kind::NumberOrPair(_, _) if inside(text).is_none() => number_hint(text),
-        _ => Hint::Nothing,
+        Kind::Pair(..)
+        | Kind::NumberOrPair(..)
+        | Kind::Numbers(..)
+        | Kind::DistinctNumbers(..)
+        | Kind::DistinctNames(..)
+        | Kind::Addresses(..) => Hint::Nothing,
     }
 }
 
-// The two lengths of a pair.
+// Returns the two lengths of a pair.
 fn lengths(text: &[u8]) -> Option<(u64, u64)> {
     let (largest, smallest) = split_once(inside(text)?, b',');
     Some((short_number(largest)?, short_number(smallest?)?))
 }
 
-/// On a text of a kind that is out of its range.
+/// Returns the hint for a text of a kind that is out of its range.
 pub fn range_hint(key: &[u8], kind: Kind, text: &[u8]) -> Hint<'static> {
     match kind {
         Kind::Number(_, _) | Kind::DistinctNumbers(_, _)
@@ -165,7 +170,16 @@ pub fn range_hint(key: &[u8], kind: Kind, text: &[u8]) -> Hint<'static> {
             }
             _ => Hint::Nothing,
         },
-        _ => Hint::Nothing,
+        Kind::Number(..)
+        | Kind::HexByte
+        | Kind::Word(..)
+        | Kind::Name
+        | Kind::Address
+        | Kind::Bytes(..)
+        | Kind::Numbers(..)
+        | Kind::DistinctNumbers(..)
+        | Kind::DistinctNames(..)
+        | Kind::Addresses(..) => Hint::Nothing,
     }
 }
 
@@ -197,7 +211,7 @@ const UNMODELLED: [&str; 24] = [
     "TCBADDR",
 ];
 
-// The key of another statement that takes what a key says, where the row takes that.
+// Returns the key of another statement that takes what a key says, where the row takes that.
 fn other_name(row: Row, key: &[u8]) -> Option<&'static str> {
     let others: &'static [Key] = match key {
         b"LV" | b"LEN" | b"LENGTH" | b"LA" => &[Key::Lv, Key::Length, Key::La],
@@ -215,7 +229,7 @@ fn other_name(row: Row, key: &[u8]) -> Option<&'static str> {
     None
 }
 
-// The key of one of the other forms of an operation.
+// Returns the key of one of the other forms of an operation.
 fn in_other_form<'a>(called: &StatementName<'_>, key: &[u8]) -> Option<Hint<'a>> {
     for form in called.operation.forms() {
         let row = called.operation.row(form.as_bytes())?;
@@ -228,7 +242,7 @@ fn in_other_form<'a>(called: &StatementName<'_>, key: &[u8]) -> Option<Hint<'a>>
     None
 }
 
-// Whether a key is one that macros of MVS have and nothing here does.
+// Returns whether a key is one that macros of MVS have and nothing here does.
 fn is_unmodelled(key: &[u8]) -> bool {
     for other in UNMODELLED {
         if other.as_bytes() == key {
@@ -238,7 +252,7 @@ fn is_unmodelled(key: &[u8]) -> bool {
     false
 }
 
-/// On a key that a statement does not take.
+/// Returns the hint for a key that a statement does not take.
 pub fn key_hint<'a>(alloc: Global, called: &StatementName<'_>, row: Row, key: &[u8]) -> Hint<'a> {
     if has_lower(key) {
         return Hint::Says("use upper case");
@@ -258,7 +272,7 @@ pub fn key_hint<'a>(alloc: Global, called: &StatementName<'_>, row: Row, key: &[
     }
 }
 
-/// The keyword of a row that has a key.
+/// Returns the keyword of a row that has a key.
 pub fn keyword_of(row: Row, key: &[u8]) -> Option<Keyword> {
     for keyword in row.keywords() {
         if keyword.key.is(key) {

@@ -116,7 +116,14 @@ impl fmt::Display for Short {
             Kind::Name => write!(f, "a name"),
             Kind::Address => write!(f, "an address"),
             Kind::Bytes(_) => write!(f, "bytes"),
-            _ => write!(f, "a number"),
+            Kind::Number(..)
+            | Kind::HexByte
+            | Kind::Pair(..)
+            | Kind::NumberOrPair(..)
+            | Kind::Numbers(..)
+            | Kind::DistinctNumbers(..)
+            | Kind::DistinctNames(..)
+            | Kind::Addresses(..) => write!(f, "a number"),
         }
     }
 }

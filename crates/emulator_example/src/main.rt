@@ -40,8 +40,8 @@ fn take_answer(rt: &HostRuntime, session: &Session, answer: &Answer) -> io::Resu
 }
 
 // Handles the events of a line.
-fn take(rt: &HostRuntime, session: &Session, told: &LineEvent) -> io::Result<()> {
-    match told {
+fn take(rt: &HostRuntime, session: &Session, line_event: &LineEvent) -> io::Result<()> {
+    match line_event {
         LineEvent::Nothing => Ok(()),
         LineEvent::StepBegan { .. } => println!(rt; "a step begins"),
         LineEvent::Answered { answer, .. } => take_answer(rt, session, answer),
@@ -57,8 +57,8 @@ fn main(rt: HostRuntime) -> io::Result<()> {
             break;
         }
         match session.explain(&mut explainer, call.as_bytes()) {
-            Ok((told, reason)) => {
-                take(&rt, &session, &told)?;
+            Ok((line_event, reason)) => {
+                take(&rt, &session, &line_event)?;
                 if let Some(reason) = reason {
                     println!(rt; "because of {reason:?}")?;
                 }

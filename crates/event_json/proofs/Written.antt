@@ -4,13 +4,14 @@ use Rattle.std.specs.Prelude.{IsErrOf}
 use Rattle.job_script.specs.Writing.{WritesAll}
 use Rattle.mvs_model.specs.declared.name.Name.{Name}
 use Rattle.mvs_model.specs.declared.watched.Failed.{Failed}
-use Rattle.mvs_model.specs.Answers.{Answer, Event, AnswerTo}
+use Rattle.mvs_model.specs.Answers.{Answer, Event, AnswerTo, StepEnded, Faulted}
 use Rattle.mvs_model.specs.Job.{JobValue}
 use Rattle.mvs_job.specs.declared.consumer.End.{End}
 use Rattle.mvs_job.specs.declared.printing.Stop.{Stop}
 use Rattle.mvs_job.specs.declared.printing.Stop.TheVariants as stop
 use Rattle.mvs_job.specs.declared.walk.LineEvent.{LineEvent}
 use Rattle.mvs_job.specs.Consuming.{AcceptsLast, AcceptsLine, IsEnd, WrittenAfter, keeps_nothing}
+use Rattle.mvs_job.specs.Granting.{reports_grant}
 use Rattle.mvs_job.specs.Observing.{Hearing}
 use Rattle.mvs_job.specs.LineEvents.{WalkValue, ended, events_of_line}
 use Rattle.mvs_job.specs.Trace.{Entry, events_of}
@@ -72,3 +73,13 @@ pub lines_of_entries : (history entries : List Entry) (text : List ℕ) → Writ
 lines_of_entries history [] text is = is
 lines_of_entries history (e ∷ entries) text (one, rest, are, more, cut) =
     subst (AreLinesOf (e.events ++ events_of entries)) (sym cut) (lines_both e.events (events_of entries) one rest are (lines_of_entries (history ++ e ∷ []) entries rest more))
+
+-- ---- a granted request
+
+-- the events of a line that say that a request was granted are its answer
+pub granted_answer : (events : List Event) → reports_grant events ≡ true → EndsWithAnswer events
+granted_answer [] grant = absurd (let f : false ≡ true = grant in cc)
+granted_answer (AnswerTo number t a ∷ []) grant = ([], number, t, a, refl)
+granted_answer (AnswerTo number t a ∷ other ∷ rest) grant = absurd (let f : false ≡ true = grant in cc)
+granted_answer (StepEnded abended ∷ rest) grant = absurd (let f : false ≡ true = grant in cc)
+granted_answer (Faulted number fault ∷ rest) grant = absurd (let f : false ≡ true = grant in cc)

@@ -7,11 +7,12 @@ use mvs_job::{Job, Walk};
 use mvs_model::answer::Answer;
 use mvs_model::code::Code;
 use mvs_model::name::Name;
-use mvs_model::numbers::{MOST_PAGES_ABOVE, MOST_PAGES_BELOW};
+use mvs_model::numbers::{MOST_PAGES_ABOVE, MOST_PAGES_BELOW, SUBPOOL_NUMBERS};
 use mvs_model::place::{Addr, Place};
 use mvs_model::report::{MapRun, SubpoolLine};
 use mvs_model::request::Reply;
 use std::alloc::{AllocError, Global};
+use std::slice;
 
 /// Where 16 megabytes end.
 const ABOVE: u32 = 0x100_0000;
@@ -75,7 +76,7 @@ fn put_place(members: &mut Members, job: &Job, place: Place) -> Result<(), Alloc
     put_subpool(members, job, addr)
 }
 
-// The places that a request was granted.
+// Writes the places that a request was granted.
 fn put_areas(members: &mut Members, job: &Job, places: &[Place]) -> Result<(), AllocError>
     ensures { members.new ≡ members.old }
 {
@@ -88,30 +89,61 @@ fn put_areas(members: &mut Members, job: &Job, places: &[Place]) -> Result<(), A
     members.end_list()
 }
 
-// A return code, and what was granted with it.
+// Returns the places of areas in a reply, if it grants areas.
+fn granted_areas(reply: &Reply) -> Option<&[Place]> {
+    match reply {
+        Reply::Obtained(place) => Some(slice::from_ref(place)),
+        Reply::Listed(places) => Some(places.as_slice()),
+        Reply::NotRun
+        | Reply::Rc0
+        | Reply::Rc4
+        | Reply::Cell(_)
+        | Reply::NoCell
+        | Reply::Attached
+        | Reply::Ended
+        | Reply::Done
+        | Reply::Abended(..) => None,
+    }
+}
+
+// Returns the place of a cell in a reply, if it has one.
+fn granted_cell(reply: &Reply) -> Option<Place> {
+    match reply {
+        Reply::Cell(place) => Some(*place),
+        Reply::NotRun
+        | Reply::Rc0
+        | Reply::Rc4
+        | Reply::Obtained(_)
+        | Reply::Listed(_)
+        | Reply::NoCell
+        | Reply::Attached
+        | Reply::Ended
+        | Reply::Done
+        | Reply::Abended(..) => None,
+    }
+}
+
+// Writes a return code, and what was granted with it.
 fn put_return(members: &mut Members, walk: &Walk, code: u32) -> Result<(), AllocError>
     ensures { members.new ≡ members.old }
 {
     members.text("answer", "return_code")?;
     members.number("return_code", code)?;
-    match (walk.job(), walk.reply()) {
-        (Some(job), Reply::Obtained(place)) if code == 0 => put_areas(members, job, &[*place]),
-        (Some(job), Reply::Listed(places)) if code == 0 => {
-            put_areas(members, job, places.as_slice())
-        }
+    match (walk.job(), granted_areas(walk.reply())) {
+        (Some(job), Some(places)) if code == 0 => put_areas(members, job, places),
         _ => Ok(()),
     }
 }
 
-// A cell.
+// Writes a cell.
 fn put_cell(members: &mut Members, walk: &Walk) -> Result<(), AllocError>
     ensures { members.new ≡ members.old }
 {
     members.text("answer", "cell")?;
-    match (walk.job(), walk.reply()) {
-        (Some(job), Reply::Cell(place)) => {
+    match (walk.job(), granted_cell(walk.reply())) {
+        (Some(job), Some(place)) => {
             members.begin_object("cell")?;
-            put_place(members, job, *place)?;
+            put_place(members, job, place)?;
             members.end_object()
         }
         _ => Ok(()),
@@ -129,7 +161,7 @@ fn hex_text(alloc: Global, bytes: &[u8]) -> Result<String, AllocError> {
     Ok(text)
 }
 
-// The bytes that SHOW read.
+// Writes the bytes that SHOW read.
 fn put_data(
     alloc: Global,
     members: &mut Members,
@@ -148,7 +180,7 @@ fn put_data(
     members.text("bytes", &text)
 }
 
-// An abend, and the tasks that ended with it.
+// Writes an abend, and the tasks that ended with it.
 fn put_abend(members: &mut Members, walk: &Walk, code: Code) -> Result<(), AllocError>
     ensures { members.new ≡ members.old }
 {
@@ -166,7 +198,7 @@ fn put_abend(members: &mut Members, walk: &Walk, code: Code) -> Result<(), Alloc
     members.end_list()
 }
 
-// A line of REPORT SP.
+// Writes a line of REPORT SP.
 fn put_subpool_line(members: &mut Members, line: &SubpoolLine) -> Result<(), AllocError>
     ensures { members.new ≡ members.old }
 {
@@ -178,12 +210,12 @@ fn put_subpool_line(members: &mut Members, line: &SubpoolLine) -> Result<(), All
     members.end_object()
 }
 
-// The lines of REPORT SP.
+// Writes the lines of REPORT SP.
 fn put_subpools(members: &mut Members, job: &Job, task: &Name) -> Result<(), AllocError>
     ensures { members.new ≡ members.old }
 {
     members.begin_list("subpools")?;
-    for from in 0..=132u8 {
+    for from in 0..SUBPOOL_NUMBERS {
         match job.step().subpool_line(task, from) {
             Some(line) if line.number.get() == from => put_subpool_line(members, &line)?,
             _ => {}
@@ -192,7 +224,7 @@ fn put_subpools(members: &mut Members, job: &Job, task: &Name) -> Result<(), All
     members.end_list()
 }
 
-// The lines of REPORT MAP.
+// Writes the lines of REPORT MAP.
 fn put_map(members: &mut Members, job: &Job) -> Result<(), AllocError>
     ensures { members.new ≡ members.old }
 {
@@ -212,7 +244,7 @@ fn put_map(members: &mut Members, job: &Job) -> Result<(), AllocError>
     members.end_list()
 }
 
-// A report of the step that runs.
+// Writes a report of the step that runs.
 fn put_report(
     members: &mut Members,
     walk: &Walk,

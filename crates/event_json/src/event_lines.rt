@@ -1,12 +1,16 @@
 //! The events of a run as lines of JSON.
 
+ghost use Rattle.std.specs.Prelude.{◌≡◌, true, OnErr};
 ghost use Rattle.mvs_job.specs.Consuming.{keeps_nothing};
+ghost use Rattle.mvs_job.specs.Granting.{reports_grant};
+ghost use Rattle.mvs_job.specs.LineEvents.{IsAvailable, events_of_line};
 ghost use Rattle.event_json.specs.Lines.{event_lines};
 
 use crate::{ScriptLine, write_end, write_ended, write_line};
-use mvs_job::{Consumer, End, Job, LineEvent, Observer, Stop, Walk, Why};
+use mvs_job::{Consumer, End, Explained, Explanation, Job, LineEvent, Observer, Stop, Walk};
+use mvs_model::error::OutOfMemory;
 use mvs_model::name::Name;
-use mvs_model::reason::{LineReason, Shortfall};
+use mvs_model::reason::Shortfall;
 use mvs_model::refusal::Refusal;
 use mvs_model::request::Request;
 use mvs_model::watched::{Failed, Watched};
@@ -17,23 +21,45 @@ use std::io::Write;
 #[derive(Drop)]
 pub struct EventLines {
     alloc: Global,
-    /// Finds the reasons of refusals, if lines have them.
-    why: Option<Why>,
+    /// Finds the explanations of the lines, if they are asked for.
+    explained: Option<Explained>,
 }
 
 impl EventLines {
-    /// Makes one that has looked at no line. With `explains` a line has the reason why its request was refused. It allocates no memory.
+    /// Makes one that has looked at no line. With `explains` the line of a statement has its explanation. It allocates no memory.
     pub fn new(alloc: Global, explains: bool) -> EventLines {
         EventLines {
             alloc,
-            why: if explains { Some(Why::new()) } else { None },
+            explained: if explains {
+                Some(Explained::new(alloc))
+            } else {
+                None
+            },
         }
     }
 
-    // Returns why a line was not executed as it asks, if lines have reasons.
-    fn reason(&self, walk: &Walk, told: &LineEvent) -> Option<LineReason> {
-        match &self.why {
-            Some(why) => why.line_reason(walk, told),
+    // Finds the explanation of a line, if it is asked for. Memory may be exhausted at a granted request.
+    fn explain(
+        &mut self,
+        number: u32,
+        walk: &Walk,
+        line_event: &LineEvent,
+    ) -> Result<(), OutOfMemory>
+        requires { IsAvailable walk.now line_event.now }
+        ensures { OnErr result (reports_grant (events_of_line number walk.now line_event.now) ≡ true) }
+    {
+        let Some(explained) = &mut self.explained else {
+            return Ok(());
+        };
+        explained.keep(number, walk, line_event)?;
+        explained.find_effects(walk, line_event);
+        Ok(())
+    }
+
+    // Returns the explanation that was found.
+    fn explanation(&self) -> Option<Explanation<'_>> {
+        match &self.explained {
+            Some(explained) => Some(explained.explanation()),
             None => None,
         }
     }
@@ -50,8 +76,8 @@ impl Observer for EventLines {
         refusal: Refusal,
         left: &Shortfall,
     ) {
-        if let Some(why) = &mut self.why {
-            why.refused(job, task, request, refusal, left);
+        if let Some(explained) = &mut self.explained {
+            explained.refused(job, task, request, refusal, left);
         }
     }
 }
@@ -64,8 +90,8 @@ impl Consumer for EventLines {
     ghost sees = { λ _ _ _. Unit {0} };
 
     fn look(&mut self, walk: &Walk, line: &[u8]) {
-        if let Some(why) = &mut self.why {
-            why.look(walk, line);
+        if let Some(explained) = &mut self.explained {
+            explained.look_at(walk, line);
         }
     }
 
@@ -75,15 +101,18 @@ impl Consumer for EventLines {
         line_number: u32,
         line: &[u8],
         walk: &Walk,
-        told: &LineEvent,
+        line_event: &LineEvent,
     ) -> Result<(), Stop> {
-        let reason = self.reason(walk, told);
+        let Ok(()) = self.explain(line_number, walk, line_event) else {
+            return Err(Stop::Memory);
+        };
+        let explanation = self.explanation();
         let line = ScriptLine {
             number: line_number,
             bytes: line,
-            reason,
+            explanation,
         };
-        write_line(self.alloc, writer, &line, walk, told)
+        write_line(self.alloc, writer, &line, walk, line_event)
     }
 
     fn end<W: Write>(

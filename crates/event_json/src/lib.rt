@@ -7,41 +7,41 @@ ghost use Rattle.mvs_job.specs.LineEvents.{closing, events_of_line, new_walk};
 ghost use Rattle.event_json.specs.Lines.{AreLinesOf, IsStatement, WritesEvents, WritesLast, fault_line, statement_head, step_end};
 
 mod answers;
+mod effects;
 mod event_lines;
 pub mod laws;
 mod members;
 mod reasons;
 
 use crate::answers::put_answer;
+use crate::effects::put_explanation;
 use crate::members::Members;
-use crate::reasons::put_reason;
 pub use event_lines::EventLines;
 use job_script::text::LineText;
 use job_script::{fault_digit, write_all};
-use mvs_job::{LineEvent, Stop, Walk};
+use mvs_job::{EndedTasks, Explanation, LineEvent, Stop, Walk, ended_tasks};
 use mvs_model::answer::Answer;
 use mvs_model::card::Card;
 use mvs_model::line::Fault;
 use mvs_model::name::Name;
-use mvs_model::reason::LineReason;
 use mvs_model::watched::{Failed, Watched};
 use std::alloc::{AllocError, Global};
 use std::io::Write;
 use std::str;
 
-/// A line of a script, without its end: its number, its bytes, and why it is not executed as it asks, if that is known.
+/// A line of a script, without its end: its number, its bytes, and its explanation if that is asked for.
 #[derive(Clone, Copy)]
-pub(crate) struct ScriptLine<'a> {
+pub(crate) struct ScriptLine<'a, 'b> {
     pub number: u32,
     pub bytes: &'a [u8],
-    pub reason: Option<LineReason>,
+    pub explanation: Option<Explanation<'b>>,
 }
 
-// The statement of a line, from its operation on, without the task and the blanks around.
+// Returns the statement of a line, from its operation on, without the task and the blanks around.
 fn statement(line: &[u8]) -> &str {
     let text = str::from_utf8(line).unwrap_or("");
     match text.split_once(' ') {
-        Some((_, behind)) => behind.trim(),
+        Some((_, rest)) => rest.trim(),
         None => "",
     }
 }
@@ -87,7 +87,7 @@ fn fault_line(number: u32, digit: u32) -> LineText
 fn of_statement(
     alloc: Global,
     lines: &[u8],
-    line: &ScriptLine<'_>,
+    line: &ScriptLine<'_, '_>,
     task: &Name,
 ) -> Result<Members, AllocError>
     ensures { IfOk result
@@ -104,7 +104,7 @@ fn of_statement(
 // Returns the members of a step that begins, after the end of the one before it, if one has ended.
 fn region(
     alloc: Global,
-    line: &ScriptLine<'_>,
+    line: &ScriptLine<'_, '_>,
     ended: Option<bool>,
     card: &Card,
 ) -> Result<Members, AllocError>
@@ -122,7 +122,7 @@ fn region(
 // Returns the lines of a step that begins: the end of the one before it, if one has ended, and its REGION statement.
 fn region_lines(
     alloc: Global,
-    line: &ScriptLine<'_>,
+    line: &ScriptLine<'_, '_>,
     ended: Option<bool>,
     card: &Card,
 ) -> Result<Vec<u8>, AllocError>
@@ -137,17 +137,18 @@ fn region_lines(
 // Returns the members of a statement of a task, with the answer.
 fn answered(
     alloc: Global,
-    line: &ScriptLine<'_>,
+    line: &ScriptLine<'_, '_>,
     walk: &Walk,
     task: &Name,
     answer: &Answer,
+    ended: &Option<EndedTasks<'_>>,
 ) -> Result<Members, AllocError>
     ensures { IfOk result (λ members. members ≡ statement_head line.now.number task.now) }
 {
     let mut members = of_statement(alloc, b"", line, task)?;
     put_answer(alloc, &mut members, walk, task, answer)?;
-    if let Some(reason) = &line.reason {
-        put_reason(&mut members, reason)?;
+    if let Some(explanation) = &line.explanation {
+        put_explanation(&mut members, explanation, ended)?;
     }
     Ok(members)
 }
@@ -155,14 +156,15 @@ fn answered(
 // Returns the line of a statement of a task, with the answer.
 fn answer_line(
     alloc: Global,
-    line: &ScriptLine<'_>,
+    line: &ScriptLine<'_, '_>,
     walk: &Walk,
     task: &Name,
     answer: &Answer,
+    ended: &Option<EndedTasks<'_>>,
 ) -> Result<Vec<u8>, AllocError>
     ensures { IfOk result (λ text. IsStatement line.now.number task.now text.items) }
 {
-    let members = answered(alloc, line, walk, task, answer)?;
+    let members = answered(alloc, line, walk, task, answer, ended)?;
     members.into_line()
 }
 
@@ -178,28 +180,31 @@ fn write_text<W: Write>(writer: &mut Watched<W>, text: &[u8]) -> Result<(), Stop
 }
 
 /// Writes the events of a line: no line of JSON, one, or two if a step has ended. The walk is the one after the line.
-pub(crate) fn write_line<W: Write>(
+pub(crate) fn write_line<'a, W: Write>(
     alloc: Global,
     writer: &mut Watched<W>,
-    line: &ScriptLine<'_>,
-    walk: &Walk,
-    told: &LineEvent,
+    line: &ScriptLine<'_, '_>,
+    walk: &'a Walk,
+    line_event: &'a LineEvent,
 ) -> Result<(), Stop>
     ensures written { WritesEvents (W.contents writer.old.inner) (W.contents writer.new.inner)
-        (events_of_line line.now.number walk.now told.now) result }
+        (events_of_line line.now.number walk.now line_event.now) result }
     ensures ok { OnOk result (writer.new.failed ≡ writer.old.failed) }
     ensures write { IsErrOf result Stop.Write → writer.new.failed ≡ true }
 {
-    match told {
+    match line_event {
         LineEvent::Nothing => Ok(()),
         LineEvent::StepBegan { ended, card } => match region_lines(alloc, line, *ended, card) {
             Ok(lines) => write_text(writer, &lines),
             Err(_) => Err(Stop::Memory),
         },
-        LineEvent::Answered { task, answer } => match answer_line(alloc, line, walk, task, answer) {
-            Ok(text) => write_text(writer, &text),
-            Err(_) => Err(Stop::Memory),
-        },
+        LineEvent::Answered { task, answer } => {
+            let ended = ended_tasks(walk, line_event);
+            match answer_line(alloc, line, walk, task, answer, &ended) {
+                Ok(text) => write_text(writer, &text),
+                Err(_) => Err(Stop::Memory),
+            }
+        }
         LineEvent::Faulted(fault) => write_text(
             writer,
             fault_line(line.number, fault_digit(*fault)).as_slice(),

@@ -32,6 +32,7 @@ impl Members {
         }
     }
 
+    /// Writes a member that is a number.
     pub fn number(&mut self, key: &str, number: u32) -> Result<(), AllocError>
         ensures { self.new ≡ self.old }
     {
@@ -39,6 +40,7 @@ impl Members {
         self.writer.u64(u64::from(number))
     }
 
+    /// Writes a member that is true or false.
     pub fn boolean(&mut self, key: &str, holds: bool) -> Result<(), AllocError>
         ensures { self.new ≡ self.old }
     {
@@ -46,6 +48,7 @@ impl Members {
         self.writer.boolean(holds)
     }
 
+    /// Writes a member that is a string.
     pub fn text(&mut self, key: &str, text: &str) -> Result<(), AllocError>
         ensures { self.new ≡ self.old }
     {
@@ -53,6 +56,7 @@ impl Members {
         self.writer.string(text)
     }
 
+    /// Writes a member that is a name, without its padding.
     pub fn name(&mut self, key: &str, name: &Name) -> Result<(), AllocError>
         ensures { self.new ≡ self.old }
     {
@@ -74,6 +78,7 @@ impl Members {
         self.writer.begin_object()
     }
 
+    /// Ends an object.
     pub fn end_object(&mut self) -> Result<(), AllocError>
         ensures { self.new ≡ self.old }
     {
@@ -88,10 +93,29 @@ impl Members {
         self.writer.begin_array()
     }
 
+    /// Ends a list.
     pub fn end_list(&mut self) -> Result<(), AllocError>
         ensures { self.new ≡ self.old }
     {
         self.writer.end_array()
+    }
+
+    /// Writes a member that is a list of numbers.
+    pub fn numbers(&mut self, key: &str, numbers: &[u32]) -> Result<(), AllocError>
+        ensures { self.new ≡ self.old }
+    {
+        self.begin_list(key)?;
+        for number in numbers {
+            self.item(*number)?;
+        }
+        self.end_list()
+    }
+
+    /// Appends a number to the open list.
+    pub fn item(&mut self, number: u32) -> Result<(), AllocError>
+        ensures { self.new ≡ self.old }
+    {
+        self.writer.u64(u64::from(number))
     }
 
     /// Closes the object, and returns the line.

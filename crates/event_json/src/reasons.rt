@@ -3,33 +3,34 @@
 ghost use Rattle.std.specs.Prelude.{◌≡◌};
 
 use crate::members::Members;
+use mvs_job::{Explanation, NamedAddress};
 use mvs_model::name::Name;
 use mvs_model::place::Addr;
 use mvs_model::reason::{CellPosition, FreeSpace, Holder, LineReason, Reason};
 use mvs_model::subpool::SubNo;
 use std::alloc::AllocError;
 
-// What holds the doubleword of an address.
-fn put_holder(members: &mut Members, addr: Addr, holder: &Holder) -> Result<(), AllocError>
+// Puts what holds a doubleword into an object.
+fn put_holder(members: &mut Members, holder: &Holder) -> Result<(), AllocError>
     ensures { members.new ≡ members.old }
 {
-    members.number("address", addr.get())?;
     match holder {
         Holder::Nobody | Holder::Unowned => Ok(()),
+        Holder::Outside => members.boolean("outside", true),
         Holder::Subpool(number, owner) => put_subpool(members, *number, owner),
         Holder::Part(pool) => members.name("pool", pool),
     }
 }
 
-// A subpool, by its number and its owner.
-fn put_subpool(members: &mut Members, number: SubNo, owner: &Name) -> Result<(), AllocError>
+/// Puts a subpool into an object, by its number and its owner.
+pub fn put_subpool(members: &mut Members, number: SubNo, owner: &Name) -> Result<(), AllocError>
     ensures { members.new ≡ members.old }
 {
     members.number("subpool", u32::from(number.get()))?;
     members.name("owner", owner)
 }
 
-// What room there is where no place is long enough.
+// Writes what room there is, if no place is long enough.
 fn put_room(members: &mut Members, room: &FreeSpace) -> Result<(), AllocError>
     ensures { members.new ≡ members.old }
 {
@@ -39,7 +40,7 @@ fn put_room(members: &mut Members, room: &FreeSpace) -> Result<(), AllocError>
     members.number("free_pages_above", room.above)
 }
 
-// What the reason of a line is called.
+// Returns what the reason of a line is called.
 fn kind(reason: &LineReason) -> &'static str {
     match reason {
         LineReason::NotSet(_) => "not_set",
@@ -47,7 +48,7 @@ fn kind(reason: &LineReason) -> &'static str {
     }
 }
 
-// What the reason of a refused request is called.
+// Returns what the reason of a refused request is called.
 fn refused_kind(reason: &Reason) -> &'static str {
     match reason {
         Reason::NotActive => "not_active",
@@ -74,8 +75,40 @@ fn refused_kind(reason: &Reason) -> &'static str {
     }
 }
 
-// Writes the members of a reason into its object.
-fn put_address(members: &mut Members, reason: &Reason) -> Result<(), AllocError>
+// Returns the numbers of the rules for which a request is refused.
+fn refused_rules(reason: &Reason) -> &'static [u32] {
+    match reason {
+        Reason::NotActive => &[73],
+        Reason::InvalidNumber => &[8],
+        Reason::Shortage(_) => &[12],
+        Reason::NoMember(..) => &[22],
+        Reason::NoPart(..) => &[59, 61],
+        Reason::OffDoubleword(_) => &[29],
+        Reason::NoSubpool(_) => &[26],
+        Reason::NotHeld(..) => &[26, 66],
+        Reason::Overlap(..) => &[32],
+        Reason::WholeOfZero => &[35],
+        Reason::PoolInUse | Reason::TooManyPools => &[68],
+        Reason::NoPool | Reason::NoTakenCell(_) => &[63],
+        Reason::NoFreeCell => &[60],
+        Reason::TaskInUse | Reason::TooManyTasks => &[51],
+        Reason::NotOwned(..) => &[48],
+        Reason::ActiveSubtask(_) => &[54],
+        Reason::Asked => &[55],
+        Reason::NoAccess(..) => &[38],
+    }
+}
+
+// Returns the numbers of the rules of a reason.
+fn rules(reason: &LineReason) -> &'static [u32] {
+    match reason {
+        LineReason::NotSet(_) => &[74],
+        LineReason::Refused(reason) => refused_rules(reason),
+    }
+}
+
+// Puts the members of a reason into its object, without its address.
+fn put_members(members: &mut Members, reason: &Reason) -> Result<(), AllocError>
     ensures { members.new ≡ members.old }
 {
     match reason {
@@ -93,19 +126,18 @@ fn put_address(members: &mut Members, reason: &Reason) -> Result<(), AllocError>
         Reason::NoTakenCell(CellPosition::Untaken) => members.text("lies", "free_cell"),
         Reason::NoTakenCell(CellPosition::Inside(first)) => members.number("inside", first.get()),
         Reason::NoTakenCell(CellPosition::Elsewhere) => members.text("lies", "no_cell"),
-        Reason::OffDoubleword(addr) => members.number("address", addr.get()),
         Reason::NoSubpool(task) => members.name("task", task),
         Reason::ActiveSubtask(task) => members.name("task", task),
-        Reason::NotHeld(addr, holder) => put_holder(members, *addr, holder),
-        Reason::NoAccess(addr, holder) => put_holder(members, *addr, holder),
-        Reason::Overlap(one, other, at) => {
+        Reason::NotHeld(_, holder, _) => put_holder(members, holder),
+        Reason::NoAccess(_, holder) => put_holder(members, holder),
+        Reason::Overlap(one, other, _) => {
             members.number("one", one.get())?;
-            members.number("other", other.get())?;
-            members.number("address", at.get())
+            members.number("other", other.get())
         }
         Reason::NotOwned(number, owner) => put_subpool(members, *number, owner),
         Reason::NotActive
         | Reason::InvalidNumber
+        | Reason::OffDoubleword(_)
         | Reason::WholeOfZero
         | Reason::PoolInUse
         | Reason::TooManyPools
@@ -117,15 +149,50 @@ fn put_address(members: &mut Members, reason: &Reason) -> Result<(), AllocError>
     }
 }
 
-/// Puts the reason of a statement into its object.
-pub fn put_reason(members: &mut Members, reason: &LineReason) -> Result<(), AllocError>
+// Puts an address into an object, if there is one.
+fn put_address(members: &mut Members, address: Option<Addr>) -> Result<(), AllocError>
+    ensures { members.new ≡ members.old }
+{
+    match address {
+        Some(address) => members.number("address", address.get()),
+        None => Ok(()),
+    }
+}
+
+// Puts the name that has an address into an object: how many bytes of its place are before the address, and which line set it.
+fn put_named(members: &mut Members, named: &NamedAddress) -> Result<(), AllocError>
+    ensures { members.new ≡ members.old }
+{
+    members.begin_object("named")?;
+    members.name("name", &named.name)?;
+    members.number(
+        "offset",
+        named.addr.get().saturating_sub(named.place.addr().get()),
+    )?;
+    members.number("length", named.place.len())?;
+    members.number("line", named.number)?;
+    members.numbers("rules", &[37])?;
+    members.end_object()
+}
+
+/// Puts the reason of a statement into its object, with the address that it is about, and the name that has this address.
+pub fn put_reason(
+    members: &mut Members,
+    reason: &LineReason,
+    explanation: &Explanation<'_>,
+) -> Result<(), AllocError>
     ensures { members.new ≡ members.old }
 {
     members.begin_object("reason")?;
     members.text("kind", kind(reason))?;
+    members.numbers("rules", rules(reason))?;
+    put_address(members, explanation.address)?;
     match reason {
         LineReason::NotSet(name) => members.name("name", name)?,
-        LineReason::Refused(reason) => put_address(members, reason)?,
+        LineReason::Refused(reason) => put_members(members, reason)?,
+    }
+    if let Some(named) = &explanation.named {
+        put_named(members, named)?;
     }
     members.end_object()
 }

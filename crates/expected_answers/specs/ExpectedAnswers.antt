@@ -165,17 +165,22 @@ verdict_of a =
 
 abbrev pub is_right : AnswerVerdict → Bool
 is_right Right = true
-is_right _ = false
+is_right Wrong = false
+is_right Open = false
+is_right Empty = false
 
 abbrev pub is_wrong : AnswerVerdict → Bool
 is_wrong Wrong = true
-is_wrong _ = false
+is_wrong Right = false
+is_wrong Open = false
+is_wrong Empty = false
 
 -- whether an answer is missing
 abbrev pub is_missing : AnswerVerdict → Bool
 is_missing Open = true
 is_missing Empty = true
-is_missing _ = false
+is_missing Right = false
+is_missing Wrong = false
 
 -- the number of answers with such a verdict
 abbrev pub number_of : (AnswerVerdict → Bool) → List ExpectedAnswer → ℕ

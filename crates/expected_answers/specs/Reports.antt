@@ -42,7 +42,8 @@ escaped text = flat_map escaped_byte text
 -- the name of the script in a report of a format
 abbrev pub name_in : Format → List ℕ → List ℕ
 name_in Junit name = escaped (shown_name name)
-name_in _ name = shown_name name
+name_in Text name = shown_name name
+name_in Tap name = shown_name name
 
 -- ---- what is reported of an answer
 
@@ -125,7 +126,8 @@ counts_of answers = record { right = number_of is_right answers; wrong = number_
 abbrev pub with_one : Counts → AnswerVerdict → ℕ → Counts
 with_one n Right line = record n { right = n.right + 1; last = line }
 with_one n Wrong line = record n { wrong = n.wrong + 1; last = line }
-with_one n _ line = record n { missing = n.missing + 1; last = line }
+with_one n Open line = record n { missing = n.missing + 1; last = line }
+with_one n Empty line = record n { missing = n.missing + 1; last = line }
 
 abbrev pub total : Counts → ℕ
 total n = n.right + n.wrong + n.missing

@@ -17,8 +17,10 @@ mod shown;
 
 use job_script::split_once::split_once;
 use job_script::write_all;
-use lines::{ARROW, parted_at, statement_of};
+use lines::statement_of;
+pub use lines::{ARROW, end_in, parted_at, trimmed};
 use mvs_model::watched::{Failed, Watched};
+pub use printed::{numbered, push_text, without_task};
 pub use report::{Counts, Format, Report, ReportForm, report_answers};
 use std::alloc::{AllocError, Global};
 use std::io::Write;

@@ -10,8 +10,8 @@ use job_script::split_once::split_once;
 use job_script::text::LineText;
 use std::alloc::AllocError;
 
-// Returns the text of a printed line after its number, if it has this number.
-fn numbered(line: &[u8], number: u32) -> Option<&[u8]>
+/// Returns the text of a printed line after its number, if it has this number.
+pub fn numbered(line: &[u8], number: u32) -> Option<&[u8]>
     ensures { option_map (λ text. text.now) result ≡ numbered number line.now }
 {
     let mut head = LineText::new();
@@ -48,8 +48,8 @@ fn is_own(printed: &[u8], number: u32) -> bool
     ends_step(line) && begins_with(more.unwrap_or(&[]), number)
 }
 
-// Returns a text without the name of the task of the statement.
-fn without_task<'a>(text: &'a [u8], task: &[u8]) -> &'a [u8]
+/// Returns a text without the name of the task of the statement.
+pub fn without_task<'a>(text: &'a [u8], task: &[u8]) -> &'a [u8]
     ensures { result.now ≡ without_task task.now text.now }
 {
     match after_prefix(text, task) {
@@ -68,8 +68,8 @@ fn text_of<'a>(line: &'a [u8], number: u32, task: &[u8]) -> &'a [u8]
     }
 }
 
-// Appends a text to others, after ` / ` if it is not the first.
-fn push_text(texts: &mut Vec<u8>, text: &[u8]) -> Result<(), AllocError>
+/// Appends a text to others, after ` / ` if it is not the first.
+pub fn push_text(texts: &mut Vec<u8>, text: &[u8]) -> Result<(), AllocError>
     ensures { OnOk result
         (texts.new.items ≡ (if length texts.old.items == 0 then text.now else texts.old.items ++ (codes " / " ++ text.now))) }
 {

@@ -18,7 +18,7 @@ pub rising_below : (lo low : ℕ) (rs : List Run) → low ≤ lo → Rising lo r
 rising_below lo low [] le up = up
 rising_below lo low (r ∷ rs) le up = (omega (arith, le, up.0), up.1, up.2, up.3, up.4, up.5)
 
--- what is free lies at lo or behind, in the page
+-- what is free lies at lo or after, in the page
 pub free_from : (lo : ℕ) (rs : List Run) (d : ℕ) → Rising lo rs → IsFree rs d → (lo ≤ d) × (d < page_bytes)
 free_from lo [] d up free = absurd free
 free_from lo (r ∷ rs) d up free = elim free [

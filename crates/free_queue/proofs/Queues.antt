@@ -17,7 +17,7 @@ same_all ws d on i low = refl
 
 -- ---- the first run
 
--- The first run, by the words at a head that is no end, and the queue behind it.
+-- The first run, by the words at a head that is no end, and the queue after it.
 pub record Opened (ws : ℕ → Option ℕ) (h lo : ℕ) (rs : List Run) : Type 0 where
   pub rest : List Run
   pub is : rs ≡ (record { from = h; len = word ws (h + 4) } ∷ rest)
@@ -76,7 +76,7 @@ module _ (ws : ℕ → Option ℕ) (h a n lo : ℕ) (rs : List Run) (o : Opened 
   pub behind_first : 0 < n → h + word ws (h + 4) ≤ a → Covers o.rest a n
   behind_first pos far = elim in_first_or_behind [ inl w ↦ absurd (omega (arith, pos, far, w.1)) | inr c ↦ c ]
 
--- what is free is free in the first run or behind it
+-- what is free is free in the first run or after it
 module _ (ws : ℕ → Option ℕ) (h lo : ℕ) (rs : List Run) (o : Opened ws h lo rs) (d : ℕ) where
   from_first : Within h (word ws (h + 4)) d → IsFree rs d
   from_first w = subst (λ k. IsFree k d) (sym o.is) (inl w)
@@ -108,7 +108,7 @@ pub record Linked (ws ws1 ws2 : ℕ → Option ℕ) (h rest : ℕ) : Type 0 wher
   pub len : word ws2 (h + 4) ≡ word ws1 (h + 4)
   pub same : (d : ℕ) → (d ≡ h → ⊥) → Same ws1 ws2 d
 
--- the first run before a new queue, where the change behind it left its words
+-- the first run before a new queue, where the change after it left its words
 linked : (ws ws1 ws2 : ℕ → Option ℕ) (h lo rest : ℕ) (rs : List Run) → Linked ws ws1 ws2 h rest → Opened ws h lo rs → Same ws ws1 h
     → (new : List Run) → Queue (h + word ws (h + 4) + 1) ws1 rest new → Adds h (h + word ws (h + 4)) new ws2 h
 linked ws ws1 ws2 h lo rest rs w o stays =
@@ -118,7 +118,7 @@ linked ws ws1 ws2 h lo rest rs w o stays =
 
 -- ---- bytes are taken
 
--- they lie behind the first run
+-- they lie after the first run
 module _ (ws ws1 ws2 : ℕ → Option ℕ) (h next rest a n : ℕ) (is_next : next ≡ word ws h) (pos : 0 < n) (far : h + word ws (h + 4) ≤ a)
     (taken : (lo : ℕ) (rs : List Run) → Queue lo ws next rs → Covers rs a n → Takes lo rs a n ws1 rest)
     (kept : (lo : ℕ) (rs : List Run) → Queue lo ws next rs → Covers rs a n → (d : ℕ) → (IsFree rs d → ⊥) → Same ws ws1 d)

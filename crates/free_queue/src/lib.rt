@@ -53,7 +53,7 @@ fn link(region: &Region, page: usize, at: u32) -> u32
     region.word(index(page, at))
 }
 
-// The length of the run at an offset.
+// Returns the length of the run at an offset.
 fn len(region: &Region, page: usize, at: u32) -> u32
     requires few { page < most_pages_above }
     requires inside { at + 8 ≤ page_bytes }
@@ -128,7 +128,7 @@ fn start_around(region: &mut Region, page: usize, from: u32, n: u32) -> u32
     put_run(region, page, 0, from, rest)
 }
 
-// Whether all of a page is free.
+// Returns whether all of a page is free.
 fn is_whole(region: &Region, page: usize, head: u32) -> bool
     requires few { page < most_pages_above }
     requires there { is_open region.now page ≡ true }
@@ -229,7 +229,7 @@ fn take(region: &mut Region, page: usize, head: u32, from: u32, n: u32) -> u32
     }
 }
 
-// Whether there is a first free run, and it ends before an offset and does not touch what begins there.
+// Returns whether there is a first free run, and it ends before an offset and does not touch what begins there.
 fn ends_before(region: &Region, page: usize, head: u32, from: u32) -> bool
     requires few { page < most_pages_above }
     requires there { is_open region.now page ≡ true }

@@ -151,7 +151,7 @@ pub fn next_head(region: &Region, page: usize, head: Head) -> Head
     Head { offset }
 }
 
-/// Whether all of a page is free.
+/// Returns whether all of a page is free.
 pub fn is_whole(region: &Region, page: usize, head: Head) -> bool
     requires few { page < most_pages_above }
     requires there { is_open region.now page ≡ true }

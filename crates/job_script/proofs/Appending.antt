@@ -53,7 +53,7 @@ module _ {X : Type 0} (f : X → List ℕ) (head : List ℕ) (xs : List X) where
   pub lines_front : (a b c : Option (List ℕ)) (i : ℕ) (x : X) → i < length xs → x ≡ get_or xs i x → Appends a b (head ++ flat_map f (take i xs)) → AppendsFront b c (f x) → AppendsFront a c (head ++ flat_map f xs)
   lines_front a b c i x l e p q = rw (← lines_rest (i + 1), ← one_line_more i x l e) (front_longer a c _ _ (front_more a b c _ _ p q))
 
--- a name of which only the front is kept, behind a text in its array
+-- a name of which only the front is kept, after a text in its array
 pub name_put : (bytes ws : List ℕ) (len m k : ℕ) → len ≤ length bytes → k ≤ length ws → take (len + k) (put_mid len m bytes ws) ≡ take len bytes ++ take k ws
 name_put bytes ws len m k within few =
     let front : length (take len bytes) ≡ len = length-take-le len bytes within in

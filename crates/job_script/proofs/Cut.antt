@@ -90,7 +90,7 @@ behind_field (b ∷ bs) = elim (b == 32) as (λ t. (behind : List (List ℕ)) ×
   | false ↦ let more = behind_field bs in (more.0, ap (onto_first b) more.1)
 ]
 
--- the first word of a text that starts with it, and those behind it
+-- the first word of a text that starts with it, and those after it
 pub first_word : (text word : List ℕ) (behind : List (List ℕ)) → starts_word text ≡ true → word ≡ before_first (λ b. b == 32) text → slice_split (λ b. b == 32) text ≡ word ∷ behind
     → (word ≡ unwrap_or (slice_get (words text) 0) []) × (filter (λ word. not (is_empty word)) behind ≡ drop 1 (words text))
 first_word [] word behind s w e =
@@ -106,7 +106,7 @@ field_first text s =
     let more = behind_field text in
     (first_word text (field_in text) more.0 s (at_blank text) more.1).0
 
--- What stands behind the first byte that passes ends the text.
+-- What stands after the first byte that passes ends the text.
 pub after_ends : (p : ℕ → Bool) (xs : List ℕ) → IsEnd xs (after_first p xs)
 after_ends p xs = (take (position_or_len p xs + 1) xs, sym (take-append-drop (position_or_len p xs + 1) xs))
 

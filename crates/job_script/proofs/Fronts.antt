@@ -49,7 +49,7 @@ next_small n d i b digit is small =
     let power : 10 ^ (i + 1) ≡ 10 ^ i * 10 = ap (λ k. 10 ^ k) (let on : i + 1 ≡ suc i = omega arith in on) ∙ pow-suc 10 i in
     subst (λ m. n * 10 + d < m) (sym power) (omega arith)
 
--- a text is its front and what stands behind it
+-- a text is its front and what stands after it
 pub front_rest : (text : List ℕ) (n : ℕ) → text ≡ take n text ++ take (length text - n) (drop n text)
 front_rest text n = sym (ap (λ rest. take n text ++ rest) (take_rest text n) ∙ take-append-drop n text)
 
@@ -106,7 +106,7 @@ address_with text name after inner digits rest n front plus offset =
     let whole : text ≡ (name ++ (43 ∷ digits)) ++ rest = front.whole ∙ ap (λ t. name ++ t) (plus ∙ ap (λ t. 43 ∷ t) offset.front.whole) ∙ sym (append_assoc name (43 ∷ digits) rest) in
     (name ++ (43 ∷ digits), record { front = record { whole = whole; alone = with_offset.0 }; named = named; location_is = ap (λ m. Named (padded name) m) offset.value ∙ sym with_offset.1; near = offset.high })
 
--- the number of a subpool behind its key
+-- the number of a subpool after its key
 pub subpool_said : (text inner digits rest : List ℕ) (n : ℕ) → text ≡ codes ",SP=" ++ inner → IsNumberFront 0 255 inner n digits rest → (sp : Option (List ℕ)) × IsSubpoolFront text n sp rest
 subpool_said text inner digits rest n key number = (Some digits, (key ∙ ap (λ t. codes ",SP=" ++ t) number.front.whole, number.front.alone.fits, number.value))
 

@@ -1,6 +1,7 @@
 -- Lemmas of this crate; Appending serves the crates above too.
 mod Parts
 pub mod Cut
+mod SameNames
 mod SameNumbers
 mod ListItems
 mod Unknown

@@ -31,7 +31,7 @@ Morenames more = list_all is_name (more_items more) ≡ true
 abbrev pub Morelocations : Option (Bor (List ℕ)) → Type 0
 Morelocations more = (list_all is_address (more_items more) ≡ true) × (list_all is_address_in_range (more_items more) ≡ true)
 
--- the first item, and those behind it
+-- the first item, and those after it
 pub parts_items : (text item : List ℕ) (more : Option (Bor (List ℕ))) → MatchOption more (items_in text ≡ item ∷ []) (λ rest. items_in text ≡ item ∷ items_in rest.now) → items_in text ≡ item ∷ more_items more
 parts_items text item None e = e
 parts_items text item (Some rest) e = e

@@ -180,7 +180,7 @@ SaysLine operation field task l =
 shorter : (a b : List ℕ) → nat_lt 255 (length (a ++ b)) ≡ false → nat_lt 255 (length a) ≡ false
 shorter a b e = let long : length (a ++ b) ≡ length a + length b = length-append a b in grind (arith, nat_tests)
 
--- what stands behind the operands says nothing
+-- what stands after the operands says nothing
 behind_too : (text operation field behind : List ℕ) (l : Line) → is_name text ≡ true → IsWord operation → begins_word field ≡ true → is_remark behind ≡ true
     → nat_lt 255 (length (text ++ (32 ∷ (operation ++ (32 ∷ (field ++ behind)))))) ≡ false
     → (nat_lt 255 (length (text ++ (32 ∷ (operation ++ (32 ∷ field))))) ≡ false → LineOf false (text ++ (32 ∷ (operation ++ (32 ∷ field)))) l)
@@ -325,7 +325,7 @@ report_line field task remark =
 pub of_text : {X : Type 0} {text known : List ℕ} (o : Option X) (task : Name) (l : Line) → text ≡ known → IfSome o (λ _. SpellsAfter known task l) → IfSome o (λ _. SpellsAfter text task l)
 of_text o task l is said = subst (λ t. IfSome o (λ _. SpellsAfter t task l)) (sym is) said
 
--- the line of a task, and what stands behind its name
+-- the line of a task, and what stands after its name
 pub whole_line : {X : Type 0} (o : Option X) (line task rest : List ℕ) (name : Name) (l : Line) → nat_lt 255 (length line) ≡ false → IsFront grammar.Name line task rest → name ≡ padded task
     → IfSome o (λ _. SpellsAfter rest name l) → IfSome o (λ _. LineOf false line l)
 whole_line None line task rest name l short front is said = tt

@@ -1,4 +1,4 @@
--- A remark behind the operands of a statement says nothing.
+-- A remark after the operands of a statement says nothing.
 use Rattle.std.proofs.Common.{◌≡◌, refl, not, true, false, Bool, ℕ, ◌<◌, ◌==◌, List, [], ◌∷◌, ◌++◌, length, ap, sym, ◌∙◌, arith, append_assoc}
 use Rattle.std.specs.Prelude.{nat_lt, filter, slice_get, if◌then◌else◌}
 use Rattle.std.specs.List.{list_all, before_first, slice_split, onto_first}
@@ -62,7 +62,7 @@ first_word (b ∷ bs) e =
 
 -- ---- lines
 
--- what is looked for behind the length and the bytes of a line
+-- what is looked for after the length and the bytes of a line
 abbrev further : Bool → List ℕ → List (Fault × Bool)
 further first line = if is_blank_or_comment line then [] else statement_checks first (task_in line) (operation_in line) (operands_of line)
 
@@ -103,7 +103,7 @@ with_remark first task operation field remark l named is_word begins are_plain s
       field_same = (λ i. slice_get (one i) 2) ∙ sym (λ i. slice_get (both i) 2);
     })).0 l is
 
--- the line of a statement without operands, with and without the blank behind it
+-- the line of a statement without operands, with and without the blank after it
 pub without_blank : (first : Bool) (task operation : List ℕ) (l : Line) → is_name task ≡ true → IsWord operation → nat_lt 255 (length (task ++ (32 ∷ operation))) ≡ false
     → LineOf first (task ++ (32 ∷ (operation ++ (32 ∷ [])))) l → LineOf first (task ++ (32 ∷ operation)) l
 without_blank first task operation l named is_word short is =

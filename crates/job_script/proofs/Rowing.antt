@@ -101,7 +101,7 @@ not_missing operation os e = ap (λ b. if b then Some MissingOperand else first_
 pub form_unknown : (operation : List ℕ) (task : Name) (os : List (List ℕ)) → (takes_form operation && (is_empty os || has_key (form_in operation os))) ≡ false → row_of operation os ≡ None → FormReading operation task os (Err UnknownOperation)
 form_unknown operation task os e none = not_missing operation os e ∙ ap (λ o. first_of (UnknownOperation when not (is_some o) ∷ row_checks os o)) none
 
--- what a row makes of the operands behind the form is what the operation makes of all
+-- what a row makes of the operands after the form is what the operation makes of all
 pub form_known : (operation : List ℕ) (task : Name) (os behind : List (List ℕ)) (form : List ℕ) (r : grammar.Row) (result : Result Line Fault)
     → (takes_form operation && (is_empty os || has_key (form_in operation os))) ≡ false → row_of operation os ≡ Some r → operands_after_form r os ≡ behind
     → statement_of r.meaning (form_in operation os) (by_key behind) ≡ statement_of r.meaning form (by_key behind) → RowReading r task form behind result → FormReading operation task os result
@@ -117,7 +117,7 @@ form_known operation task os behind form r (Ok l) e is b f reading = (
 form_known operation task os behind form r (Err fault) e is b f reading =
     not_missing operation os e ∙ ap (λ o. first_of (UnknownOperation when not (is_some o) ∷ row_checks os o)) is ∙ ap (λ xs. first_of (checks_after_form r xs)) b ∙ reading
 
--- the operands behind a form
+-- the operands after a form
 pub behind_one : (r : grammar.Row) (form : List ℕ) (behind : List (List ℕ)) → is_empty r.forms ≡ false → operands_after_form r (form ∷ behind) ≡ behind
 behind_one r form behind e = ap (λ b. if b then form ∷ behind else behind) e
 
@@ -174,7 +174,7 @@ none_missing operation os e = ap (λ b. b && (is_empty os || has_key (form_in op
 pub form_there : (operation form : List ℕ) (behind : List (List ℕ)) → has_key form ≡ false → (takes_form operation && (is_empty (form ∷ behind) || has_key (form_in operation (form ∷ behind)))) ≡ false
 form_there operation form behind e = ap (λ b. takes_form operation && b) e ∙ and_right (takes_form operation) false refl
 
--- the operands of a field that is not empty: its form and those behind it
+-- the operands of a field that is not empty: its form and those after it
 pub form_parts : (field form : List ℕ) (more : Option (Bor (List ℕ))) → is_empty field ≡ false → MatchOption more (parts_within 0 field ≡ form ∷ []) (λ rest. parts_within 0 field ≡ form ∷ parts_within 0 (field_in rest.now))
     → operands_in (as_field field) ≡ form ∷ operands_in (field_now more)
 form_parts [] form more e parts = absurd (let f : true ≡ false = e in cc)

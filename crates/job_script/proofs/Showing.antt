@@ -10,7 +10,7 @@ use Rattle.mvs_model.specs.Texts.{reply_line, data_lines}
 use Rattle.job_script.specs.Writing.{AppendsFront, data_text}
 use Rattle.job_script.proofs.Appending.{front_longer, front_more}
 
--- a line behind its number and its task
+-- a line after its number and its task
 pub behind_head : (number : ℕ) (t : Name) (head said : List ℕ) → head ≡ decimal number ++ codes " " ++ trimmed t ++ codes " " → head ++ said ++ codes "\n" ≡ reply_line number t said
 behind_head number t head said e = ap (λ h. h ++ said ++ codes "\n") e
 
@@ -28,7 +28,7 @@ unfolding data_lines
 lines_done number t offset [] e = refl
 lines_done number t offset (b ∷ bs) e = absurd (omega (arith, e))
 
--- the line in front, and what is behind it
+-- the line in front, and what is after it
 pub cut_front : (rest line : List ℕ) (mid : ℕ) → mid ≡ min (length rest) 32 → line ≡ take mid rest → line ≡ take 32 rest
 cut_front rest line mid e cut = cut ∙ ap (λ n. take n rest) (e ∙ min_comm (length rest) 32) ∙ take_min 32 rest
 

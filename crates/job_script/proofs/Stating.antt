@@ -1,5 +1,5 @@
 -- The words of a line and its statement.
-use Rattle.std.proofs.Common.{◌≡◌, ℕ, List, [], ◌∷◌, drop, refl, sym, ap, ◌∙◌, true, false, Bool, Option, Some, Result, Ok, Err}
+use Rattle.std.proofs.Common.{◌≡◌, ◌⊎◌, inl, inr, ℕ, List, [], ◌∷◌, drop, refl, sym, ap, ◌∙◌, true, false, Bool, Option, Some, Result, Ok, Err}
 use Rattle.std.specs.Prelude.{◌==◌, ◌&&◌, not, filter, slice_get, unwrap_or, bytes_eq, codes, if◌then◌else◌}
 use Rattle.std.specs.List.{list_any, slice_split}
 use Rattle.std.proofs.lemmas.Bool.{not-true}
@@ -54,7 +54,7 @@ operands_by operation.Move field rest e = e
 operands_by operation.Where field rest e = e
 operands_by operation.Report field rest e = e
 
--- the field behind an operation that has one
+-- the field after an operation that has one
 pub field_behind : (o : Operation) (rest : List ℕ) → (o ≡ operation.Return → ⊥) → field_of o rest ≡ unwrap_or (slice_get (words rest) 0) []
 field_behind operation.Region rest other = refl
 field_behind operation.Getmain rest other = refl
@@ -69,6 +69,38 @@ field_behind operation.Show rest other = refl
 field_behind operation.Move rest other = refl
 field_behind operation.Where rest other = refl
 field_behind operation.Report rest other = refl
+
+abbrev is_return : Operation → Bool
+is_return operation.Return = true
+is_return operation.Region = false
+is_return operation.Getmain = false
+is_return operation.Freemain = false
+is_return operation.Storage = false
+is_return operation.Cpool = false
+is_return operation.Attach = false
+is_return operation.Abend = false
+is_return operation.Put = false
+is_return operation.Show = false
+is_return operation.Move = false
+is_return operation.Where = false
+is_return operation.Report = false
+
+-- an operation that is one of the others is not RETURN
+pub not_return : (o : Operation) → ((o ≡ operation.Region) ⊎ ((o ≡ operation.Getmain) ⊎ ((o ≡ operation.Freemain) ⊎ ((o ≡ operation.Storage) ⊎ ((o ≡ operation.Cpool) ⊎ ((o ≡ operation.Attach) ⊎ ((o ≡ operation.Abend) ⊎ ((o ≡ operation.Put) ⊎ ((o ≡ operation.Show) ⊎ ((o ≡ operation.Move) ⊎ ((o ≡ operation.Where) ⊎ (o ≡ operation.Report)))))))))))) → o ≡ operation.Return → ⊥
+not_return o h r = absurd (let f : true ≡ false = sym (ap is_return r) ∙ others h in cc) where
+  others : ((o ≡ operation.Region) ⊎ ((o ≡ operation.Getmain) ⊎ ((o ≡ operation.Freemain) ⊎ ((o ≡ operation.Storage) ⊎ ((o ≡ operation.Cpool) ⊎ ((o ≡ operation.Attach) ⊎ ((o ≡ operation.Abend) ⊎ ((o ≡ operation.Put) ⊎ ((o ≡ operation.Show) ⊎ ((o ≡ operation.Move) ⊎ ((o ≡ operation.Where) ⊎ (o ≡ operation.Report)))))))))))) → is_return o ≡ false
+  others (inl e) = ap is_return e
+  others (inr (inl e)) = ap is_return e
+  others (inr (inr (inl e))) = ap is_return e
+  others (inr (inr (inr (inl e)))) = ap is_return e
+  others (inr (inr (inr (inr (inl e))))) = ap is_return e
+  others (inr (inr (inr (inr (inr (inl e)))))) = ap is_return e
+  others (inr (inr (inr (inr (inr (inr (inl e))))))) = ap is_return e
+  others (inr (inr (inr (inr (inr (inr (inr (inl e)))))))) = ap is_return e
+  others (inr (inr (inr (inr (inr (inr (inr (inr (inl e))))))))) = ap is_return e
+  others (inr (inr (inr (inr (inr (inr (inr (inr (inr (inl e)))))))))) = ap is_return e
+  others (inr (inr (inr (inr (inr (inr (inr (inr (inr (inr (inl e))))))))))) = ap is_return e
+  others (inr (inr (inr (inr (inr (inr (inr (inr (inr (inr (inr e))))))))))) = ap is_return e
 
 -- what is known of a line when its operation is known
 pub record Split (line task : List ℕ) (o : Operation) (field : List ℕ) : Type 0 where

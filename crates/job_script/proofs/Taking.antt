@@ -185,7 +185,7 @@ onto_append : (x : List ℕ) (ps qs : List Placed) → onto x (ps ++ qs) ≡ ont
 onto_append x [] qs = refl
 onto_append x (p ∷ ps) qs = ap (λ rs. (x ∷ p.0, p.1) ∷ rs) (onto_append x ps qs)
 
--- an operand with those on its left, and others behind it
+-- an operand with those on its left, and others after it
 pub left_split : (left : List (List ℕ)) (operand : List ℕ) (rest : List (List ℕ)) → (behind : List Placed) × (with_left (left ++ operand ∷ rest) ≡ with_left left ++ (left, operand) ∷ behind)
 left_split [] operand rest = (onto operand (with_left rest), refl)
 left_split (x ∷ left) operand rest =
@@ -284,7 +284,7 @@ module _ (g : GivenOperands) (left : List (List ℕ)) (operand : List ℕ) (give
   counted : g.count ≡ length (positionals left)
   counted = ap (λ b. b.count) given.same
 
-  -- the places with the operand behind the others
+  -- the places with the operand after the others
   plain_at : has_key operand ≡ false → (t : Bor (List ℕ)) → t.now ≡ operand → g.count < length g.places → (k : ℕ)
       → text_at (set g.places g.count (Some t)) (Some k) ≡ slice_get (positionals (left ++ operand ∷ [])) k
   plain_at e t is room k =

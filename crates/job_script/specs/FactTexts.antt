@@ -65,8 +65,8 @@ abbrev pub pages_do : ℕ → List ℕ → List ℕ → List ℕ
 pages_do n one more = pages_text n ++ (if n == 1 then one else more)
 
 -- of pages that were taken
-abbrev pub taken_cell_text : ℕ → List ℕ
-taken_cell_text n = if n == 0 then codes "It fits in pages that the subpool already has. (rule 4)" else pages_do n (codes " was newly assigned. (rule 5)") (codes " were newly assigned. (rule 5)")
+abbrev pub pages_taken_text : ℕ → List ℕ
+pages_taken_text n = if n == 0 then codes "No page was newly assigned. (rule 4)" else pages_do n (codes " was newly assigned. (rule 5)") (codes " were newly assigned. (rule 5)")
 
 -- how many cells
 abbrev pub cells_text : ℕ → List ℕ
@@ -97,7 +97,7 @@ abbrev pub fact_text : Fact → List ℕ
 fact_text (Obtained area place least most number owner) = obtained_text area place number owner ++ requested_text place.len least most
 fact_text (NoGreater below above) = no_greater_text below above
 fact_text (NewSubpool number owner) = subpool_words number owner ++ codes " is new. (rule 42)"
-fact_text (PagesTaken n) = taken_cell_text n
+fact_text (PagesTaken n) = pages_taken_text n
 fact_text (PagesFreed n) = pages_do n (codes " became free. (rule 5)") (codes " became free. (rule 5)")
 fact_text (Emptied number owner) = subpool_words number owner ++ codes " is now empty. (rule 34)"
 fact_text (CellTaken cell pool place) = cell_text cell pool place

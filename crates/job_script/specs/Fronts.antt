@@ -58,13 +58,31 @@ abbrev pub is_single : Form → Bool
 is_single form.R = true
 is_single form.Rc = true
 is_single form.Ru = true
-is_single _ = false
+is_single form.Vrc = false
+is_single form.Vru = false
+is_single form.Ec = false
+is_single form.Eu = false
+is_single form.Vc = false
+is_single form.Vu = false
+is_single form.Lc = false
+is_single form.Lu = false
+is_single form.Storage = false
+is_single form.StorageConditional = false
 
 abbrev pub form_word : Form → List ℕ
 form_word form.R = codes "R"
 form_word form.Rc = codes "RC"
 form_word form.Ru = codes "RU"
-form_word _ = []
+form_word form.Vrc = []
+form_word form.Vru = []
+form_word form.Ec = []
+form_word form.Eu = []
+form_word form.Vc = []
+form_word form.Vu = []
+form_word form.Lc = []
+form_word form.Lu = []
+form_word form.Storage = []
+form_word form.StorageConditional = []
 
 -- Operands begin with such a form and a length, and with a keyword that this text follows.
 pub record IsSized (field : List ℕ) (f : Form) (n : ℕ) (digits rest : List ℕ) : Type 0 where
@@ -82,8 +100,8 @@ pub record IsPooled (field name rest : List ℕ) : Type 0 where
 
 -- The line of a task that continues with a text has this meaning, if it has at most 255 bytes.
 abbrev pub SpellsAfter : List ℕ → Name → Line → Type 0
-SpellsAfter behind task l =
-    (text : List ℕ) → is_name text ≡ true → task ≡ padded text → nat_lt 255 (length (text ++ behind)) ≡ false → LineOf false (text ++ behind) l
+SpellsAfter rest task l =
+    (text : List ℕ) → is_name text ≡ true → task ≡ padded text → nat_lt 255 (length (text ++ rest)) ≡ false → LineOf false (text ++ rest) l
 
 -- CPOOL GET up to its operands, conditional or not
 abbrev pub get_text : Bool → List ℕ

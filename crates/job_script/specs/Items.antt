@@ -24,7 +24,8 @@ item_kind Address = grammar.Address
 -- whether two items are the same: numbers by value
 abbrev pub is_same_item : Item → List ℕ → List ℕ → Bool
 is_same_item (Number least most) one other = number one == number other
-is_same_item _ one other = bytes_eq one other
+is_same_item Name one other = bytes_eq one other
+is_same_item Address one other = bytes_eq one other
 
 -- whether a text is a list of such items, whether these are in range, and whether there are at most a number of them
 abbrev pub is_list_of : Item → List ℕ → Bool

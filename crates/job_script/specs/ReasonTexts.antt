@@ -1,11 +1,11 @@
 -- What is printed of the reason for which a request is refused, with the rules of RULES.md that say so. (this project's own notation)
-use Rattle.std.specs.Prelude.{ℕ, ◌*◌, ◌/◌, ◌%◌, ◌==◌, List, [], ◌++◌, codes, decimal, if◌then◌else◌}
+use Rattle.std.specs.Prelude.{ℕ, ◌*◌, ◌/◌, ◌%◌, ◌==◌, ◌||◌, List, [], ◌++◌, Option, Some, None, codes, decimal, if◌then◌else◌}
 use Rattle.std.specs.List.{before_first}
 use Rattle.mvs_model.specs.declared.name.Name.{Name}
 use Rattle.mvs_model.specs.declared.request.Request.{Request}
-use Rattle.mvs_model.specs.declared.request.Request.TheVariants.{Obtain, Build, Get, Free, Delete, Attach}
+use Rattle.mvs_model.specs.declared.request.Request.TheVariants.{Obtain, ObtainList, Release, ReleaseList, ReleaseWhole, Build, Get, Free, Delete, Attach, Return, Abend, Show, Put, Move}
 use Rattle.mvs_model.specs.declared.reason.Holder.{Holder}
-use Rattle.mvs_model.specs.declared.reason.Holder.TheVariants.{Nobody, Subpool, Unowned, Part}
+use Rattle.mvs_model.specs.declared.reason.Holder.TheVariants.{Nobody, Outside, Subpool, Unowned, Part}
 use Rattle.mvs_model.specs.declared.reason.CellPosition.{CellPosition}
 use Rattle.mvs_model.specs.declared.reason.CellPosition.TheVariants.{Untaken, Inside, Elsewhere}
 use Rattle.mvs_model.specs.declared.reason.FreeSpace.{FreeSpace}
@@ -14,50 +14,75 @@ use Rattle.mvs_model.specs.declared.reason.LineReason.{LineReason}
 use Rattle.mvs_model.specs.declared.reason.LineReason.TheVariants.{NotSet, Refused}
 use Rattle.mvs_model.specs.declared.reason.Reason.{Reason}
 use Rattle.mvs_model.specs.declared.reason.Reason.TheVariants.{NotActive, InvalidNumber, Shortage, NoMember, NoPart, OffDoubleword, NoSubpool, NotHeld, Overlap, WholeOfZero, PoolInUse, TooManyPools, NoPool, NoFreeCell, NoTakenCell, TaskInUse, TooManyTasks, NotOwned, ActiveSubtask, Asked, NoAccess}
-use Rattle.mvs_model.specs.Name.{trimmed}
+use Rattle.mvs_model.specs.Name.{same_name, trimmed}
+use Rattle.mvs_model.specs.Subpool.{is_step_number}
 use Rattle.mvs_model.specs.Reasons.{number_of}
 use Rattle.mvs_model.specs.Place.{round8}
 use Rattle.mvs_model.specs.Texts.{hex}
 
 -- ---- what a request says that its reason does not
 
--- the least length of one area, rounded up
+pub record Subject : Type 0 where
+  -- the least length of one area, rounded up
+  pub least : ℕ
+  -- the cell pool, or the subtask, if it names one
+  pub name : Option Name
+  -- the cell
+  pub cell : ℕ
+
+abbrev pub subject_of : Request → Subject
+subject_of (Obtain form number ask) = record { least = round8 ask.least; name = None; cell = 0 }
+subject_of (ObtainList form number lengths start) = record { least = 0; name = None; cell = 0 }
+subject_of (Release form number place) = record { least = 0; name = None; cell = 0 }
+subject_of (ReleaseList form number places) = record { least = 0; name = None; cell = 0 }
+subject_of (ReleaseWhole form number) = record { least = 0; name = None; cell = 0 }
+subject_of (Build pool number size primary secondary loc) = record { least = 0; name = Some pool; cell = 0 }
+subject_of (Get pool conditional) = record { least = 0; name = Some pool; cell = 0 }
+subject_of (Free pool cell) = record { least = 0; name = Some pool; cell = cell }
+subject_of (Delete pool) = record { least = 0; name = Some pool; cell = 0 }
+subject_of (Attach name gifts residence) = record { least = 0; name = Some name; cell = 0 }
+subject_of Return = record { least = 0; name = None; cell = 0 }
+subject_of (Abend code) = record { least = 0; name = None; cell = 0 }
+subject_of (Show from len) = record { least = 0; name = None; cell = 0 }
+subject_of (Put to bytes) = record { least = 0; name = None; cell = 0 }
+subject_of (Move to from len) = record { least = 0; name = None; cell = 0 }
+
 abbrev pub least_of : Request → ℕ
-least_of (Obtain form number ask) = round8 ask.least
-least_of _ = 0
+least_of request = (subject_of request).least
 
--- the cell pool, or the subtask
+abbrev pub name_of : Request → Option Name
+name_of request = (subject_of request).name
+
+-- a name, or nothing
+abbrev pub name_text : Option Name → List ℕ
+name_text None = []
+name_text (Some name) = trimmed name
+
 abbrev pub named : Request → List ℕ
-named (Build name number size primary secondary loc) = trimmed name
-named (Get name conditional) = trimmed name
-named (Free name c) = trimmed name
-named (Delete name) = trimmed name
-named (Attach name gifts residence) = trimmed name
-named _ = []
+named request = name_text (name_of request)
 
--- the cell
 abbrev pub cell_of : Request → ℕ
-cell_of (Free name c) = c
-cell_of _ = 0
+cell_of request = (subject_of request).cell
 
 -- ---- the texts
 
 -- what holds a doubleword
 abbrev pub holder_text : Holder → List ℕ
 holder_text Nobody = codes " is free"
+holder_text Outside = codes " lies in no region"
 holder_text (Subpool number owner) = codes " is held by SP " ++ decimal number ++ codes " of " ++ trimmed owner
 holder_text Unowned = codes " is held by a subpool of no task"
 holder_text (Part name) = codes " is in pool " ++ trimmed name
 
--- what else there is where no place is long enough, and the begin of the rule
+-- what else there is where no place is long enough, and the begin of the rules
 abbrev pub room_text : FreeSpace → List ℕ
-room_text room = codes "; free runs: " ++ decimal room.runs ++ codes "; free pages: " ++ decimal room.below ++ codes " below, " ++ decimal room.above ++ codes " above. (rule "
+room_text room = codes "; free runs: " ++ decimal room.runs ++ codes "; free pages: " ++ decimal room.below ++ codes " below, " ++ decimal room.above ++ codes " above. ("
 
 -- of a length for which there is no place
 abbrev pub shortage_text : Request → FreeSpace → List ℕ
 shortage_text request room =
     decimal (least_of request) ++ codes " bytes requested in SP " ++ decimal (number_of request) ++ codes ", but the largest area that fits has " ++ decimal room.longest ++ codes " bytes" ++ room_text room
-    ++ codes "12)"
+    ++ codes "rule 12)"
 
 -- that other members of a list are before one
 abbrev pub members_before : ℕ → List ℕ
@@ -67,22 +92,31 @@ members_before k = if k == 1 then [] else codes "after the members before it "
 abbrev pub no_member_text : ℕ → Shortfall → List ℕ
 no_member_text k short =
     codes "Member " ++ decimal k ++ codes " of the list requests " ++ decimal short.bytes ++ codes " bytes, but " ++ members_before k ++ codes "the largest area that fits has " ++ decimal short.room.longest ++ codes " bytes"
-    ++ room_text short.room ++ codes "22)"
+    ++ room_text short.room ++ codes "rule 22)"
 
 -- of a part of a pool for which there is no place
 abbrev pub no_part_text : Request → ℕ → ℕ → FreeSpace → List ℕ
 no_part_text request cells size room =
     codes "Pool " ++ named request ++ codes ": no room for " ++ decimal cells ++ codes " cells of " ++ decimal size ++ codes " bytes; the largest area that fits has " ++ decimal room.longest ++ codes " bytes"
-    ++ room_text room ++ codes "59)"
+    ++ room_text room ++ codes "rules 59, 61)"
 
 -- of an address that is not on a doubleword
 abbrev pub off_text : ℕ → List ℕ
 off_text a = hex 8 a ++ codes " is not on a doubleword: offset " ++ decimal (a % 8) ++ codes " from " ++ hex 8 (8 * (a / 8)) ++ codes ". (rule 29)"
 
--- of a doubleword that the subpool of a task does not hold
-abbrev pub not_held_text : Name → ℕ → ℕ → Holder → List ℕ
-not_held_text t number a holder =
-    hex 8 a ++ holder_text holder ++ codes "; SP " ++ decimal number ++ codes " of " ++ trimmed t ++ codes " does not hold it outside cell pools. (rules 26, 66)"
+-- that a task shares a subpool of this number and owner: no task shares those of the numbers 131 and 132
+abbrev pub sharing_text : Name → ℕ → Name → List ℕ
+sharing_text t number owner = if same_name t owner || is_step_number number then [] else codes ", which " ++ trimmed t ++ codes " shares,"
+
+-- the owner of the subpool that a task means by a number
+abbrev pub owner_text : Name → ℕ → Option Name → List ℕ
+owner_text t number (Some owner) = trimmed owner ++ sharing_text t number owner
+owner_text t number None = codes "no task"
+
+-- of a doubleword that the subpool of this number and owner, which a task means, does not hold
+abbrev pub not_held_text : Name → ℕ → ℕ → Holder → Option Name → List ℕ
+not_held_text t number a holder owner =
+    hex 8 a ++ holder_text holder ++ codes "; SP " ++ decimal number ++ codes " of " ++ owner_text t number owner ++ codes " does not hold it outside cell pools. (rules 26, 66)"
 
 -- of members of a list that overlap
 abbrev pub overlap_text : ℕ → ℕ → ℕ → List ℕ
@@ -131,7 +165,7 @@ names_text request (Shortage room) = []
 names_text request (NoMember k short) = []
 names_text request (OffDoubleword a) = []
 names_text request (NoSubpool effective_task) = []
-names_text request (NotHeld a holder) = []
+names_text request (NotHeld a holder owner) = []
 names_text request (Overlap one other a) = []
 names_text request (NotOwned number owner) = []
 names_text request (ActiveSubtask subtask) = []
@@ -146,7 +180,7 @@ reason_words t request (Shortage room) = shortage_text request room
 reason_words t request (NoMember k short) = no_member_text k short
 reason_words t request (OffDoubleword a) = off_text a
 reason_words t request (NoSubpool effective_task) = no_subpool_text request effective_task
-reason_words t request (NotHeld a holder) = not_held_text t (number_of request) a holder
+reason_words t request (NotHeld a holder owner) = not_held_text t (number_of request) a holder owner
 reason_words t request (Overlap one other a) = overlap_text one other a
 reason_words t request (NotOwned number owner) = not_owned_text t number owner
 reason_words t request (ActiveSubtask subtask) = subtask_text t subtask

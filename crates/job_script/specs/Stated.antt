@@ -21,7 +21,18 @@ is_in_place first word = not (first && not (bytes_eq word (codes "REGION")))
 -- the operands after an operation, if it has any: the first word there
 abbrev pub field_of : Operation → List ℕ → List ℕ
 field_of operation.Return rest = []
-field_of _ rest = unwrap_or (slice_get (words rest) 0) []
+field_of operation.Region rest = unwrap_or (slice_get (words rest) 0) []
+field_of operation.Getmain rest = unwrap_or (slice_get (words rest) 0) []
+field_of operation.Freemain rest = unwrap_or (slice_get (words rest) 0) []
+field_of operation.Storage rest = unwrap_or (slice_get (words rest) 0) []
+field_of operation.Cpool rest = unwrap_or (slice_get (words rest) 0) []
+field_of operation.Attach rest = unwrap_or (slice_get (words rest) 0) []
+field_of operation.Abend rest = unwrap_or (slice_get (words rest) 0) []
+field_of operation.Put rest = unwrap_or (slice_get (words rest) 0) []
+field_of operation.Show rest = unwrap_or (slice_get (words rest) 0) []
+field_of operation.Move rest = unwrap_or (slice_get (words rest) 0) []
+field_of operation.Where rest = unwrap_or (slice_get (words rest) 0) []
+field_of operation.Report rest = unwrap_or (slice_get (words rest) 0) []
 
 -- The line, which says something, is read as a statement, or the first fault is answered.
 abbrev pub StatementReading : Bool → List ℕ → Result Line Fault → Type 0

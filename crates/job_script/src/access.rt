@@ -16,7 +16,7 @@ use mvs_model::line::{Fault, Line, SourceRequest, Statement};
 use mvs_model::name::Name;
 
 impl GivenOperands<'_> {
-    /// PUT.
+    /// Reads PUT.
     pub fn put(&self, task: Name, line: &mut Line) -> Result<(), Fault>
         requires read { IsRead self.now }
         requires to { Holds (IsLocated) ((by_place self.now).at 0) }
@@ -36,7 +36,7 @@ impl GivenOperands<'_> {
         Ok(())
     }
 
-    /// SHOW.
+    /// Reads SHOW.
     pub fn show(&self, task: Name, line: &mut Line) -> Result<(), Fault>
         requires read { IsRead self.now }
         requires from { Holds (IsLocated) ((by_place self.now).at 0) }
@@ -56,7 +56,7 @@ impl GivenOperands<'_> {
         Ok(())
     }
 
-    /// MOVE.
+    /// Reads MOVE.
     pub fn move_bytes(&self, task: Name, line: &mut Line) -> Result<(), Fault>
         requires read { IsRead self.now }
         requires to { Holds (IsLocated) ((by_place self.now).at 0) }
@@ -79,7 +79,7 @@ impl GivenOperands<'_> {
         Ok(())
     }
 
-    /// WHERE.
+    /// Reads WHERE.
     pub fn ask_where(&self, task: Name, line: &mut Line) -> Result<(), Fault>
         requires read { IsRead self.now }
         requires area { Holds (IsNamed) ((by_place self.now).at 0) }

@@ -10,9 +10,10 @@ use crate::split_once::split_once;
 use mvs_model::bounded::Offset;
 use mvs_model::line::Location;
 use mvs_model::name::Name;
+use mvs_model::numbers::LAST_ADDRESS;
 use mvs_model::place::Addr;
 
-/// Whether a name may have the byte.
+/// Returns whether a name may have the byte.
 pub fn is_name_byte(byte: u8) -> bool
     ensures { result ≡ is_name_byte byte }
 {
@@ -23,14 +24,14 @@ pub fn is_name_byte(byte: u8) -> bool
     }
 }
 
-// Whether a name may have each byte.
+// Returns whether a name may have each byte.
 fn are_name_bytes(text: &[u8]) -> bool
     ensures { result ≡ list_all is_name_byte text.now }
 {
     text.iter().all(|byte| is_name_byte(*byte))
 }
 
-/// Whether the text is a name.
+/// Returns whether the text is a name.
 pub fn is_name(text: &[u8]) -> bool
     ensures { result ≡ is_name text.now }
 {
@@ -40,7 +41,7 @@ pub fn is_name(text: &[u8]) -> bool
     }
 }
 
-/// The name that the text is.
+/// Returns the name that the text is.
 pub fn name(text: &[u8]) -> Name
     requires { is_name text.now ≡ true }
     ensures { result ≡ padded text.now }
@@ -48,14 +49,14 @@ pub fn name(text: &[u8]) -> Name
     Name::of(text)
 }
 
-// Whether the digits between quotes are an address.
+// Returns whether the digits between quotes are an address.
 fn is_absolute(digits: &[u8]) -> bool
     ensures { result ≡ is_absolute digits.now }
 {
     !digits.is_empty() && digits.len() <= 8 && are_hex_digits(digits)
 }
 
-// Whether the text is a name, or a name with an offset.
+// Returns whether the text is a name, or a name with an offset.
 fn is_named(text: &[u8]) -> bool
     ensures { result ≡ is_named text.now }
 {
@@ -66,7 +67,7 @@ fn is_named(text: &[u8]) -> bool
     }
 }
 
-/// Whether the text is an address.
+/// Returns whether the text is an address.
 pub fn is_address(text: &[u8]) -> bool
     ensures { result ≡ is_address text.now }
 {
@@ -90,18 +91,18 @@ fn is_offset_in_range(text: &[u8]) -> bool
     }
 }
 
-/// Whether an address is in its range.
+/// Returns whether an address is in its range.
 pub fn is_address_in_range(text: &[u8]) -> bool
     requires { is_address text.now ≡ true }
     ensures { result ≡ is_address_in_range text.now }
 {
     match quoted(text) {
         None => is_offset_in_range(text),
-        Some(digits) => hex_number(digits) <= 0x7FFF_FFFF,
+        Some(digits) => hex_number(digits) <= u64::from(LAST_ADDRESS),
     }
 }
 
-// The location that a name says, with its offset.
+// Returns the location that a name says, with its offset.
 fn named(text: &[u8]) -> Location
     requires named { is_named text.now ≡ true }
     requires range { (not (list_any is_plus text.now)
@@ -117,7 +118,7 @@ fn named(text: &[u8]) -> Location
     }
 }
 
-/// The location that an address says.
+/// Returns the location that an address says.
 pub fn location(text: &[u8]) -> Location
     requires address { is_address text.now ≡ true }
     requires range { is_address_in_range text.now ≡ true }

@@ -15,7 +15,7 @@ use mvs_model::name::Name;
 use mvs_model::watched::{Failed, Watched};
 use std::io::Write;
 
-// The code of an abend: a system code in three hexadecimal digits, a user code in four decimal ones.
+// Appends the code of an abend: a system code in three hexadecimal digits, a user code in four decimal ones.
 fn push_code(text: &mut LineText, code: Code)
     requires { length text.old ≤ 100 }
     ensures text { text.new ≡ text.old ++ code_text code }

@@ -27,7 +27,7 @@ fn lacks(positional: &[Positional], count: usize) -> bool
     rest.iter().any(|operand| operand.required)
 }
 
-// The items of a list, or a number as the one item.
+// Returns the items of a list, or a number as the one item.
 fn listed(text: &[u8]) -> &[u8]
     requires { AreNumbers (Some text.now) }
     ensures numbers { map number (items_in result.now) ≡ numbers_in (Some text.now) }
@@ -57,14 +57,14 @@ fn is_common(one: Option<&[u8]>, other: Option<&[u8]>) -> bool
 }
 
 impl GivenOperands<'_> {
-    // Whether a required positional operand is not there.
+    // Returns whether a required positional operand is not there.
     fn lacks_positional(&self) -> bool
         ensures { result ≡ lacks_positional (row_at self.now.row) (by_place self.now) }
     {
         lacks(self.row.positional(), self.count)
     }
 
-    // Whether a required keyword is not there.
+    // Returns whether a required keyword is not there.
     fn lacks_keyword(&self) -> bool
         requires { IsRead self.now }
         ensures { result ≡ lacks_keyword (row_at self.now.row) (by_place self.now) }
@@ -77,7 +77,7 @@ impl GivenOperands<'_> {
         false
     }
 
-    // Whether one of two keywords that go together is missing.
+    // Returns whether one of two keywords that go together is missing.
     fn is_half(&self, rule: Rule) -> bool
         requires { IsRead self.now }
         ensures { result ≡ is_half (by_place self.now) (as_rule rule) }
@@ -88,11 +88,11 @@ impl GivenOperands<'_> {
                 let other = self.text(other).is_some();
                 (one && !other) || (other && !one)
             }
-            _ => false,
+            Rule::Excludes(..) | Rule::SameLength(..) | Rule::Apart(..) => false,
         }
     }
 
-    // Whether a rule is half kept.
+    // Returns whether a rule is half kept.
     fn has_half(&self, rules: &[Rule]) -> bool
         requires read { IsRead self.now }
         requires rules { map as_rule rules.now ≡ (row_at self.now.row).rules }
@@ -138,7 +138,7 @@ impl GivenOperands<'_> {
             | is_common(list, others)
     }
 
-    // Whether two operands exclude each other.
+    // Returns whether two operands exclude each other.
     fn is_conflict(&self, rule: Rule) -> bool
         requires read { IsRead self.now }
         requires fit { IsFit (by_place self.now) (as_rule rule) }
@@ -152,7 +152,7 @@ impl GivenOperands<'_> {
         }
     }
 
-    // Whether some operands exclude each other.
+    // Returns whether some operands exclude each other.
     fn has_conflict(&self, rules: &[Rule]) -> bool
         requires read { IsRead self.now }
         requires rules { map as_rule rules.now ≡ (row_at self.now.row).rules }
@@ -166,7 +166,7 @@ impl GivenOperands<'_> {
         false
     }
 
-    /// What is wrong with operands that were all taken: one is missing, or two exclude each other.
+    /// Checks operands of which each is accepted: returns the fault if one is missing, or if two exclude each other.
     pub fn check(&self) -> Result<(), Fault>
         requires { IsRead self.now }
         ensures { fault_in result

@@ -6,14 +6,14 @@ ghost use Rattle.mvs_model.specs.Reading.{is_digit, is_number, number, is_in_ran
 
 use mvs_model::bounded::Bounded;
 
-// Whether each byte is a digit.
+// Returns whether each byte is a digit.
 fn are_digits(text: &[u8]) -> bool
     ensures { result ≡ list_all is_digit text.now }
 {
     text.iter().all(|byte| byte.is_ascii_digit())
 }
 
-/// Whether the text is a number: one or more digits.
+/// Returns whether the text is a number: one or more digits.
 pub fn is_number(text: &[u8]) -> bool
     ensures { result ≡ is_number text.now }
 {
@@ -23,7 +23,7 @@ pub fn is_number(text: &[u8]) -> bool
     }
 }
 
-/// The number that at most ten digits write.
+/// Returns the number that at most ten digits write.
 pub fn number(text: &[u8]) -> u64
     requires short { length text.now ≤ 10 }
     requires digits { is_number text.now ≡ true }
@@ -36,7 +36,7 @@ pub fn number(text: &[u8]) -> u64
     value
 }
 
-/// The number that a text of at most ten bytes is, where it is one.
+/// Returns the number that a text of at most ten bytes is, where it is one.
 pub fn read_number(text: &[u8]) -> Option<u64>
     requires { length text.now ≤ 10 }
     ensures { MatchOption result (is_number text.now ≡ false)
@@ -67,7 +67,7 @@ pub fn is_in_range(least: u32, most: u32, text: &[u8]) -> bool
     u64::from(least) <= value && value <= u64::from(most)
 }
 
-/// The number that is in its range.
+/// Returns the number that is in its range.
 pub fn bounded<const LEAST: u32, const MOST: u32>(text: &[u8]) -> Bounded<LEAST, MOST>
     requires digits { is_number text.now ≡ true }
     requires range { is_in_range LEAST MOST text.now ≡ true }
@@ -76,14 +76,14 @@ pub fn bounded<const LEAST: u32, const MOST: u32>(text: &[u8]) -> Bounded<LEAST,
     Bounded::new(number(text) as u32)
 }
 
-// Whether each digit is a zero.
+// Returns whether each digit is a zero.
 fn are_zeros(text: &[u8]) -> bool
     ensures { result ≡ list_all (λ b. b == 48) text.now }
 {
     text.iter().all(|byte| *byte == b'0')
 }
 
-// Whether two numbers that are written with as many digits, or the first with more, are the same.
+// Returns whether two numbers that are written with as many digits, or the first with more, are the same.
 fn is_same_after_zeros(longer: &[u8], shorter: &[u8]) -> bool
     requires length { length shorter.now ≤ length longer.now }
     requires longer { list_all is_digit longer.now ≡ true }
@@ -94,7 +94,7 @@ fn is_same_after_zeros(longer: &[u8], shorter: &[u8]) -> bool
     are_zeros(zeros) && digits == shorter
 }
 
-/// Whether two numbers are the same. Zeros in front count for nothing.
+/// Returns whether two numbers are the same. Zeros in front count for nothing.
 pub fn is_same_number(one: &[u8], other: &[u8]) -> bool
     requires one { is_number one.now ≡ true }
     requires other { is_number other.now ≡ true }
@@ -107,14 +107,14 @@ pub fn is_same_number(one: &[u8], other: &[u8]) -> bool
     }
 }
 
-/// Whether the byte is one of 0 to 9 and A to F.
+/// Returns whether the byte is one of 0 to 9 and A to F.
 pub fn is_hex_digit(byte: u8) -> bool
     ensures { result ≡ is_hex_digit byte }
 {
     matches!(byte, b'0'..=b'9' | b'A'..=b'F')
 }
 
-// What the digit counts.
+// Returns what the digit counts.
 fn hex_digit(byte: u8) -> u8
     requires { is_hex_digit byte ≡ true }
     ensures digit { result ≡ hex_digit byte }
@@ -127,14 +127,14 @@ fn hex_digit(byte: u8) -> u8
     }
 }
 
-/// Whether each byte is a hexadecimal digit.
+/// Returns whether each byte is a hexadecimal digit.
 pub fn are_hex_digits(text: &[u8]) -> bool
     ensures { result ≡ list_all is_hex_digit text.now }
 {
     text.iter().all(|byte| is_hex_digit(*byte))
 }
 
-/// The number that at most eight hexadecimal digits write.
+/// Returns the number that at most eight hexadecimal digits write.
 pub fn hex_number(text: &[u8]) -> u64
     requires short { length text.now ≤ 8 }
     requires digits { list_all is_hex_digit text.now ≡ true }

@@ -1,7 +1,7 @@
 //! The line that says what a request did.
 
 ghost use Rattle.std.specs.Prelude.{◌≡◌, ◌≤◌, ◌+◌, ◌++◌, decimal, length};
-ghost use Rattle.job_script.specs.FactTexts.{added_text, requested_text, between_text, cell_text, cells_text, fact_line, fact_text, given_text, no_greater_text, obtained_text, pages_do, part_text, place_text, rounded_text, shared_text, subpool_words, taken_cell_text};
+ghost use Rattle.job_script.specs.FactTexts.{added_text, requested_text, between_text, cell_text, cells_text, fact_line, fact_text, given_text, no_greater_text, obtained_text, pages_do, part_text, place_text, rounded_text, shared_text, subpool_words, pages_taken_text};
 ghost use Rattle.job_script.specs.Writing.{Prints};
 
 use crate::freed::push_pages;
@@ -112,11 +112,11 @@ fn push_pages_do(text: &mut LineText, pages: u32, one: &[u8], more: &[u8])
 // Appends the number of pages that were assigned.
 fn push_taken(text: &mut LineText, pages: u32)
     requires { length text.old ≤ 2 }
-    ensures text { text.new ≡ text.old ++ taken_cell_text pages }
+    ensures text { text.new ≡ text.old ++ pages_taken_text pages }
     ensures len { length text.new ≤ length text.old + 56 }
 {
     if pages == 0 {
-        text.push_str(b"It fits in pages that the subpool already has. (rule 4)");
+        text.push_str(b"No page was newly assigned. (rule 4)");
     } else {
         push_pages_do(
             text,

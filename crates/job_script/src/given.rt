@@ -35,7 +35,7 @@ fn place(keywords: &[Keyword], text: &[u8]) -> Option<usize>
     keywords.iter().position(|keyword| keyword.key.is(text))
 }
 
-// The keyword of a table that has this key.
+// Returns the keyword of a table that has this key.
 fn keyword_at(keywords: &'static [Keyword], key: &[u8]) -> Option<&'static Keyword>
     ensures { MatchOption result
         (find (λ k. bytes_eq k.key key.now) (map as_keyword keywords.now) ≡ None)
@@ -53,7 +53,7 @@ impl<'a> GivenOperands<'a> {
     ghost use Rattle.mvs_model.specs.ReadingLaws.{IsTaken};
     ghost use Rattle.mvs_model.specs.declared.line.Fault.TheVariants.{MissingOperand};
 
-    /// No operand.
+    /// Makes the operands of a row, of which none is given yet.
     pub fn none(row: Row) -> GivenOperands<'a>
         ensures given { IsGiven result [] }
         ensures row { result.row ≡ row }
@@ -152,7 +152,7 @@ impl<'a> GivenOperands<'a> {
         }
     }
 
-    /// The text under a key.
+    /// Returns the text under a key.
     pub fn text(&self, key: Key) -> Option<&'a [u8]>
         requires { IsRead self.now }
         ensures text { option_now result ≡ (by_place self.now).under (key_text key) }
@@ -164,7 +164,7 @@ impl<'a> GivenOperands<'a> {
         self.texts[key.index()]
     }
 
-    /// The positional operand at a place, counted from 0.
+    /// Returns the positional operand at a place, counted from 0.
     pub fn positional(&self, place: usize) -> Option<&'a [u8]>
         requires read { IsRead self.now }
         requires place { place < 3 }
@@ -175,7 +175,7 @@ impl<'a> GivenOperands<'a> {
     {
         self.places[place]
     }
-    /// The text under a key that has to be there.
+    /// Returns the text under a key that has to be there.
     pub fn required(&self, key: Key) -> Result<&'a [u8], Fault>
         requires { IsRead self.now }
         ensures { MatchResult result
@@ -189,7 +189,7 @@ impl<'a> GivenOperands<'a> {
         }
     }
 
-    /// The positional operand that has to be at a place, counted from 0.
+    /// Returns the positional operand that has to be at a place, counted from 0.
     pub fn required_at(&self, place: usize) -> Result<&'a [u8], Fault>
         requires read { IsRead self.now }
         requires place { place < 3 }

@@ -40,7 +40,7 @@ pub fn between(text: &[u8]) -> &[u8]
     }
 }
 
-/// The items, where there are two.
+/// Returns the items, where there are two.
 pub fn two(inner: &[u8]) -> (&[u8], &[u8])
     requires { length (items_in inner.now) ≡ 2 }
     ensures { items_in inner.now ≡ result.0.now ∷ result.1.now ∷ [] }
@@ -52,7 +52,7 @@ pub fn two(inner: &[u8]) -> (&[u8], &[u8])
     }
 }
 
-// Whether a text is such an item.
+// Returns whether a text is such an item.
 fn is_item(item: Item, text: &[u8]) -> bool
     ensures { result ≡ is_of (item_kind item) text.now }
 {
@@ -63,7 +63,7 @@ fn is_item(item: Item, text: &[u8]) -> bool
     }
 }
 
-// Whether an item is in its range.
+// Returns whether an item is in its range.
 fn is_item_in_range(item: Item, text: &[u8]) -> bool
     requires { is_of (item_kind item) text.now ≡ true }
     ensures { result ≡ is_within (item_kind item) text.now }
@@ -75,7 +75,7 @@ fn is_item_in_range(item: Item, text: &[u8]) -> bool
     }
 }
 
-/// Whether each item is such a one.
+/// Returns whether each item is such a one.
 pub fn are_items(item: Item, inner: &[u8]) -> bool
     ensures { result ≡ list_all (is_of (item_kind item)) (items_in inner.now) }
 {
@@ -92,7 +92,7 @@ pub fn are_items(item: Item, inner: &[u8]) -> bool
     }
 }
 
-/// Whether each item is in its range.
+/// Returns whether each item is in its range.
 pub fn are_in_range(item: Item, inner: &[u8]) -> bool
     requires { list_all (is_of (item_kind item)) (items_in inner.now) ≡ true }
     ensures { result ≡ list_all (is_within (item_kind item)) (items_in inner.now) }
@@ -110,7 +110,7 @@ pub fn are_in_range(item: Item, inner: &[u8]) -> bool
     }
 }
 
-/// How many items there are.
+/// Returns how many items there are.
 pub fn count(inner: &[u8]) -> usize
     ensures { result ≡ length (items_in inner.now) }
 {
@@ -126,7 +126,7 @@ pub fn count(inner: &[u8]) -> usize
     }
 }
 
-// Whether two items are the same: numbers by value.
+// Returns whether two items are the same: numbers by value.
 fn is_same_item(item: Item, one: &[u8], other: &[u8]) -> bool
     requires one { is_of (item_kind item) one.now ≡ true }
     requires other { is_of (item_kind item) other.now ≡ true }
@@ -138,7 +138,7 @@ fn is_same_item(item: Item, one: &[u8], other: &[u8]) -> bool
     }
 }
 
-// Whether an item is one of a list.
+// Returns whether an item is one of a list.
 fn has_item(item: Item, inner: &[u8], one: &[u8]) -> bool
     requires items { list_all (is_of (item_kind item)) (items_in inner.now) ≡ true }
     requires one { is_of (item_kind item) one.now ≡ true }
@@ -177,7 +177,7 @@ pub fn is_twice(item: Item, inner: &[u8]) -> bool
     }
 }
 
-/// Whether an item of one list is one of another.
+/// Returns whether an item of one list is one of another.
 pub fn is_shared(item: Item, one: &[u8], other: &[u8]) -> bool
     requires one { list_all (is_of (item_kind item)) (items_in one.now) ≡ true }
     requires other { list_all (is_of (item_kind item)) (items_in other.now) ≡ true }

@@ -39,7 +39,7 @@ pub enum Key {
 }
 
 impl Key {
-    /// The place of the key among all.
+    /// Returns the place of the key among all.
     #[tactic(auto, unfolding(crate::specs::Places::place_in, crate::specs::Places::keys))]
     pub fn index(self) -> usize
         ensures index { place_in (key_text self) ≡ Some result }
@@ -48,7 +48,7 @@ impl Key {
         self as usize
     }
 
-    /// The key as a script writes it.
+    /// Returns the key as a script writes it.
     pub fn text(self) -> &'static str
         ensures { result.now ≡ key_text self }
     {
@@ -82,7 +82,7 @@ impl Key {
         }
     }
 
-    /// Whether a text is the key as a script writes it.
+    /// Returns whether a text is the key as a script writes it.
     pub fn is(self, text: &[u8]) -> bool
         ensures { result ≡ bytes_eq (key_text self) text.now }
     {

@@ -38,7 +38,7 @@ const RESIDENCE_WORDS: [&str; 2] = ["BELOW", "ABOVE"];
 const CONDITIONAL_WORDS: [&str; 4] = ["COND", "C", "UNCOND", "U"];
 
 impl Words {
-    /// The words.
+    /// Returns the words.
     pub fn texts(self) -> &'static [&'static str]
         ensures { map (λ word. word.now) result.now ≡ as_words self }
     {
@@ -79,7 +79,7 @@ pub enum Kind {
     Addresses(usize),
 }
 
-// Whether the text is one of the words for a place in storage.
+// Returns whether the text is one of the words for a place in storage.
 fn is_location_word(text: &[u8]) -> bool
     ensures { result ≡ is_one_of (as_words Words.Location) text.now }
 {
@@ -90,7 +90,7 @@ fn is_location_word(text: &[u8]) -> bool
         || text == b"RES".as_slice()
 }
 
-// Whether the text is one of the words that say whether a request is conditional.
+// Returns whether the text is one of the words that say whether a request is conditional.
 fn is_conditional_word(text: &[u8]) -> bool
     ensures { result ≡ is_one_of (as_words Words.Conditional) text.now }
 {
@@ -100,7 +100,7 @@ fn is_conditional_word(text: &[u8]) -> bool
         || text == b"U".as_slice()
 }
 
-// Whether the text is one of the words.
+// Returns whether the text is one of the words.
 fn is_word(words: Words, text: &[u8]) -> bool
     ensures { result ≡ is_one_of (as_words words) text.now }
 {
@@ -113,14 +113,14 @@ fn is_word(words: Words, text: &[u8]) -> bool
     }
 }
 
-// Whether the text is two hexadecimal digits.
+// Returns whether the text is two hexadecimal digits.
 fn is_hex_byte(text: &[u8]) -> bool
     ensures { result ≡ is_of grammar.HexByte text.now }
 {
     text.len() == 2 && are_hex_digits(text)
 }
 
-// Whether the text is an even number of hexadecimal digits between quotes.
+// Returns whether the text is an even number of hexadecimal digits between quotes.
 fn is_bytes(text: &[u8]) -> bool
     ensures { result ≡ is_bytes text.now }
 {
@@ -142,7 +142,7 @@ fn has_at_most(most: usize, text: &[u8]) -> bool
     }
 }
 
-// Whether the text is a list of such items.
+// Returns whether the text is a list of such items.
 fn is_list_of(item: Item, text: &[u8]) -> bool
     ensures { result ≡ is_list_of item text.now }
 {
@@ -152,7 +152,7 @@ fn is_list_of(item: Item, text: &[u8]) -> bool
     }
 }
 
-// Whether the text is two numbers in parentheses.
+// Returns whether the text is two numbers in parentheses.
 fn is_pair(least: u32, most: u32, text: &[u8]) -> bool
     ensures { result ≡ is_pair text.now }
 {
@@ -162,7 +162,7 @@ fn is_pair(least: u32, most: u32, text: &[u8]) -> bool
     }
 }
 
-/// Whether a text is of a kind.
+/// Returns whether a text is of a kind.
 pub fn is_of(kind: Kind, text: &[u8]) -> bool
     ensures { result ≡ is_of (as_kind kind) text.now }
 {
@@ -202,11 +202,20 @@ pub fn repeats(kind: Kind, text: &[u8]) -> bool
     match kind {
         Kind::DistinctNumbers(least, most) => has_twice(Item::Number(least, most), text),
         Kind::DistinctNames(_) => has_twice(Item::Name, text),
-        _ => false,
+        Kind::Number(..)
+        | Kind::HexByte
+        | Kind::Word(..)
+        | Kind::Name
+        | Kind::Address
+        | Kind::Bytes(..)
+        | Kind::Pair(..)
+        | Kind::NumberOrPair(..)
+        | Kind::Numbers(..)
+        | Kind::Addresses(..) => false,
     }
 }
 
-// Whether two numbers are in their range, and the second is not above the first.
+// Returns whether two numbers are in their range, and the second is not above the first.
 fn is_pair_in_range(least: u32, most: u32, text: &[u8]) -> bool
     requires { is_pair text.now ≡ true }
     ensures { result ≡ is_pair_in_range least most text.now }
@@ -220,7 +229,7 @@ fn is_pair_in_range(least: u32, most: u32, text: &[u8]) -> bool
         && number(smallest) <= number(largest)
 }
 
-// Whether the items of a list are in their range.
+// Returns whether the items of a list are in their range.
 fn has_items_in_range(item: Item, text: &[u8]) -> bool
     requires { is_list_of item text.now ≡ true }
     ensures { result ≡ has_items_in_range item text.now }
@@ -242,7 +251,7 @@ fn has_items(item: Item, most: usize, text: &[u8]) -> bool
     }
 }
 
-/// Whether a text of a kind is in its range.
+/// Returns whether a text of a kind is in its range.
 pub fn is_within(kind: Kind, text: &[u8]) -> bool
     requires { is_of (as_kind kind) text.now ≡ true }
     ensures { result ≡ is_within (as_kind kind) text.now }
@@ -279,9 +288,7 @@ fn check_number(least: u32, most: u32, text: &[u8], again: bool) -> Result<(), F
     if text.len() > 10 {
         return check_long(text, again);
     }
-    let Some(value) = read_number(text) else {
-        return Err(Fault::InvalidOperand);
-    };
+    let value = read_number(text).ok_or(Fault::InvalidOperand)?;
     if again {
         return Err(Fault::Repeated);
     }
@@ -346,7 +353,7 @@ fn check_address(text: &[u8], again: bool) -> Result<(), Fault>
     }
 }
 
-// What is wrong with the text of an operand of any kind.
+// Checks the text of an operand of any kind.
 fn check_text(kind: Kind, text: &[u8], again: bool) -> Result<(), Fault>
     ensures { fault_in result ≡ first_of (checks_of (as_kind kind) again text.now) }
 {
@@ -370,6 +377,14 @@ pub fn check(kind: &Kind, text: &[u8], again: bool) -> Result<(), Fault>
         Kind::Number(least, most) => check_number(*least, *most, text, again),
         Kind::Name => check_name(text, again),
         Kind::Address => check_address(text, again),
-        _ => check_text(*kind, text, again),
+        Kind::HexByte
+        | Kind::Word(..)
+        | Kind::Bytes(..)
+        | Kind::Pair(..)
+        | Kind::NumberOrPair(..)
+        | Kind::Numbers(..)
+        | Kind::DistinctNumbers(..)
+        | Kind::DistinctNames(..)
+        | Kind::Addresses(..) => check_text(*kind, text, again),
     }
 }

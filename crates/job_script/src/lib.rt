@@ -17,12 +17,12 @@ pub use crate::data_lines::print_data;
 pub use crate::fact_lines::print_fact;
 pub use crate::freed::{print_freed, print_stays};
 pub use crate::line_buffer::{LineBuffer, Pushed};
-pub use crate::names::NamePlaces;
+pub use crate::names::{NamePlaces, is_same_name};
 pub use crate::naming::print_naming;
 use crate::operations::{Operation, read_operation};
 use crate::plain::read_plain;
 pub use crate::print::{fault_digit, print_fault, print_region, print_step_end, write_all};
-pub use crate::reasons::print_reason;
+pub use crate::reasons::{Subject, print_reason, reason_text, subject_of};
 pub use crate::report_lines::{print_map_run, print_no_subpool, print_subpool_line};
 pub use crate::resolving::{names_set, resolve, set_names, unset};
 use crate::split_once::{next_word, skip_blanks, split_once};
@@ -61,9 +61,9 @@ pub mod text;
 mod values;
 
 /// The most bytes of a line, without its end. This project's choice.
-const LONGEST: usize = 255;
+pub const MOST_LINE_BYTES: usize = 255;
 
-// Whether each byte is one that a script may have.
+// Returns whether each byte is one that a script may have.
 fn are_plain(bytes: &[u8]) -> bool
     ensures { result ≡ list_all (λ b. nat_le 32 b && nat_le b 126) bytes.now }
 {
@@ -101,14 +101,14 @@ fn is_plain(line: &[u8]) -> bool
     }
 }
 
-// Whether the line has no byte but blanks.
+// Returns whether the line has no byte but blanks.
 fn is_blank(line: &[u8]) -> bool
     ensures { result ≡ list_all (λ b. b == 32) line.now }
 {
     line.iter().all(|byte| *byte == b' ')
 }
 
-// Whether the line is blank or a comment.
+// Returns whether the line is blank or a comment.
 fn is_blank_or_comment(line: &[u8]) -> bool
     ensures { result ≡ is_blank_or_comment line.now }
 {
@@ -131,7 +131,18 @@ fn field_of<'a>(operation: Operation, rest: &'a [u8]) -> &'a [u8]
 {
     match operation {
         Operation::Return => &[],
-        _ => skip_blanks(rest),
+        Operation::Region
+        | Operation::Getmain
+        | Operation::Freemain
+        | Operation::Storage
+        | Operation::Cpool
+        | Operation::Attach
+        | Operation::Abend
+        | Operation::Put
+        | Operation::Show
+        | Operation::Move
+        | Operation::Where
+        | Operation::Report => skip_blanks(rest),
     }
 }
 
@@ -156,11 +167,11 @@ fn read_statement(line: &[u8], first: bool, read: &mut Line) -> Result<(), Fault
     read_operands(name(task), operation, field_of(operation, rest), read)
 }
 
-// What is wrong with the bytes of a line.
+// Checks the bytes of a line.
 fn check_bytes(line: &[u8]) -> Result<(), Fault>
     ensures { fault_in result ≡ first_of (byte_checks line.now) }
 {
-    if line.len() > LONGEST {
+    if line.len() > MOST_LINE_BYTES {
         return Err(Fault::TooLong);
     }
     if !is_plain(line) {

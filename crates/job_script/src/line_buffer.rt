@@ -37,7 +37,7 @@ impl Model for LineBuffer {
 }
 
 impl LineBuffer {
-    /// Nothing is kept.
+    /// Makes an empty buffer.
     pub fn new() -> LineBuffer
         ensures { result ≡ [] }
     {
@@ -64,14 +64,14 @@ impl LineBuffer {
         }
     }
 
-    /// What was kept since the last `clear`.
+    /// Returns what was kept since the last `clear`.
     pub fn bytes(&self) -> &[u8]
         ensures { result.now ≡ self.now }
     {
         &self.bytes[..self.len]
     }
 
-    /// Nothing is kept any more.
+    /// Removes all bytes.
     pub fn clear(&mut self)
         ensures { self.new ≡ [] }
     {

@@ -2,7 +2,7 @@
 
 ghost use Rattle.std.specs.Prelude.{◌≡◌, OnOk, OnErr, IfSome};
 ghost use Rattle.std.specs.FinMap as map;
-ghost use Rattle.mvs_model.specs.Name.{name_cmp};
+ghost use Rattle.mvs_model.specs.Name.{name_cmp, same_name};
 ghost use Rattle.job_script.specs.Areas.{IsArea};
 
 use mvs_model::error::OutOfMemory;
@@ -11,6 +11,13 @@ use mvs_model::place::Place;
 use std::alloc::Global;
 use std::collections::HashMap;
 use std::marker::Model;
+
+/// Returns whether two names are equal.
+pub fn is_same_name(one: &Name, other: &Name) -> bool
+    ensures { result ≡ same_name one.now other.now }
+{
+    *one == *other
+}
 
 /// The places of the names that a step has set.
 #[derive(Drop)]
@@ -56,7 +63,7 @@ impl NamePlaces {
         }
     }
 
-    /// The place that a name was last set to.
+    /// Returns the place that a name was last set to.
     pub fn get(&self, name: &Name) -> Option<Place>
         ensures place { result ≡ map.get self.now name.now }
         ensures area { IfSome result IsArea }

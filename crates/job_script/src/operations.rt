@@ -54,7 +54,7 @@ const CPOOL_FORMS: [&str; 4] = ["BUILD", "GET", "FREE", "DELETE"];
 
 const REPORT_FORMS: [&str; 2] = ["SP", "MAP"];
 
-// The one operation that a word may name, by its first letters.
+// Returns the one operation that a word may name, by its first letters.
 fn likely(word: &[u8]) -> Operation
     ensures { (operation : Operation) → word.now ≡ operation_text operation → result ≡ operation }
 {
@@ -75,7 +75,7 @@ fn likely(word: &[u8]) -> Operation
     }
 }
 
-/// The operation that a word names.
+/// Returns the operation that a word names.
 pub fn read_operation(word: &[u8]) -> Option<Operation>
     ensures { MatchOption result (rows_of word.now ≡ [])
         (λ operation. word.now ≡ operation_text operation) }
@@ -88,7 +88,7 @@ pub fn read_operation(word: &[u8]) -> Option<Operation>
     }
 }
 
-// The row of GETMAIN with a form.
+// Returns the row of GETMAIN with a form.
 fn getmain(form: &[u8]) -> Option<Row>
     ensures row { row_with Operation.Getmain form.now ≡ option_map row_at result }
     ensures formed { IfSome result (λ row. is_empty (row_at row).forms ≡ false) }
@@ -103,7 +103,7 @@ fn getmain(form: &[u8]) -> Option<Row>
     }
 }
 
-// The row of FREEMAIN with a form.
+// Returns the row of FREEMAIN with a form.
 fn freemain(form: &[u8]) -> Option<Row>
     ensures row { row_with Operation.Freemain form.now ≡ option_map row_at result }
     ensures formed { IfSome result (λ row. is_empty (row_at row).forms ≡ false) }
@@ -117,7 +117,7 @@ fn freemain(form: &[u8]) -> Option<Row>
     }
 }
 
-// The row of STORAGE with a form.
+// Returns the row of STORAGE with a form.
 fn storage(form: &[u8]) -> Option<Row>
     ensures row { row_with Operation.Storage form.now ≡ option_map row_at result }
     ensures formed { IfSome result (λ row. is_empty (row_at row).forms ≡ false) }
@@ -131,7 +131,7 @@ fn storage(form: &[u8]) -> Option<Row>
     }
 }
 
-// The row of CPOOL with a form.
+// Returns the row of CPOOL with a form.
 fn cpool(form: &[u8]) -> Option<Row>
     ensures row { row_with Operation.Cpool form.now ≡ option_map row_at result }
     ensures formed { IfSome result (λ row. is_empty (row_at row).forms ≡ false) }
@@ -149,7 +149,7 @@ fn cpool(form: &[u8]) -> Option<Row>
     }
 }
 
-// The row of REPORT with a form.
+// Returns the row of REPORT with a form.
 fn report(form: &[u8]) -> Option<Row>
     ensures row { row_with Operation.Report form.now ≡ option_map row_at result }
     ensures formed { IfSome result (λ row. is_empty (row_at row).forms ≡ false) }
@@ -162,7 +162,7 @@ fn report(form: &[u8]) -> Option<Row>
 }
 
 impl Operation {
-    // Whether a word names the operation.
+    // Returns whether a word names the operation.
     fn is(self, word: &[u8]) -> bool
         ensures { result ≡ bytes_eq (operation_text self) word.now }
     {
@@ -183,7 +183,7 @@ impl Operation {
         }
     }
 
-    /// The operation as a script writes it.
+    /// Returns the operation as a script writes it.
     pub fn text(self) -> &'static str
         ensures { result.now ≡ operation_text self }
     {
@@ -204,7 +204,7 @@ impl Operation {
         }
     }
 
-    /// The forms that it takes.
+    /// Returns the forms that it takes.
     pub fn forms(self) -> &'static [&'static str]
         ensures { map (λ form. form.now) result.now
             ≡ flat_map (λ row. row.forms) (rows_of (operation_text self)) }
@@ -215,11 +215,18 @@ impl Operation {
             Operation::Storage => &STORAGE_FORMS,
             Operation::Cpool => &CPOOL_FORMS,
             Operation::Report => &REPORT_FORMS,
-            _ => &[],
+            Operation::Region
+            | Operation::Attach
+            | Operation::Return
+            | Operation::Abend
+            | Operation::Put
+            | Operation::Show
+            | Operation::Move
+            | Operation::Where => &[],
         }
     }
 
-    /// Whether the operation takes a form, which is its first operand.
+    /// Returns whether the operation takes a form, which is its first operand.
     pub fn takes_form(self) -> bool
         ensures { result ≡ takes_form (operation_text self) }
     {
@@ -233,7 +240,7 @@ impl Operation {
         )
     }
 
-    /// The row of the operation with a form, which says nothing where the operation takes none.
+    /// Returns the row of the operation with a form, which says nothing where the operation takes none.
     pub fn row(self, form: &[u8]) -> Option<Row>
         ensures row { row_with self form.now ≡ option_map row_at result }
         ensures formed { IfSome result

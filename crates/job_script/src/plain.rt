@@ -6,16 +6,18 @@ ghost use Rattle.std.specs.Prelude.{◌≡◌, ◌≢◌, ◌++◌, ◌∷◌, �
 ghost use Rattle.mvs_model.specs.Reading.{LineOf};
 ghost use Rattle.job_script.specs.Fronts.{IsPooled, IsSized, IsSubpoolFront, SpellsAfter, form_word, get_text, is_single, loc_text, may_place};
 
-use crate::LONGEST;
+use crate::MOST_LINE_BYTES;
 use crate::addresses::name;
 use crate::prefix::{
     address_in_front, bytes_in_front, is_remark, name_in_front, number_in_front, strip_prefix,
 };
+use crate::rows::MOST_NUMBER;
 use crate::values::bytes;
 use mvs_model::bounded::{Exponent, Length, Offset, ShowLength};
 use mvs_model::code::Form;
 use mvs_model::line::{Line, Location, SourceRequest, Statement};
 use mvs_model::name::Name;
+use mvs_model::numbers::LAST_ADDRESS;
 use mvs_model::want::{AreaRequest, Loc};
 
 // Returns the subpool number at the beginning of a text, or 0, and the text after it.
@@ -25,7 +27,7 @@ fn subpool_in_front(text: &[u8]) -> Option<(u8, &[u8])>
     let Some(digits) = strip_prefix(text, b",SP=") else {
         return Some((0, text));
     };
-    let (number, rest) = number_in_front(0, 255, digits)?;
+    let (number, rest) = number_in_front(0, MOST_NUMBER, digits)?;
     Some((number as u8, rest))
 }
 
@@ -51,7 +53,18 @@ fn loc_in_front(form: Form, text: &[u8]) -> Option<(Loc, &[u8])>
     };
     match form {
         Form::R => None,
-        _ => loc_word_in_front(word),
+        Form::Rc
+        | Form::Ru
+        | Form::Vrc
+        | Form::Vru
+        | Form::Ec
+        | Form::Eu
+        | Form::Vc
+        | Form::Vu
+        | Form::Lc
+        | Form::Lu
+        | Form::Storage
+        | Form::StorageConditional => loc_word_in_front(word),
     }
 }
 
@@ -75,7 +88,7 @@ fn sized_in_front(field: &[u8]) -> Option<(Form, u32, &[u8])>
 {
     let (form, rest) = form_in_front(field)?;
     let digits = strip_prefix(rest, b"LV=")?;
-    let (len, rest) = number_in_front(1, 0x7FFF_FFFF, digits)?;
+    let (len, rest) = number_in_front(1, LAST_ADDRESS, digits)?;
     let rest = strip_prefix(rest, b",A=")?;
     Some((form, len, rest))
 }
@@ -90,7 +103,7 @@ fn pool_in_front(field: &[u8]) -> Option<(&[u8], &[u8])>
     Some((pool, rest))
 }
 
-// GETMAIN of one area.
+// Reads GETMAIN of one area.
 fn read_obtain(task: Name, field: &[u8], line: &mut Line) -> Option<()>
     ensures { IfSome result (λ _. SpellsAfter (codes " GETMAIN " ++ field.now) task line.new) }
 {
@@ -114,7 +127,7 @@ fn read_obtain(task: Name, field: &[u8], line: &mut Line) -> Option<()>
     Some(())
 }
 
-// FREEMAIN of one area.
+// Reads FREEMAIN of one area.
 fn read_release(task: Name, field: &[u8], line: &mut Line) -> Option<()>
     ensures { IfSome result (λ _. SpellsAfter (codes " FREEMAIN " ++ field.now) task line.new) }
 {
@@ -136,7 +149,7 @@ fn read_release(task: Name, field: &[u8], line: &mut Line) -> Option<()>
     Some(())
 }
 
-// CPOOL GET.
+// Reads CPOOL GET.
 fn read_get(task: Name, conditional: bool, field: &[u8], line: &mut Line) -> Option<()>
     ensures { IfSome result (λ _. SpellsAfter (get_text conditional ++ field.now) task line.new) }
 {
@@ -156,7 +169,7 @@ fn read_get(task: Name, conditional: bool, field: &[u8], line: &mut Line) -> Opt
     Some(())
 }
 
-// CPOOL FREE.
+// Reads CPOOL FREE.
 fn read_free(task: Name, field: &[u8], line: &mut Line) -> Option<()>
     ensures { IfSome result (λ _. SpellsAfter (codes " CPOOL FREE," ++ field.now) task line.new) }
 {
@@ -175,7 +188,7 @@ fn read_free(task: Name, field: &[u8], line: &mut Line) -> Option<()>
     Some(())
 }
 
-// CPOOL GET and FREE.
+// Reads CPOOL GET and FREE.
 fn read_cell(task: Name, field: &[u8], line: &mut Line) -> Option<()>
     ensures { IfSome result (λ _. SpellsAfter (codes " CPOOL " ++ field.now) task line.new) }
 {
@@ -200,7 +213,7 @@ fn read_return(task: Name, field: &[u8], line: &mut Line) -> Option<()>
     Some(())
 }
 
-// PUT, to an area that has a name.
+// Reads PUT, to an area that has a name.
 fn read_put(task: Name, field: &[u8], line: &mut Line) -> Option<()>
     ensures { IfSome result (λ _. SpellsAfter (codes " PUT " ++ field.now) task line.new) }
 {
@@ -220,7 +233,7 @@ fn read_put(task: Name, field: &[u8], line: &mut Line) -> Option<()>
     Some(())
 }
 
-// SHOW, of an area that has a name.
+// Reads SHOW, of an area that has a name.
 fn read_show(task: Name, field: &[u8], line: &mut Line) -> Option<()>
     ensures { IfSome result (λ _. SpellsAfter (codes " SHOW " ++ field.now) task line.new) }
 {
@@ -240,7 +253,7 @@ fn read_show(task: Name, field: &[u8], line: &mut Line) -> Option<()>
     Some(())
 }
 
-// WHERE.
+// Reads WHERE.
 fn read_where(task: Name, field: &[u8], line: &mut Line) -> Option<()>
     ensures { IfSome result (λ _. SpellsAfter (codes " WHERE " ++ field.now) task line.new) }
 {
@@ -252,7 +265,7 @@ fn read_where(task: Name, field: &[u8], line: &mut Line) -> Option<()>
     Some(())
 }
 
-// REPORT SP.
+// Reads REPORT SP.
 fn read_report(task: Name, field: &[u8], line: &mut Line) -> Option<()>
     ensures { IfSome result (λ _. SpellsAfter (codes " REPORT SP" ++ field.now) task line.new) }
 {
@@ -279,11 +292,11 @@ fn read_after_task(task: Name, text: &[u8], read: &mut Line) -> Option<()>
     }
 }
 
-/// What a line says that is written so, which is not the first statement of a script. It is None of every other line, which has to be read by the table.
+/// Returns what a line says that is written so, which is not the first statement of a script. It is None of every other line, which has to be read by the table.
 pub fn read_plain(line: &[u8], read: &mut Line) -> Option<()>
     ensures { IfSome result (λ _. LineOf false line.now read.new) }
 {
-    if line.len() > LONGEST {
+    if line.len() > MOST_LINE_BYTES {
         return None;
     }
     let (task, rest) = name_in_front(line)?;

@@ -15,7 +15,7 @@ use mvs_model::line::{Fault, Line, SourceRequest, Statement};
 use mvs_model::name::Name;
 
 impl GivenOperands<'_> {
-    // The keyword after CPOOL GET makes it conditional.
+    // Returns whether the keyword after CPOOL GET makes it conditional.
     fn is_conditional(&self) -> bool
         requires { IsRead self.now }
         ensures { result ≡ is_conditional ((by_place self.now).at 0) }
@@ -26,7 +26,7 @@ impl GivenOperands<'_> {
         }
     }
 
-    /// CPOOL BUILD.
+    /// Reads CPOOL BUILD.
     pub fn build(&self, task: Name, line: &mut Line) -> Result<(), Fault>
         requires read { IsRead self.now }
         requires pool { Holds (IsNamed) ((by_place self.now).under (codes "CPID")) }
@@ -54,7 +54,7 @@ impl GivenOperands<'_> {
         Ok(())
     }
 
-    /// CPOOL GET.
+    /// Reads CPOOL GET.
     pub fn get(&self, task: Name, line: &mut Line) -> Result<(), Fault>
         requires read { IsRead self.now }
         requires pool { Holds (IsNamed) ((by_place self.now).under (codes "CPID")) }
@@ -75,7 +75,7 @@ impl GivenOperands<'_> {
         Ok(())
     }
 
-    /// CPOOL FREE.
+    /// Reads CPOOL FREE.
     pub fn free(&self, task: Name, line: &mut Line) -> Result<(), Fault>
         requires read { IsRead self.now }
         requires pool { Holds (IsNamed) ((by_place self.now).under (codes "CPID")) }
@@ -95,7 +95,7 @@ impl GivenOperands<'_> {
         Ok(())
     }
 
-    /// CPOOL DELETE.
+    /// Reads CPOOL DELETE.
     pub fn delete(&self, task: Name, line: &mut Line) -> Result<(), Fault>
         requires read { IsRead self.now }
         requires pool { Holds (IsNamed) ((by_place self.now).under (codes "CPID")) }

@@ -20,7 +20,7 @@ pub fn strip_prefix<'a>(text: &'a [u8], front: &[u8]) -> Option<&'a [u8]>
     text.strip_prefix(front)
 }
 
-// How many digits a text starts with, at most ten, and the number that they write.
+// Returns how many digits a text starts with, at most ten, and the number that they write.
 fn digits_in_front(text: &[u8]) -> (usize, u64)
     ensures digits { list_all is_digit (take result.0 text.now) ≡ true }
     ensures value { result.1 ≡ number (take result.0 text.now) }
@@ -50,7 +50,7 @@ pub fn number_in_front(least: u32, most: u32, text: &[u8]) -> Option<(u32, &[u8]
     Some((value as u32, &text[end..]))
 }
 
-// Where the bytes end that a name may have.
+// Returns where the bytes end that a name may have.
 fn name_end(text: &[u8]) -> usize
     ensures bytes { list_all is_name_byte (take result text.now) ≡ true }
     ensures within { result ≤ length text.now }
@@ -87,7 +87,7 @@ pub fn address_in_front(text: &[u8]) -> Option<(&[u8], u32, &[u8])>
     Some((area, offset, rest))
 }
 
-// Where the hexadecimal digits end.
+// Returns where the hexadecimal digits end.
 fn hex_end(text: &[u8]) -> usize
     ensures digits { list_all is_hex_digit (take result text.now) ≡ true }
     ensures within { result ≤ length text.now }

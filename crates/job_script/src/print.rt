@@ -92,7 +92,7 @@ pub fn print_step_end<W: Write>(writer: &mut Watched<W>, abended: bool) -> Resul
     }
 }
 
-/// The number of a fault.
+/// Returns the number of a fault.
 pub fn fault_digit(fault: Fault) -> u32
     ensures number { result ≡ fault_number fault }
     ensures digit { result < 10 }

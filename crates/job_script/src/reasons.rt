@@ -4,12 +4,15 @@ ghost use Rattle.std.specs.Prelude.{◌≡◌, ◌≤◌, ◌<◌, ◌+◌, ◌+
 ghost use Rattle.std.specs.List.{position_or_len};
 ghost use Rattle.mvs_model.specs.Name.{trimmed};
 ghost use Rattle.mvs_model.specs.Reasons.{number_of};
-ghost use Rattle.job_script.specs.ReasonTexts.{cell_of, holder_text, least_of, members_before, named, names_text, no_access_text, no_cell_text, no_member_text, no_part_text, no_subpool_text, not_held_text, not_owned_text, off_text, one_line, overlap_text, reason_line, reason_words, room_text, shortage_text, spot_text, subtask_text, why_text};
+ghost use Rattle.mvs_model.specs.Subpool.{is_step_number};
+ghost use Rattle.job_script.specs.ReasonTexts.{cell_of, holder_text, least_of, members_before, name_of, named, names_text, no_access_text, no_cell_text, no_member_text, no_part_text, no_subpool_text, not_held_text, not_owned_text, off_text, one_line, overlap_text, owner_text, reason_line, reason_words, room_text, sharing_text, shortage_text, spot_text, subtask_text, why_text};
 ghost use Rattle.job_script.specs.Writing.{Prints};
 
+use crate::names::is_same_name;
 use crate::print::write_all;
 use crate::text::LineText;
 use mvs_model::name::Name;
+use mvs_model::numbers::{FIRST_STEP_NUMBER, SECOND_STEP_NUMBER};
 use mvs_model::place::Addr;
 use mvs_model::reason::{CellPosition, FreeSpace, Holder, LineReason, Reason, Shortfall};
 use mvs_model::request::Request;
@@ -18,39 +21,87 @@ use mvs_model::want::Side;
 use mvs_model::watched::{Failed, Watched};
 use std::io::Write;
 
-// The number of the subpool that a request names.
+/// What a request says that the reason of its refusal does not repeat.
+#[derive(Clone, Copy, Debug, PartialEq, Eq)]
+pub struct Subject {
+    /// The number of the subpool that it names, or 0.
+    pub number: u32,
+    /// The least length of one area, rounded up, or 0.
+    pub least: u32,
+    /// The cell pool or the subtask that it names.
+    pub name: Option<Name>,
+    /// The cell that it names, or 0.
+    pub cell: Addr,
+}
+
+// Makes the subject of a request that has no length and no cell.
+fn plain_subject(number: u8, name: Option<Name>) -> Subject
+    ensures number { result.number ≡ number }
+    ensures name { result.name ≡ name }
+    ensures rest { (result.least ≡ 0) × (result.cell ≡ 0) }
+{
+    Subject {
+        number: u32::from(number),
+        least: 0,
+        name,
+        cell: Addr::new(0),
+    }
+}
+
+/// Returns what a request says that the reason of its refusal does not repeat.
+pub fn subject_of(request: &Request) -> Subject
+    ensures number { result.number ≡ number_of request.now }
+    ensures least { result.least ≡ least_of request.now }
+    ensures name { result.name ≡ name_of request.now }
+    ensures cell { result.cell ≡ cell_of request.now }
+{
+    match request {
+        Request::Obtain { number, ask, .. } => Subject {
+            number: u32::from(*number),
+            least: ask.want(Side::Below).least(),
+            name: None,
+            cell: Addr::new(0),
+        },
+        Request::ObtainList { number, .. }
+        | Request::Release { number, .. }
+        | Request::ReleaseList { number, .. }
+        | Request::ReleaseWhole { number, .. } => plain_subject(*number, None),
+        Request::Build { pool, number, .. } => plain_subject(*number, Some(*pool)),
+        Request::Get { pool, .. } | Request::Delete { pool } => plain_subject(0, Some(*pool)),
+        Request::Attach { name, .. } => plain_subject(0, Some(*name)),
+        Request::Free { pool, cell } => Subject {
+            number: 0,
+            least: 0,
+            name: Some(*pool),
+            cell: *cell,
+        },
+        Request::Return
+        | Request::Abend(_)
+        | Request::Show { .. }
+        | Request::Put { .. }
+        | Request::Move { .. } => plain_subject(0, None),
+    }
+}
+
+// Returns the number of the subpool that a request names.
 fn number(request: &Request) -> u32
     ensures { result ≡ number_of request.now }
 {
-    match request {
-        Request::Obtain { number, .. }
-        | Request::ObtainList { number, .. }
-        | Request::Release { number, .. }
-        | Request::ReleaseList { number, .. }
-        | Request::ReleaseWhole { number, .. }
-        | Request::Build { number, .. } => u32::from(*number),
-        _ => 0,
-    }
+    subject_of(request).number
 }
 
-// The least length of one area, rounded up.
+// Returns the least length of one area, rounded up.
 fn least(request: &Request) -> u32
     ensures { result ≡ least_of request.now }
 {
-    match request {
-        Request::Obtain { ask, .. } => ask.want(Side::Below).least(),
-        _ => 0,
-    }
+    subject_of(request).least
 }
 
-// The cell of a request.
+// Returns the cell of a request.
 fn cell(request: &Request) -> u32
     ensures { result ≡ cell_of request.now }
 {
-    match request {
-        Request::Free { cell, .. } => cell.get(),
-        _ => 0,
-    }
+    subject_of(request).cell.get()
 }
 
 // Appends the name of the cell pool or the subtask.
@@ -59,13 +110,8 @@ fn push_named(text: &mut LineText, request: &Request)
     ensures text { text.new ≡ text.old ++ named request.now }
     ensures len { length text.new ≤ length text.old + 8 }
 {
-    match request {
-        Request::Build { pool, .. }
-        | Request::Get { pool, .. }
-        | Request::Free { pool, .. }
-        | Request::Delete { pool } => text.push_name(pool),
-        Request::Attach { name, .. } => text.push_name(name),
-        _ => {}
+    if let Some(name) = subject_of(request).name {
+        text.push_name(&name);
     }
 }
 
@@ -77,6 +123,7 @@ fn push_holder(text: &mut LineText, holder: &Holder)
 {
     match holder {
         Holder::Nobody => text.push_str(b" is free"),
+        Holder::Outside => text.push_str(b" lies in no region"),
         Holder::Subpool(number, owner) => {
             text.push_str(b" is held by SP ");
             text.push_decimal(u32::from(number.get()));
@@ -91,7 +138,7 @@ fn push_holder(text: &mut LineText, holder: &Holder)
     }
 }
 
-// Appends the free runs and pages, and the beginning of the rule.
+// Appends the free runs and pages, and the beginning of the rules.
 fn push_room(text: &mut LineText, room: &FreeSpace)
     requires { length text.old ≤ 157 }
     ensures text { text.new ≡ text.old ++ room_text room.now }
@@ -103,7 +150,7 @@ fn push_room(text: &mut LineText, room: &FreeSpace)
     text.push_decimal(room.below);
     text.push_str(b" below, ");
     text.push_decimal(room.above);
-    text.push_str(b" above. (rule ");
+    text.push_str(b" above. (");
 }
 
 // Appends that a length does not fit.
@@ -119,7 +166,7 @@ fn push_shortage(text: &mut LineText, request: &Request, room: &FreeSpace)
     text.push_decimal(room.longest);
     text.push_str(b" bytes");
     push_room(text, room);
-    text.push_str(b"12)");
+    text.push_str(b"rule 12)");
 }
 
 // Appends that other members of a list are before one.
@@ -149,7 +196,7 @@ fn push_no_member(text: &mut LineText, member: u32, short: &Shortfall)
     text.push_decimal(short.room.longest);
     text.push_str(b" bytes");
     push_room(text, &short.room);
-    text.push_str(b"22)");
+    text.push_str(b"rule 22)");
 }
 
 // Appends that a part of a pool does not fit.
@@ -168,7 +215,7 @@ fn push_no_part(text: &mut LineText, request: &Request, cells: u32, size: u32, r
     text.push_decimal(room.longest);
     text.push_str(b" bytes");
     push_room(text, room);
-    text.push_str(b"59)");
+    text.push_str(b"rules 59, 61)");
 }
 
 // Appends that an address is not on a doubleword.
@@ -186,10 +233,53 @@ fn push_off(text: &mut LineText, addr: Addr)
     text.push_str(b". (rule 29)");
 }
 
-// Appends that the subpool of a task does not hold a doubleword.
-fn push_not_held(text: &mut LineText, task: &Name, number: u32, addr: Addr, holder: &Holder)
+// Returns whether a number is one of the job step task's.
+fn is_step_number(number: u32) -> bool
+    ensures { result ≡ is_step_number number }
+{
+    number == u32::from(FIRST_STEP_NUMBER) || number == u32::from(SECOND_STEP_NUMBER)
+}
+
+// Appends that a task shares a subpool, if it does.
+fn push_sharing(text: &mut LineText, task: &Name, number: u32, owner: &Name)
+    requires { length text.old ≤ 120 }
+    ensures text { text.new ≡ text.old ++ sharing_text task.now number owner.now }
+    ensures len { length text.new ≤ length text.old + 24 }
+{
+    if is_same_name(task, owner) || is_step_number(number) {
+        return;
+    }
+    text.push_str(b", which ");
+    text.push_name(task);
+    text.push_str(b" shares,");
+}
+
+// Appends the owner of the subpool that a task means by a number.
+fn push_owner(text: &mut LineText, task: &Name, number: u32, owner: Option<Name>)
+    requires { length text.old ≤ 100 }
+    ensures text { text.new ≡ text.old ++ owner_text task.now number owner }
+    ensures len { length text.new ≤ length text.old + 40 }
+{
+    match owner {
+        Some(owner) => {
+            text.push_name(&owner);
+            push_sharing(text, task, number, &owner);
+        }
+        None => text.push_str(b"no task"),
+    }
+}
+
+// Appends that the subpool which a task means does not hold a doubleword.
+fn push_not_held(
+    text: &mut LineText,
+    task: &Name,
+    number: u32,
+    addr: Addr,
+    holder: &Holder,
+    owner: Option<Name>,
+)
     requires { length text.old ≤ 2 }
-    ensures text { text.new ≡ text.old ++ not_held_text task.now number addr holder.now }
+    ensures text { text.new ≡ text.old ++ not_held_text task.now number addr holder.now owner }
     ensures len { length text.new ≤ length text.old + 237 }
 {
     text.push_word(addr.get());
@@ -197,7 +287,7 @@ fn push_not_held(text: &mut LineText, task: &Name, number: u32, addr: Addr, hold
     text.push_str(b"; SP ");
     text.push_decimal(number);
     text.push_str(b" of ");
-    text.push_name(task);
+    push_owner(text, task, number, owner);
     text.push_str(b" does not hold it outside cell pools. (rules 26, 66)");
 }
 
@@ -217,41 +307,41 @@ fn push_overlap(text: &mut LineText, one: Addr, other: Addr, addr: Addr)
 }
 
 // Appends the name of the cell pool or the subtask, with texts before and after it.
-fn push_of(text: &mut LineText, before: &[u8], request: &Request, behind: &[u8])
+fn push_of(text: &mut LineText, before: &[u8], request: &Request, after: &[u8])
     requires old { length text.old ≤ 8 }
     requires before { length before.now ≤ 40 }
-    requires behind { length behind.now ≤ 60 }
-    ensures text { text.new ≡ text.old ++ (before.now ++ named request.now ++ behind.now) }
+    requires after { length after.now ≤ 60 }
+    ensures text { text.new ≡ text.old ++ (before.now ++ named request.now ++ after.now) }
     ensures len { length text.new ≤ length text.old + 237 }
 {
     text.push_str(before);
     push_named(text, request);
-    text.push_str(behind);
+    text.push_str(after);
 }
 
 // Appends a number, with texts before and after it.
-fn push_number(text: &mut LineText, before: &[u8], number: u32, behind: &[u8])
+fn push_number(text: &mut LineText, before: &[u8], number: u32, after: &[u8])
     requires old { length text.old ≤ 70 }
     requires before { length before.now ≤ 55 }
-    requires behind { length behind.now ≤ 25 }
-    ensures text { text.new ≡ text.old ++ (before.now ++ decimal number ++ behind.now) }
+    requires after { length after.now ≤ 25 }
+    ensures text { text.new ≡ text.old ++ (before.now ++ decimal number ++ after.now) }
     ensures len { length text.new
-        ≤ length text.old + length before.now + length behind.now + 10 }
+        ≤ length text.old + length before.now + length after.now + 10 }
 {
     text.push_str(before);
     text.push_decimal(number);
-    text.push_str(behind);
+    text.push_str(after);
 }
 
 // Appends a task, with a text after it.
-fn push_task(text: &mut LineText, task: &Name, behind: &[u8])
+fn push_task(text: &mut LineText, task: &Name, after: &[u8])
     requires old { length text.old ≤ 60 }
-    requires behind { length behind.now ≤ 80 }
-    ensures text { text.new ≡ text.old ++ (trimmed task.now ++ behind.now) }
-    ensures len { length text.new ≤ length text.old + length behind.now + 8 }
+    requires after { length after.now ≤ 80 }
+    ensures text { text.new ≡ text.old ++ (trimmed task.now ++ after.now) }
+    ensures len { length text.new ≤ length text.old + length after.now + 8 }
 {
     text.push_name(task);
-    text.push_str(behind);
+    text.push_str(after);
 }
 
 // Appends where an address is, if no taken cell begins there.
@@ -396,8 +486,8 @@ fn push_reason(text: &mut LineText, task: &Name, request: &Request, reason: &Rea
         Reason::NoMember(member, short) => push_no_member(text, *member, short),
         Reason::OffDoubleword(addr) => push_off(text, *addr),
         Reason::NoSubpool(effective_task) => push_no_subpool(text, request, effective_task),
-        Reason::NotHeld(addr, holder) => {
-            push_not_held(text, task, number(request), *addr, holder);
+        Reason::NotHeld(addr, holder, owner) => {
+            push_not_held(text, task, number(request), *addr, holder, *owner);
         }
         Reason::Overlap(one, other, addr) => push_overlap(text, *one, *other, *addr),
         Reason::NotOwned(number, owner) => push_not_owned(text, task, *number, owner),
@@ -455,7 +545,18 @@ pub fn end_line(text: &mut LineText)
     text.push(b'\n');
 }
 
-/// Prints the line that says why a line of a task is not executed as it asks.
+/// Returns the line that says why a line of a task is not executed as it asks.
+pub fn reason_text(task: &Name, request: &Request, reason: &LineReason) -> LineText
+    ensures { result ≡ reason_line task.now request.now reason.now }
+{
+    let mut text = LineText::new();
+    text.push_str(b"* ");
+    push_why(&mut text, task, request, reason);
+    end_line(&mut text);
+    text
+}
+
+/// Prints that line.
 pub fn print_reason<W: Write>(
     writer: &mut Watched<W>,
     task: &Name,
@@ -465,9 +566,6 @@ pub fn print_reason<W: Write>(
     ensures { Prints W.contents writer.old writer.new result
         (reason_line task.now request.now reason.now) }
 {
-    let mut text = LineText::new();
-    text.push_str(b"* ");
-    push_why(&mut text, task, request, reason);
-    end_line(&mut text);
+    let text = reason_text(task, request, reason);
     write_all(writer, text.as_slice())
 }

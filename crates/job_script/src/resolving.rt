@@ -19,29 +19,25 @@ use mvs_model::place::{Addr, Place};
 use mvs_model::request::{Lengths, Places, Reply, Request};
 use std::slice;
 
-// The address that is written, where its name is set.
+// Returns the address that is written, where its name is set.
 fn address(names: &NamePlaces, location: &Location) -> Option<Addr>
     ensures { result ≡ address_of names.now location.now }
 {
     match location {
         Location::Absolute(addr) => Some(*addr),
         Location::Named(name, offset) => {
-            let Some(place) = names.get(name) else {
-                return None;
-            };
+            let place = names.get(name)?;
             Some(Addr::new(place.addr().get() + offset.get()))
         }
     }
 }
 
-// The place that is written, where its name is set.
+// Returns the place that is written, where its name is set.
 fn place(names: &NamePlaces, location: &Location, len: Length) -> Option<Place>
     ensures { result
         ≡ option_map (λ a. record { addr = a; len = len }) (address_of names.now location.now) }
 {
-    let Some(addr) = address(names, location) else {
-        return None;
-    };
+    let addr = address(names, location)?;
     Some(Place::new(addr, len.get()))
 }
 
@@ -70,7 +66,7 @@ fn push_places(
     push_places(names, places, locations, lengths)
 }
 
-// The places that are written, where their names are set.
+// Returns the places that are written, where their names are set.
 fn places(names: &NamePlaces, locations: &Locations, lengths: &Lengths) -> Option<Places>
     ensures { result ≡ places_of names.now locations.now lengths.now }
 {
@@ -80,9 +76,7 @@ fn places(names: &NamePlaces, locations: &Locations, lengths: &Lengths) -> Optio
     let Some((len, lengths)) = lengths.as_slice().split_first() else {
         unreachable!()
     };
-    let Some(first) = place(names, location, *len) else {
-        return None;
-    };
+    let first = place(names, location, *len)?;
     let mut places = Places::one(first);
     if push_places(names, &mut places, locations, lengths) {
         Some(places)
@@ -91,7 +85,7 @@ fn places(names: &NamePlaces, locations: &Locations, lengths: &Lengths) -> Optio
     }
 }
 
-// The name, where it is not set.
+// Returns the name, where it is not set.
 fn unset_name(names: &NamePlaces, name: &Name) -> Option<Name>
     ensures { result ≡ first_unset names.now (name.now ∷ []) }
 {
@@ -101,7 +95,7 @@ fn unset_name(names: &NamePlaces, name: &Name) -> Option<Name>
     }
 }
 
-// The name that an address is written by, where it is not set.
+// Returns the name that an address is written by, where it is not set.
 fn unset_in(names: &NamePlaces, location: &Location) -> Option<Name>
     ensures { result ≡ first_unset names.now (name_in location.now) }
 {
@@ -111,7 +105,7 @@ fn unset_in(names: &NamePlaces, location: &Location) -> Option<Name>
     }
 }
 
-// The first name of some addresses that is not set.
+// Returns the first name of some addresses that is not set.
 fn unset_among(names: &NamePlaces, locations: &[Location]) -> Option<Name>
     ensures { result ≡ first_unset names.now (flat_map name_in locations.now) }
 {
@@ -125,7 +119,7 @@ fn unset_among(names: &NamePlaces, locations: &[Location]) -> Option<Name>
     unset_among(names, rest)
 }
 
-/// The first name that a request looks up and that is not set.
+/// Returns the first name that a request looks up and that is not set.
 pub fn unset(names: &NamePlaces, written: &SourceRequest) -> Option<Name>
     ensures { result ≡ first_unset names.now (looked_up written.now) }
 {
@@ -137,11 +131,19 @@ pub fn unset(names: &NamePlaces, written: &SourceRequest) -> Option<Name>
         SourceRequest::Show { from, .. } => unset_in(names, from),
         SourceRequest::Put { to, .. } => unset_in(names, to),
         SourceRequest::Move { to, from, .. } => unset_among(names, &[*to, *from]),
-        _ => None,
+        SourceRequest::Obtain { .. }
+        | SourceRequest::ObtainList { .. }
+        | SourceRequest::ReleaseWhole { .. }
+        | SourceRequest::Build { .. }
+        | SourceRequest::Get { .. }
+        | SourceRequest::Delete { .. }
+        | SourceRequest::Attach { .. }
+        | SourceRequest::Return
+        | SourceRequest::Abend(_) => None,
     }
 }
 
-/// The names that a request sets.
+/// Returns the names that a request sets.
 pub fn names_set(written: &SourceRequest) -> &[Name]
     ensures { result.now ≡ names_set written.now }
 {
@@ -149,18 +151,37 @@ pub fn names_set(written: &SourceRequest) -> &[Name]
         SourceRequest::Obtain { area, .. } => slice::from_ref(area),
         SourceRequest::ObtainList { areas, .. } => areas.as_slice(),
         SourceRequest::Get { cell, .. } => slice::from_ref(cell),
-        _ => &[],
+        SourceRequest::Release { .. }
+        | SourceRequest::ReleaseArea { .. }
+        | SourceRequest::ReleaseList { .. }
+        | SourceRequest::ReleaseWhole { .. }
+        | SourceRequest::Build { .. }
+        | SourceRequest::Free { .. }
+        | SourceRequest::Delete { .. }
+        | SourceRequest::Attach { .. }
+        | SourceRequest::Return
+        | SourceRequest::Abend(_)
+        | SourceRequest::Show { .. }
+        | SourceRequest::Put { .. }
+        | SourceRequest::Move { .. } => &[],
     }
 }
 
-// The places that a reply gives to names.
+// Returns the places that a reply gives to names.
 fn places_in(reply: &Reply) -> &[Place]
     ensures { result.now ≡ places_in reply.now }
 {
     match reply {
         Reply::Obtained(place) | Reply::Cell(place) => slice::from_ref(place),
         Reply::Listed(places) => places.as_slice(),
-        _ => &[],
+        Reply::NotRun
+        | Reply::Rc0
+        | Reply::Rc4
+        | Reply::NoCell
+        | Reply::Attached
+        | Reply::Ended
+        | Reply::Done
+        | Reply::Abended(..) => &[],
     }
 }
 
@@ -194,7 +215,7 @@ pub fn set_names(
     set_all(names, names_set(written), places_in(reply))
 }
 
-// A request that releases, where each name that it looks up is set.
+// Makes a request that releases, where each name that it looks up is set.
 fn release_request(names: &NamePlaces, written: &SourceRequest, request: &mut Request) -> Option<()>
     requires { IsRelease written.now }
     ensures { MatchOption result (resolved names.now written.now ≡ None)
@@ -241,12 +262,23 @@ fn release_request(names: &NamePlaces, written: &SourceRequest, request: &mut Re
                 number: *number,
             };
         }
-        _ => unreachable!(),
+        SourceRequest::Obtain { .. }
+        | SourceRequest::ObtainList { .. }
+        | SourceRequest::Build { .. }
+        | SourceRequest::Get { .. }
+        | SourceRequest::Free { .. }
+        | SourceRequest::Delete { .. }
+        | SourceRequest::Attach { .. }
+        | SourceRequest::Return
+        | SourceRequest::Abend(_)
+        | SourceRequest::Show { .. }
+        | SourceRequest::Put { .. }
+        | SourceRequest::Move { .. } => unreachable!(),
     }
     Some(())
 }
 
-// A request that reads or writes bytes, where each name that it looks up is set.
+// Makes a request that reads or writes bytes, where each name that it looks up is set.
 fn access_request(names: &NamePlaces, written: &SourceRequest, request: &mut Request) -> Option<()>
     requires { IsAccess written.now }
     ensures { MatchOption result (resolved names.now written.now ≡ None)
@@ -273,12 +305,24 @@ fn access_request(names: &NamePlaces, written: &SourceRequest, request: &mut Req
                 len: *len,
             };
         }
-        _ => unreachable!(),
+        SourceRequest::Obtain { .. }
+        | SourceRequest::ObtainList { .. }
+        | SourceRequest::Release { .. }
+        | SourceRequest::ReleaseArea { .. }
+        | SourceRequest::ReleaseList { .. }
+        | SourceRequest::ReleaseWhole { .. }
+        | SourceRequest::Build { .. }
+        | SourceRequest::Get { .. }
+        | SourceRequest::Free { .. }
+        | SourceRequest::Delete { .. }
+        | SourceRequest::Attach { .. }
+        | SourceRequest::Return
+        | SourceRequest::Abend(_) => unreachable!(),
     }
     Some(())
 }
 
-// A request that begins or ends a task.
+// Makes a request that begins or ends a task.
 fn task_request(written: &SourceRequest, request: &mut Request)
     requires { IsOfTask written.now }
     ensures { (names : FinMap name_cmp PlaceValue) → resolved names written.now ≡ Some request.new }
@@ -297,11 +341,23 @@ fn task_request(written: &SourceRequest, request: &mut Request)
         }
         SourceRequest::Return => *request = Request::Return,
         SourceRequest::Abend(code) => *request = Request::Abend(*code),
-        _ => unreachable!(),
+        SourceRequest::Obtain { .. }
+        | SourceRequest::ObtainList { .. }
+        | SourceRequest::Release { .. }
+        | SourceRequest::ReleaseArea { .. }
+        | SourceRequest::ReleaseList { .. }
+        | SourceRequest::ReleaseWhole { .. }
+        | SourceRequest::Build { .. }
+        | SourceRequest::Get { .. }
+        | SourceRequest::Free { .. }
+        | SourceRequest::Delete { .. }
+        | SourceRequest::Show { .. }
+        | SourceRequest::Put { .. }
+        | SourceRequest::Move { .. } => unreachable!(),
     }
 }
 
-// A request that obtains storage.
+// Makes a request that obtains storage.
 fn obtain_request(written: &SourceRequest, request: &mut Request)
     requires { IsObtain written.now }
     ensures { (names : FinMap name_cmp PlaceValue) → resolved names written.now ≡ Some request.new }
@@ -333,11 +389,24 @@ fn obtain_request(written: &SourceRequest, request: &mut Request)
                 start: *start,
             };
         }
-        _ => unreachable!(),
+        SourceRequest::Release { .. }
+        | SourceRequest::ReleaseArea { .. }
+        | SourceRequest::ReleaseList { .. }
+        | SourceRequest::ReleaseWhole { .. }
+        | SourceRequest::Build { .. }
+        | SourceRequest::Get { .. }
+        | SourceRequest::Free { .. }
+        | SourceRequest::Delete { .. }
+        | SourceRequest::Attach { .. }
+        | SourceRequest::Return
+        | SourceRequest::Abend(_)
+        | SourceRequest::Show { .. }
+        | SourceRequest::Put { .. }
+        | SourceRequest::Move { .. } => unreachable!(),
     }
 }
 
-// A request for a cell pool, where the name that it looks up is set.
+// Makes a request for a cell pool, where the name that it looks up is set.
 fn pool_request(names: &NamePlaces, written: &SourceRequest, request: &mut Request) -> Option<()>
     requires { IsOfPool written.now }
     ensures { MatchOption result (resolved names.now written.now ≡ None)
@@ -376,12 +445,23 @@ fn pool_request(names: &NamePlaces, written: &SourceRequest, request: &mut Reque
             *request = Request::Free { pool: *pool, cell };
         }
         SourceRequest::Delete { pool } => *request = Request::Delete { pool: *pool },
-        _ => unreachable!(),
+        SourceRequest::Obtain { .. }
+        | SourceRequest::ObtainList { .. }
+        | SourceRequest::Release { .. }
+        | SourceRequest::ReleaseArea { .. }
+        | SourceRequest::ReleaseList { .. }
+        | SourceRequest::ReleaseWhole { .. }
+        | SourceRequest::Attach { .. }
+        | SourceRequest::Return
+        | SourceRequest::Abend(_)
+        | SourceRequest::Show { .. }
+        | SourceRequest::Put { .. }
+        | SourceRequest::Move { .. } => unreachable!(),
     }
     Some(())
 }
 
-/// Whether each name that a request looks up is set: then `request` is what is asked for, written over another, so that nothing of it is copied.
+/// Returns whether each name that a request looks up is set: then `request` is what is asked for, written over another, so that nothing of it is copied.
 /// Where one is not set, what `request` holds is asked for by nobody.
 pub fn resolve(names: &NamePlaces, written: &SourceRequest, request: &mut Request) -> Option<()>
     ensures { MatchOption result (resolved names.now written.now ≡ None)

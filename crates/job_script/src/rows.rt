@@ -7,7 +7,7 @@ ghost use Rattle.job_script.specs.Rows.{row_at, as_positional, as_keyword, as_ru
 
 use crate::keys::Key;
 use crate::kinds::{Kind, Words};
-use mvs_model::numbers::{MOST_PAGES_ABOVE, MOST_PAGES_BELOW, MOST_SHOWN};
+use mvs_model::numbers::{LAST_ADDRESS, MOST_PAGES_ABOVE, MOST_PAGES_BELOW, MOST_SHOWN};
 
 /// A keyword operand, and whether it is required.
 #[derive(Clone, Copy)]
@@ -75,39 +75,42 @@ pub enum Row {
     Report,
 }
 
+/// The greatest subpool number that a statement can have. A request with one that a program may not name is refused.
+pub const MOST_NUMBER: u32 = 255;
+
 const LV: Keyword = Keyword {
     key: Key::Lv,
-    kind: Kind::Number(1, 0x7FFF_FFFF),
+    kind: Kind::Number(1, LAST_ADDRESS),
     required: true,
 };
 
 const LV_PAIR: Keyword = Keyword {
     key: Key::Lv,
-    kind: Kind::Pair(1, 0x7FFF_FFFF),
+    kind: Kind::Pair(1, LAST_ADDRESS),
     required: true,
 };
 
 const LV_OR_NONE: Keyword = Keyword {
     key: Key::Lv,
-    kind: Kind::Number(1, 0x7FFF_FFFF),
+    kind: Kind::Number(1, LAST_ADDRESS),
     required: false,
 };
 
 const LENGTHS: Keyword = Keyword {
     key: Key::Length,
-    kind: Kind::NumberOrPair(1, 0x7FFF_FFFF),
+    kind: Kind::NumberOrPair(1, LAST_ADDRESS),
     required: true,
 };
 
 const LENGTH_OR_NONE: Keyword = Keyword {
     key: Key::Length,
-    kind: Kind::Number(1, 0x7FFF_FFFF),
+    kind: Kind::Number(1, LAST_ADDRESS),
     required: false,
 };
 
 const LA: Keyword = Keyword {
     key: Key::La,
-    kind: Kind::Numbers(16, 1, 0x7FFF_FFFF),
+    kind: Kind::Numbers(16, 1, LAST_ADDRESS),
     required: true,
 };
 
@@ -155,7 +158,7 @@ const ADDR_OR_NONE: Keyword = Keyword {
 
 const SP: Keyword = Keyword {
     key: Key::Sp,
-    kind: Kind::Number(0, 255),
+    kind: Kind::Number(0, MOST_NUMBER),
     required: false,
 };
 
@@ -387,7 +390,7 @@ const GIFTS: [Rule; 3] = [
 ];
 
 impl Row {
-    /// The positional operands, at most three.
+    /// Returns the positional operands, at most three.
     pub fn positional(self) -> &'static [Positional]
         ensures row { map as_positional result.now ≡ (row_at self).positional }
         ensures few { length result.now ≤ 3 }
@@ -399,11 +402,28 @@ impl Row {
             Row::Show => &SHOW_FIRST,
             Row::Move => &MOVE_FIRST,
             Row::Where => &WHERE_FIRST,
-            _ => &[],
+            Row::Region
+            | Row::GetmainFixed
+            | Row::GetmainFixedPlaced
+            | Row::GetmainVariable
+            | Row::GetmainVariablePlaced
+            | Row::GetmainList
+            | Row::StorageObtain
+            | Row::FreemainOrWhole
+            | Row::FreemainPlace
+            | Row::FreemainArea
+            | Row::FreemainList
+            | Row::StorageRelease
+            | Row::CpoolBuild
+            | Row::CpoolFree
+            | Row::CpoolDelete
+            | Row::Attach
+            | Row::Return
+            | Row::Report => &[],
         }
     }
 
-    /// The keyword operands, at most eight.
+    /// Returns the keyword operands, at most eight.
     pub fn keywords(self) -> &'static [Keyword]
         ensures row { map as_keyword result.now ≡ (row_at self).keywords }
         ensures few { length result.now ≤ 8 }
@@ -436,7 +456,7 @@ impl Row {
         }
     }
 
-    /// What holds between the operands.
+    /// Returns what holds between the operands.
     pub fn rules(self) -> &'static [Rule]
         ensures { map as_rule result.now ≡ (row_at self).rules }
     {
@@ -448,7 +468,22 @@ impl Row {
             Row::FreemainOrWhole => &LV_AND_A,
             Row::StorageRelease => &LENGTH_AND_ADDR,
             Row::Attach => &GIFTS,
-            _ => &[],
+            Row::Region
+            | Row::GetmainFixed
+            | Row::GetmainVariable
+            | Row::FreemainPlace
+            | Row::FreemainArea
+            | Row::CpoolBuild
+            | Row::CpoolGet
+            | Row::CpoolFree
+            | Row::CpoolDelete
+            | Row::Return
+            | Row::Abend
+            | Row::Put
+            | Row::Show
+            | Row::Move
+            | Row::Where
+            | Row::Report => &[],
         }
     }
 }

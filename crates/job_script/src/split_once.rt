@@ -31,7 +31,7 @@ pub fn split_once(text: &[u8], byte: u8) -> (&[u8], Option<&[u8]>)
     }
 }
 
-/// The text from its first byte on that is no blank.
+/// Returns the text from its first byte on that is no blank.
 pub fn skip_blanks(text: &[u8]) -> &[u8]
     ensures words { words result.now ≡ words text.now }
     ensures end { IsEnd text.now result.now }
@@ -78,7 +78,7 @@ fn next_opened(opened: usize, byte: u8) -> usize
     }
 }
 
-// Where the first operand ends: at a comma outside parentheses, at a blank, or at the end.
+// Returns where the first operand ends: at a comma outside parentheses, at a blank, or at the end.
 #[tactic(auto, using(crate::proofs::Parts::end_more, crate::proofs::Parts::end_here))]
 fn operand_end(text: &[u8]) -> usize
     ensures end { result ≡ end_from 0 text.now }

@@ -88,14 +88,14 @@ fn read_row(
     given.fill(task, form, line)
 }
 
-// Whether an operand has a key.
+// Returns whether an operand has a key.
 fn has_key(operand: &[u8]) -> bool
     ensures { result ≡ has_key operand.now }
 {
     operand.iter().any(|byte| *byte == b'=')
 }
 
-// Whether the field that a text starts with is empty.
+// Returns whether the field that a text starts with is empty.
 fn is_empty(field: &[u8]) -> bool
     ensures { result ≡ is_empty (field_in field.now) }
 {
@@ -129,7 +129,7 @@ fn read_with_form(
     read_row(task, row, form, rest, line)
 }
 
-// The text of a field, where it has operands: it has none where it is empty.
+// Returns the text of a field, where it has operands: it has none where it is empty.
 fn as_field(field: &[u8]) -> Option<&[u8]>
     ensures { field_now result ≡ as_field (field_in field.now) }
 {

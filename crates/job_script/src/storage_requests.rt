@@ -14,6 +14,7 @@ use crate::digits::bounded;
 use crate::given::GivenOperands;
 use crate::items::inside;
 use crate::keys::Key;
+use crate::rows::MOST_NUMBER;
 use crate::values::{byte, extent, lengths, locations, names};
 use mvs_model::bounded::{Bounded, Exponent, PagesAbove};
 use mvs_model::code::Form;
@@ -21,7 +22,7 @@ use mvs_model::line::{Fault, Line, SourceRequest, Statement};
 use mvs_model::name::Name;
 use mvs_model::want::{AreaRequest, Loc, Residence};
 
-// The location that a word names (Assembler Services Reference, GETMAIN, LOC).
+// Returns the location that a word names (Assembler Services Reference, GETMAIN, LOC).
 fn loc_named(text: &[u8]) -> Loc
     ensures { result ≡ loc_named text.now }
 {
@@ -35,7 +36,7 @@ fn loc_named(text: &[u8]) -> Loc
 }
 
 impl GivenOperands<'_> {
-    // The number under a key, or another.
+    // Returns the number under a key, or another.
     pub fn number_or<const LEAST: u32, const MOST: u32>(
         &self,
         key: Key,
@@ -51,7 +52,7 @@ impl GivenOperands<'_> {
         }
     }
 
-    // Whether a key has this word.
+    // Returns whether a key has this word.
     pub fn is_word(&self, key: Key, word: &[u8]) -> bool
         requires { IsRead self.now }
         ensures { result ≡ is_word (key_text key) word.now (by_place self.now) }
@@ -62,18 +63,18 @@ impl GivenOperands<'_> {
         }
     }
 
-    // The number of the subpool, or 0 (Assembler Services Reference, GETMAIN, SP).
+    // Returns the number of the subpool, or 0 (Assembler Services Reference, GETMAIN, SP).
     pub fn subpool(&self) -> u8
         requires { IsRead self.now }
         ensures { result ≡ subpool (by_place self.now) }
     {
         match self.text(Key::Sp) {
             None => 0,
-            Some(text) => bounded::<0, 255>(text).get() as u8,
+            Some(text) => bounded::<0, MOST_NUMBER>(text).get() as u8,
         }
     }
 
-    // The power of two of the boundary that BNDRY says, or that of a doubleword (Assembler Services Reference, GETMAIN).
+    // Returns the power of two of the boundary that BNDRY says, or that of a doubleword (Assembler Services Reference, GETMAIN).
     fn boundary(&self) -> Exponent
         requires { IsRead self.now }
         ensures { result
@@ -86,7 +87,7 @@ impl GivenOperands<'_> {
         }
     }
 
-    // The power of two of the boundary that an area begins on: STARTBDY, or that of BNDRY (Assembler Services Reference, GETMAIN).
+    // Returns the power of two of the boundary that an area begins on: STARTBDY, or that of BNDRY (Assembler Services Reference, GETMAIN).
     fn start(&self) -> Exponent
         requires { IsRead self.now }
         ensures { result ≡ start_of (by_place self.now) }
@@ -97,7 +98,7 @@ impl GivenOperands<'_> {
         }
     }
 
-    // The location of an area.
+    // Returns the location of an area.
     pub fn loc(&self) -> Loc
         requires { IsRead self.now }
         ensures { result ≡ loc_of (by_place self.now) }
@@ -108,7 +109,7 @@ impl GivenOperands<'_> {
         }
     }
 
-    // Where the program of a task resides.
+    // Returns where the program of a task resides.
     pub fn residence(&self) -> Residence
         requires { IsRead self.now }
         ensures { result ≡ residence_of (by_place self.now) }
@@ -120,7 +121,7 @@ impl GivenOperands<'_> {
         }
     }
 
-    // The form that a word names, or that of STORAGE by COND (Assembler Services Reference, GETMAIN, FREEMAIN and STORAGE).
+    // Returns the form that a word names, or that of STORAGE by COND (Assembler Services Reference, GETMAIN, FREEMAIN and STORAGE).
     fn form(&self, word: &[u8]) -> Form
         requires { IsRead self.now }
         ensures { result ≡ form_of word.now (by_place self.now) }
@@ -147,7 +148,7 @@ impl GivenOperands<'_> {
         }
     }
 
-    // What is asked for with these lengths.
+    // Returns what is asked for with these lengths.
     fn ask(&self, lengths: &[u8]) -> AreaRequest
         requires read { IsRead self.now }
         requires extent { IsExtent lengths.now }
@@ -161,7 +162,7 @@ impl GivenOperands<'_> {
         }
     }
 
-    // REGION.
+    // Reads REGION.
     pub fn region(&self, task: Name, line: &mut Line) -> Result<(), Fault>
         requires read { IsRead self.now }
         requires below { Holds (IsRanged 1 most_pages_below)
@@ -189,7 +190,7 @@ impl GivenOperands<'_> {
         Ok(())
     }
 
-    // A request for an area, its lengths under one key and its name under another.
+    // Reads a request for an area, its lengths under one key and its name under another.
     pub fn obtain(
         &self,
         task: Name,
@@ -221,7 +222,7 @@ impl GivenOperands<'_> {
         Ok(())
     }
 
-    // A request for a list of areas.
+    // Reads a request for a list of areas.
     pub fn obtain_list(&self, task: Name, form: &[u8], line: &mut Line) -> Result<(), Fault>
         requires read { IsRead self.now }
         requires lengths { Holds (IsNumbers) ((by_place self.now).under (codes "LA")) }
@@ -244,7 +245,7 @@ impl GivenOperands<'_> {
         Ok(())
     }
 
-    // A release of the place under two keys, or of the whole subpool where neither is there.
+    // Reads a release of the place under two keys, or of the whole subpool where neither is there.
     pub fn release(
         &self,
         task: Name,
@@ -287,7 +288,7 @@ impl GivenOperands<'_> {
         }
     }
 
-    // A release of the place of an area.
+    // Reads a release of the place of an area.
     pub fn release_area(&self, task: Name, form: &[u8], line: &mut Line) -> Result<(), Fault>
         requires read { IsRead self.now }
         requires area { Holds (IsNamed) ((by_place self.now).under (codes "A")) }
@@ -306,7 +307,7 @@ impl GivenOperands<'_> {
         Ok(())
     }
 
-    // A release of a list of places.
+    // Reads a release of a list of places.
     pub fn release_list(&self, task: Name, form: &[u8], line: &mut Line) -> Result<(), Fault>
         requires read { IsRead self.now }
         requires lengths { Holds (IsNumbers) ((by_place self.now).under (codes "LA")) }

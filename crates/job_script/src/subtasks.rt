@@ -20,7 +20,7 @@ use mvs_model::gifts::Gifts;
 use mvs_model::line::{Fault, Line, SourceRequest, Statement};
 use mvs_model::name::Name;
 
-// The set of one number.
+// Returns the set of one number.
 fn bit(number: u64) -> u128
     requires { number < task_numbers }
     ensures { result ≡ 2 ^ number }
@@ -28,7 +28,7 @@ fn bit(number: u64) -> u128
     1u128 << number
 }
 
-// The set of the numbers of a list from 1 to 127, a bit for each.
+// Returns the set of the numbers of a list from 1 to 127, a bit for each.
 fn set(items: &[u8]) -> u128
     requires { AreGifts (items_in items.now) }
     ensures { result ≡ set_of (map number (items_in items.now)) }
@@ -40,7 +40,7 @@ fn set(items: &[u8]) -> u128
     }
 }
 
-// The set of a number or of a list of numbers.
+// Returns the set of a number or of a list of numbers.
 fn set_in(text: &[u8]) -> u128
     requires { AreGiven (Some text.now) }
     ensures { result ≡ set_of (numbers_in (Some text.now)) }
@@ -52,7 +52,7 @@ fn set_in(text: &[u8]) -> u128
 }
 
 impl GivenOperands<'_> {
-    // The set of the numbers under one of two keys.
+    // Returns the set of the numbers under one of two keys.
     fn set_under(&self, one: Key, list: Key) -> u128
         requires read { IsRead self.now }
         requires one { AreGiven ((by_place self.now).under (key_text one)) }
@@ -71,7 +71,7 @@ impl GivenOperands<'_> {
         }
     }
 
-    /// ATTACH (Assembler Services Reference).
+    /// Reads ATTACH (Assembler Services Reference).
     pub fn attach(&self, task: Name, line: &mut Line) -> Result<(), Fault>
         requires read { IsRead self.now }
         requires name { Holds (IsNamed) ((by_place self.now).under (codes "TASK")) }
@@ -105,7 +105,7 @@ impl GivenOperands<'_> {
         Ok(())
     }
 
-    /// ABEND (Assembler Services Reference).
+    /// Reads ABEND (Assembler Services Reference).
     pub fn abend(&self, task: Name, line: &mut Line) -> Result<(), Fault>
         requires read { IsRead self.now }
         requires code { Holds (IsRanged 0 4095) ((by_place self.now).at 0) }

@@ -30,6 +30,7 @@ impl Model for LineText {
 }
 
 impl LineText {
+    /// Makes an empty text.
     pub fn new() -> LineText
         ensures { result ≡ [] }
     {
@@ -39,13 +40,14 @@ impl LineText {
         }
     }
 
+    /// Returns its bytes.
     pub fn as_slice(&self) -> &[u8]
         ensures { result.now ≡ self.now }
     {
         &self.bytes[..self.len]
     }
 
-    /// How many bytes it has.
+    /// Returns how many bytes it has.
     pub fn len(&self) -> usize
         ensures { result ≡ length self.now }
     {
@@ -60,6 +62,7 @@ impl LineText {
         self.len = len;
     }
 
+    /// Appends a byte.
     pub fn push(&mut self, byte: u8)
         requires { length self.old < 240 }
         ensures text { self.new ≡ self.old ++ byte ∷ [] }
@@ -69,6 +72,7 @@ impl LineText {
         self.len += 1;
     }
 
+    /// Appends bytes.
     pub fn push_str(&mut self, bytes: &[u8])
         requires { length self.old + length bytes.now ≤ 240 }
         ensures text { self.new ≡ self.old ++ bytes.now }
@@ -79,7 +83,7 @@ impl LineText {
         self.len = end;
     }
 
-    /// A name without its padding, which may take eight bytes while it is put there.
+    /// Appends a name without its padding, which may take eight bytes while it is put there.
     pub fn push_name(&mut self, name: &Name)
         requires { length self.old + 8 ≤ 240 }
         ensures text { self.new ≡ self.old ++ trimmed name.now }
@@ -90,7 +94,7 @@ impl LineText {
         self.len = at + name.text().len();
     }
 
-    /// The two hexadecimal digits of a byte.
+    /// Appends the two hexadecimal digits of a byte.
     pub fn push_byte(&mut self, byte: u8)
         requires { length self.old + 2 ≤ 240 }
         ensures text { self.new ≡ self.old ++ hex 2 byte }
@@ -102,7 +106,7 @@ impl LineText {
         self.len = at + 2;
     }
 
-    // The two digits of each byte, one byte after another.
+    // Appends the two digits of each byte, one byte after another.
     fn push_each(&mut self, bytes: &[u8])
         requires { length self.old + 2 * length bytes.now ≤ 240 }
         ensures text { self.new ≡ self.old ++ flat_map (hex 2) bytes.now }
@@ -113,7 +117,7 @@ impl LineText {
         }
     }
 
-    /// The two hexadecimal digits of each byte.
+    /// Appends the two hexadecimal digits of each byte.
     pub fn push_bytes(&mut self, bytes: &[u8])
         requires { length self.old + 2 * length bytes.now ≤ 240 }
         ensures text { self.new ≡ self.old ++ flat_map (hex 2) bytes.now }
@@ -127,7 +131,7 @@ impl LineText {
         self.push_each(&bytes[done..]);
     }
 
-    /// The four hexadecimal digits of a number of sixteen bits.
+    /// Appends the four hexadecimal digits of a number of sixteen bits.
     pub fn push_halfword(&mut self, number: u16)
         requires { length self.old + 4 ≤ 240 }
         ensures text { self.new ≡ self.old ++ hex 4 number }
@@ -137,7 +141,7 @@ impl LineText {
         self.push_byte((number % 256) as u8);
     }
 
-    /// The eight hexadecimal digits of a number of 32 bits.
+    /// Appends the eight hexadecimal digits of a number of 32 bits.
     pub fn push_word(&mut self, number: u32)
         requires { length self.old + 8 ≤ 240 }
         ensures text { self.new ≡ self.old ++ hex 8 number }
@@ -147,7 +151,7 @@ impl LineText {
         self.push_halfword((number % 65_536) as u16);
     }
 
-    /// A number in decimal, without leading zeros.
+    /// Appends a number in decimal, without leading zeros.
     pub fn push_decimal(&mut self, number: u32)
         requires { length self.old + 10 ≤ 240 }
         ensures text { self.new ≡ self.old ++ decimal number }
@@ -156,7 +160,7 @@ impl LineText {
         self.push_digits(number);
     }
 
-    // The digits of a number, the high ones first, three at a time.
+    // Appends the digits of a number, the high ones first, three at a time.
     fn push_digits(&mut self, number: u32)
         requires { length self.old + length (decimal number) ≤ 240 }
         ensures { self.new ≡ self.old ++ decimal number }
@@ -173,7 +177,7 @@ impl LineText {
         }
     }
 
-    // The last three digits of a number.
+    // Appends the last three digits of a number.
     fn push_three(&mut self, number: u32)
         requires { length self.old + 3 ≤ 240 }
         ensures { self.new
@@ -187,7 +191,7 @@ impl LineText {
         self.len = at + 3;
     }
 
-    // The last two digits of a number.
+    // Appends the last two digits of a number.
     fn push_two(&mut self, number: u32)
         requires { length self.old + 2 ≤ 240 }
         ensures { self.new ≡ self.old ++ (48 + number / 10 % 10) ∷ (48 + number % 10) ∷ [] }
@@ -198,7 +202,7 @@ impl LineText {
         self.len = at + 2;
     }
 
-    /// The last digits of a number in a base of at most sixteen, as many as are asked for.
+    /// Appends the last digits of a number in a base of at most sixteen, as many as are asked for.
     pub fn push_last(&mut self, base: u32, digits: u32, number: u32)
         requires some { 2 ≤ base }
         requires most { base ≤ 16 }
@@ -213,14 +217,14 @@ impl LineText {
     }
 }
 
-// The last digit of a number in decimal.
+// Returns the last digit of a number in decimal.
 fn last_digit(number: u32) -> u8
     ensures { result ≡ 48 + number % 10 }
 {
     b'0' + (number % 10) as u8
 }
 
-// The glyph of a digit below sixteen.
+// Returns the glyph of a digit below sixteen.
 fn digit_glyph(digit: u8) -> u8
     requires { digit < 16 }
     ensures { result ≡ glyph digit }
@@ -228,7 +232,7 @@ fn digit_glyph(digit: u8) -> u8
     GLYPHS[usize::from(digit)]
 }
 
-// The same, computed, which can be done for many digits at once.
+// Returns the glyph of a digit below sixteen, computed and not looked up, so that the compiler can do many digits at once.
 fn computed_glyph(digit: u8) -> u8
     requires { digit < 16 }
     ensures { result ≡ glyph digit }
@@ -240,7 +244,7 @@ fn computed_glyph(digit: u8) -> u8
     }
 }
 
-// The two digits of each of sixteen bytes.
+// Returns the two digits of each of sixteen bytes.
 fn digits_of_sixteen(bytes: &[u8]) -> [u8; 32]
     requires { length bytes.now ≡ 16 }
     ensures { result ≡ flat_map (hex 2) bytes.now }

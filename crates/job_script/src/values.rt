@@ -15,7 +15,7 @@ use mvs_model::line::{Locations, Names};
 use mvs_model::request::{Bytes, Lengths};
 use mvs_model::short_list::ShortList;
 
-/// The largest and the smallest length, which are one where one is written.
+/// Returns the largest and the smallest length, which are one where one is written.
 pub fn extent(text: &[u8]) -> (Length, Length)
     requires { IsExtent text.now }
     ensures largest { result.0 ≡ largest text.now }
@@ -34,7 +34,7 @@ pub fn extent(text: &[u8]) -> (Length, Length)
     }
 }
 
-/// The lengths of a list.
+/// Returns the lengths of a list.
 pub fn lengths(text: &[u8]) -> Lengths
     requires { IsNumbers text.now }
     ensures { result ≡ map number (items text.now) }
@@ -49,7 +49,7 @@ pub fn lengths(text: &[u8]) -> Lengths
     list
 }
 
-/// The names of a list.
+/// Returns the names of a list.
 pub fn names(text: &[u8]) -> Names
     requires { IsNames text.now }
     ensures { result ≡ map padded (items text.now) }
@@ -64,7 +64,7 @@ pub fn names(text: &[u8]) -> Names
     list
 }
 
-/// The locations of a list of addresses.
+/// Returns the locations of a list of addresses.
 pub fn locations(text: &[u8]) -> Locations
     requires { IsLocations text.now }
     ensures { result ≡ map location (items text.now) }
@@ -79,7 +79,7 @@ pub fn locations(text: &[u8]) -> Locations
     list
 }
 
-// The byte that two hexadecimal digits write.
+// Returns the byte that two hexadecimal digits write.
 pub fn byte(digits: &[u8]) -> u8
     requires two { length digits.now ≡ 2 }
     requires digits { list_all is_hex_digit digits.now ≡ true }
@@ -100,7 +100,7 @@ fn next_byte(digits: &[u8]) -> (u8, &[u8])
     (byte(first), rest)
 }
 
-/// The bytes between quotes.
+/// Returns the bytes between quotes.
 pub fn bytes(text: &[u8]) -> Bytes
     requires { IsSomeBytes text.now }
     ensures { result ≡ hex_bytes (quoted text.now) }
@@ -111,9 +111,9 @@ pub fn bytes(text: &[u8]) -> Bytes
     let (first, mut rest) = next_byte(digits);
     let mut list = ShortList::one(first);
     'bytes: while rest.len() >= 2 {
-        let (byte, behind) = next_byte(rest);
+        let (byte, next) = next_byte(rest);
         list.push(byte);
-        rest = behind;
+        rest = next;
     }
     list
 }

@@ -35,7 +35,7 @@ module _ {A : Type 0} (reply_of : A → Reply) (old : State) (t : Name) (request
     at (Ok a) h is = subst (λ r. Tries (λ _. reply) old t request r new) (sym is.1) (h.0, subst (λ r. Does old t request r new) (sym is.0) h.1)
     at (Err refusal) h is = subst (λ r. Tries (λ _. reply) old t request r new) (sym is) h
 
--- an area that takes the address that is told
+-- an area that takes the hinted address
 pub area_told : (hints : List ℕ) (old : State) (t : Name) (form : Form) (number : ℕ) (ask : AskValue) (answer : Result PlaceValue Refusal) (reply : Reply) (result : Result (Unit {0}) Refusal) (new : State) → RepliesWith Obtained answer reply result
     → IfOk answer (TakesArea old t form number ask (first_of hints)) → OnOk result (Takes hints old t (Obtain form number ask) reply new)
 area_told hints old t form number ask (Ok p) reply result new is takes = subst (λ r. OnOk r (Takes hints old t (Obtain form number ask) reply new)) (sym is.1) (subst (λ x. Takes hints old t (Obtain form number ask) x new) (sym is.0) takes)
@@ -47,7 +47,7 @@ pub area_values : (hints : List ℕ) (old : State) (t : Name) (form : Form) (num
 area_values hints old t form number lengths start (Ok ps) reply result new is takes = subst (λ r. OnOk r (Takes hints old t (ObtainList form number lengths start) reply new)) (sym is.1) (subst (λ x. Takes hints old t (ObtainList form number lengths start) x new) (sym is.0) takes)
 area_values hints old t form number lengths start (Err refusal) reply result new is takes = subst (λ r. OnOk r (Takes hints old t (ObtainList form number lengths start) reply new)) (sym is) tt
 
--- a cell that takes the address that is told
+-- a cell that takes the hinted address
 pub cell_told : (hints : List ℕ) (old : State) (t name : Name) (conditional : Bool) (answer : Result PlaceValue Refusal) (reply : Reply) (result : Result (Unit {0}) Refusal) (new : State) → RepliesWith Cell answer reply result
     → IfOk answer (TakesCell old name hints) → OnOk result (Takes hints old t (Get name conditional) reply new)
 cell_told hints old t name conditional (Ok p) reply result new is takes = subst (λ r. OnOk r (Takes hints old t (Get name conditional) reply new)) (sym is.1) (subst (λ x. Takes hints old t (Get name conditional) x new) (sym is.0) takes)

@@ -170,14 +170,14 @@ impl Step {
         })
     }
 
-    /// Whether the task is active.
+    /// Returns whether the task is active.
     pub fn is_active(&self, name: &Name) -> bool
         ensures { result ≡ is_active self.now.state.owners name.now }
     {
         self.machine.find(name).is_some()
     }
 
-    /// Whether a task has abended so far.
+    /// Returns whether a task has abended so far.
     pub fn abended(&self) -> bool
         ensures { result ≡ self.now.abended }
     {
@@ -208,7 +208,7 @@ impl Step {
         self.machine.write(place, bytes)
     }
 
-    /// The line of REPORT SP for the first number at or after `from` that the task has. None where it has none, as where
+    /// Returns the line of REPORT SP for the first number at or after `from` that the task has. None where it has none, as where
     /// it is not active.
     pub fn subpool_line(&self, name: &Name, from: u8) -> Option<SubpoolLine>
         ensures { MatchOption result
@@ -218,7 +218,7 @@ impl Step {
         self.machine.subpool_line(name, from)
     }
 
-    /// The first run of REPORT MAP that begins at or after an address. None where there is none.
+    /// Returns the first run of REPORT MAP that begins at or after an address. None where there is none.
     pub fn map_run(&self, from: Addr) -> Option<MapRun>
         ensures { MatchOption result (IsMapEnd self.now.state from) (IsMapRun self.now.state from) }
     {
@@ -247,7 +247,10 @@ impl Step {
             → MemberLacks self.now.state name.now request.now k left.now }
         ensures { Explains self.now.state name.now request.now refusal result }
     {
-        self.machine.details(*name, request, refusal, left)
+        match self.machine.find(name) {
+            Some(t) => self.machine.details(t, request, refusal, left),
+            None => Reason::NotActive,
+        }
     }
 
     // Ends a task that abends, and writes the reply. It is a separate function because the compiler clears the space of the names
@@ -287,9 +290,7 @@ impl Step {
         ensures left { (k : ℕ) → result ≡ Err (Member k)
             → MemberLacks self.old.state name.now request.now k left.new }
     {
-        let Some(t) = self.machine.find(name) else {
-            return Err(Refusal::NotActive);
-        };
+        let t = self.machine.find(name).ok_or(Refusal::NotActive)?;
         act(&mut self.machine, t, request, hints, reply, left)
     }
 

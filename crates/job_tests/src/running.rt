@@ -5,6 +5,7 @@ use mvs_job::{AddressHints, RunFault, run_job};
 use mvs_model::outcome::Outcome;
 use mvs_model::want::Placement;
 use mvs_model::watched::Watched;
+use std::io::{Read, Write};
 use std::test::Fail;
 
 const FIRST: &[u8] = b"JOB REGION BELOW=1\nJOB GETMAIN R,LV=4096,A=X\nJOB WHERE X\n";
@@ -18,6 +19,19 @@ const SHORTAGE: &[u8] =
 const SHORTAGE_PRINTED: &[u8] =
     b"1 JOB REGION BELOW 1 ABOVE 0\n2 JOB RC 4\n3 JOB ABEND S80A\n4 JOB NOT RUN\nSTEP ENDED RC 8\n";
 
+// Runs a script. Returns how the run ends, and its reader and its writer.
+fn run<R: Read, W: Write>(
+    rt: &HostRuntime,
+    reader: R,
+    writer: W,
+) -> (Result<Outcome, RunFault>, Watched<R>, Watched<W>) {
+    let mut reader = Watched::new(reader);
+    let mut writer = Watched::new(writer);
+    let hints = AddressHints::nothing(rt.alloc());
+    let ended = run_job(rt.alloc(), &mut reader, &mut writer, Placement::Low, hints);
+    (ended, reader, writer)
+}
+
 // A body that always reports that memory is exhausted meets the contract. With enough memory the job runs.
 #[test]
 fn runs_scripts_a_byte_a_call(rt: HostRuntime) -> Result<(), Fail> {
@@ -30,24 +44,23 @@ fn runs_scripts_a_byte_a_call(rt: HostRuntime) -> Result<(), Fail> {
             Outcome::ScriptFault,
         ),
     ] {
-        let mut reader = Watched::new(Trickle {
+        let reader = Trickle {
             rest: script,
             calls: 1_000,
-        });
-        let mut writer = Watched::new(Narrow {
+        };
+        let writer = Narrow {
             bytes: Vec::new(rt.alloc()),
             most: 1_000,
             refusal: WriterEnd::Fails,
-        });
-        let hints = AddressHints::nothing(rt.alloc());
-        let outcome = run_job(rt.alloc(), &mut reader, &mut writer, Placement::Low, hints)?;
-        assert_eq!(rt; outcome, ends);
+        };
+        let (outcome, _, writer) = run(&rt, reader, writer);
+        assert_eq!(rt; outcome?, ends);
         assert!(rt; writer.into_inner().bytes.as_slice() == printed);
     }
     Ok(())
 }
 
-// How many lines have ended in a text.
+// Returns how many lines have ended in a text.
 fn ended_lines(text: &[u8]) -> usize {
     text.iter().filter(|byte| **byte == b'\n').count()
 }
@@ -56,10 +69,8 @@ fn ended_lines(text: &[u8]) -> usize {
 #[test]
 fn reports_each_failed_read(rt: HostRuntime) -> Result<(), Fail> {
     for calls in 0..FIRST.len() + 1 {
-        let mut reader = Watched::new(Trickle { rest: FIRST, calls });
-        let mut writer = Watched::new(Vec::new(rt.alloc()));
-        let hints = AddressHints::nothing(rt.alloc());
-        let ended = run_job(rt.alloc(), &mut reader, &mut writer, Placement::Low, hints);
+        let reader = Trickle { rest: FIRST, calls };
+        let (ended, reader, writer) = run(&rt, reader, Vec::new(rt.alloc()));
         assert_eq!(rt; ended, Err(RunFault::Read), "after {calls} calls");
         assert!(rt; reader.failed());
         let written = writer.into_inner();
@@ -77,14 +88,12 @@ fn reports_each_failed_read(rt: HostRuntime) -> Result<(), Fail> {
 fn reports_each_failed_write(rt: HostRuntime) -> Result<(), Fail> {
     for refusal in [WriterEnd::Fails, WriterEnd::TakesNone] {
         for most in 0..FIRST_PRINTED.len() {
-            let mut reader = Watched::new(FIRST);
-            let mut writer = Watched::new(Narrow {
+            let writer = Narrow {
                 bytes: Vec::new(rt.alloc()),
                 most,
                 refusal,
-            });
-            let hints = AddressHints::nothing(rt.alloc());
-            let ended = run_job(rt.alloc(), &mut reader, &mut writer, Placement::Low, hints);
+            };
+            let (ended, _, writer) = run(&rt, FIRST, writer);
             assert_eq!(rt; ended, Err(RunFault::Write), "after {most} bytes");
             assert!(rt; writer.failed());
             assert!(rt; writer.into_inner().bytes.as_slice() == &FIRST_PRINTED[..most]);

@@ -136,10 +136,10 @@ module _ (one other : JobValue) (t : Name) (x y : Answer) (a b : JobValue) (like
     pools_kept e f = (ap (λ st. st.owners) e ∙ like.owners ∙ sym (ap (λ st. st.owners) f), λ name. ap (λ st. pool_at st name) e ∙ like.pools name ∙ sym (ap (λ st. pool_at st name) f))
 
     to_x : {v : Way} → way (answer_of one.state k r m.reply) ≡ v → way x ≡ v
-    to_x e = ap way m.told ∙ e
+    to_x e = ap way m.answer_is ∙ e
 
     to_y : {v : Way} → way (answer_of other.state k q n.reply) ≡ v → way y ≡ v
-    to_y e = ap way n.told ∙ e
+    to_y e = ap way n.answer_is ∙ e
 
     steps : Turned one.state t k r m.reply a.state → Turned other.state t k q n.reply b.state → AreAlike a b
     steps (stays w e l c) (stays u f h d) = finish (pools_kept e f) (l ∙ sym h) (c ∙ sym d) (ap (λ st. st.regions) e ∙ like.regions ∙ sym (ap (λ st. st.regions) f))

@@ -1,4 +1,4 @@
--- A request for an area, and a question behind it where the area lies.
+-- A request for an area, and a question after it where the area lies.
 use Rattle.std.proofs.Common.{◌≡◌, ℕ, ◌<◌, ◌⊎◌, inl, inr, Bool, true, false, cond, List, [], ◌∷◌, ◌++◌, length, codes, Some, arith, refl, sym, ap, ◌∙◌, subst}
 use Rattle.std.specs.Prelude.{not, ◌||◌, ◌^◌}
 use Rattle.std.specs.Bool.{MatchBool}
@@ -69,7 +69,7 @@ grant_long form n ask false area p number t = refl
 -- ---- the grant
 
 -- Both are granted an area, at places of their own, and answered so.
-pub record Apart (told : List ℕ) (old a b : JobValue) (t area : Name) (v : Bool) (answer : Answer) : Type 0 where
+pub record Apart (hints : List ℕ) (old a b : JobValue) (t area : Name) (v : Bool) (answer : Answer) : Type 0 where
   pub long : IsLong v answer
   active : is_active old.state.owners t ≡ true
   keeps : Name
@@ -83,9 +83,9 @@ pub record Apart (told : List ℕ) (old a b : JobValue) (t area : Name) (v : Boo
   names_other : b.names ≡ insert old.names area other
   abended : a.abended ≡ b.abended
   former : a.former ≡ b.former
-  takes : (k : ℕ) → told ≡ k ∷ [] → FollowsHint old.state keeps number want k one
+  takes : (k : ℕ) → hints ≡ k ∷ [] → FollowsHint old.state keeps number want k one
 
-module _ (told : List ℕ) (old : JobValue) (t : Name) (answer other : Answer) (a b : JobValue) (form : Form) (number : ℕ) (ask : AskValue) (v : Bool) (area : Name) (ranged : IsAsk ask) where
+module _ (hints : List ℕ) (old : JobValue) (t : Name) (answer other : Answer) (a b : JobValue) (form : Form) (number : ℕ) (ask : AskValue) (v : Bool) (area : Name) (ranged : IsAsk ask) where
   abbrev k : SourceRequest
   k = written.Obtain form number ask v area
 
@@ -96,28 +96,28 @@ module _ (told : List ℕ) (old : JobValue) (t : Name) (answer other : Answer) (
   want = want_of ask (side_for old.state t form ask.loc)
 
   abbrev Alike : Type 0
-  Alike = (answer ≡ other) × ((a ≡ b) ⊎ Apart told old a b t area v answer)
+  Alike = (answer ≡ other) × ((a ≡ b) ⊎ Apart hints old a b t area v answer)
 
   same_answer : (v : Bool) (p q : PlaceValue) → p.len ≡ q.len → grant_answer (written.Obtain form number ask v area) p ≡ grant_answer (written.Obtain form number ask v area) q
   same_answer true p q e = ap tells.Granted e
   same_answer false p q e = refl
 
-  obtains : Makes (Takes told) old t k (request.Obtain form number ask) answer a → Makes Any old t k (request.Obtain form number ask) other b → Alike
+  obtains : Makes (Takes hints) old t k (request.Obtain form number ask) answer a → Makes Any old t k (request.Obtain form number ask) other b → Alike
   obtains x y = by_active (is_active old.state.owners t) (step_cases old.state t (request.Obtain form number ask) x.reply a.state x.step) (step_cases old.state t (request.Obtain form number ask) y.reply b.state y.step) (λ p q. none (ap granted_at p.0) (ap granted_at q.0))
       (λ active p q. by_two (is_invalid number) p q (λ u v. none (ap granted_at u.1) (ap granted_at v.1)) (at active)) where
         none : granted_at x.reply ≡ [] → granted_at y.reply ≡ [] → Alike
         none e f =
             let s = one_step old.state t (request.Obtain form number ask) x.reply y.reply a.state b.state x.step y.step (e ∙ sym f) in
-            let m = made_same (Takes told) old t answer other a b k (request.Obtain form number ask) x y s.0 s.1 in
+            let m = made_same (Takes hints) old t answer other a b k (request.Obtain form number ask) x y s.0 s.1 in
             (m.0, inl m.1)
 
         both : is_active old.state.owners t ≡ true → (p q : PlaceValue) → x.reply ≡ Obtained p → y.reply ≡ Obtained q → GrantTo old.state keeps number want p a.state → GrantTo old.state keeps number want q b.state → Alike
         both active p q d e g h =
             let s = one_subpool old.state.owners keeps number g.subpool h.subpool g.is_subpool h.is_subpool in
             let len = same_length old.state h.subpool want p q (subst (λ s. Chosen old.state.regions (holder old.state) s want p) s g.chosen) h.chosen in (
-              x.told ∙ ap (answer_of old.state k (request.Obtain form number ask)) d ∙ same_answer v p q len ∙ sym (y.told ∙ ap (answer_of old.state k (request.Obtain form number ask)) e),
+              x.answer_is ∙ ap (answer_of old.state k (request.Obtain form number ask)) d ∙ same_answer v p q len ∙ sym (y.answer_is ∙ ap (answer_of old.state k (request.Obtain form number ask)) e),
               inr (record {
-                long = subst (IsLong v) (sym (x.told ∙ ap (answer_of old.state k (request.Obtain form number ask)) d)) (grant_long form number ask v area p);
+                long = subst (IsLong v) (sym (x.answer_is ∙ ap (answer_of old.state k (request.Obtain form number ask)) d)) (grant_long form number ask v area p);
                 active = active;
                 keeps = keeps;
                 number = number;
@@ -130,7 +130,7 @@ module _ (told : List ℕ) (old : JobValue) (t : Name) (answer other : Answer) (
                 names_other = y.names ∙ ap (λ reply. all_set old.names (names_set k) (places_in reply)) e;
                 abended = x.abended ∙ ap (λ reply. old.abended || is_abend reply) d ∙ sym (y.abended ∙ ap (λ reply. old.abended || is_abend reply) e);
                 former = x.former ∙ sym y.former;
-                takes = λ n e. (subst (λ reply. Takes told old.state t (request.Obtain form number ask) reply a.state) d x.meets) n (ap first_of e);
+                takes = λ n e. (subst (λ reply. Takes hints old.state t (request.Obtain form number ask) reply a.state) d x.meets) n (ap first_of e);
               }),
             )
 
@@ -141,10 +141,10 @@ module _ (told : List ℕ) (old : JobValue) (t : Name) (answer other : Answer) (
         at active (inr u) (inl v) = absurd (no_grant old.state keeps number want u.0 a.state (round8_some ask.least ranged.some) v.0 u.2)
         at active (inr u) (inr v) = both active u.0 v.0 u.1 v.1 u.2 v.2
 
-  pub asked : Does (Takes told) old t (says.Request k) answer a → Does Any old t (says.Request k) other b → Alike
+  pub asked : Does (Takes hints) old t (says.Request k) answer a → Does Any old t (says.Request k) other b → Alike
   asked x y = by_two (not (is_active old.state.owners t)) x y (λ p q. (p.0 ∙ sym q.0, inl (p.1 ∙ sym q.1))) obtains
 
--- a task is active behind a grant
+-- a task is active after a grant
 pub task_stays : (old new : State) (t holds : Name) (number : ℕ) (wanted : WantValue) (p : PlaceValue) → GrantTo old holds number wanted p new → is_active old.owners t ≡ true → is_active new.owners t ≡ true
 task_stays old new t holds number wanted p g e = ap (λ tasks. contains_key tasks t) (enters_tasks old.owners holds number g.subpool new.owners g.owners) ∙ e
 
@@ -158,8 +158,8 @@ small r p bounded (inr i) = let b = bounded.above in omega (arith, i.0, i.1, b)
 pub name_put : (names : FinMap name_cmp PlaceValue) (area : Name) (p : PlaceValue) → get (insert names area p) area ≡ Some p
 name_put names area p = get-insert name_cmp_total names area p area ∙ ap (λ b. cond b (Some p) (get names area)) (same_name_self area)
 
--- What is told of where the two lie, and what follows where they lie at one address.
-pub record Located (told : List ℕ) (a b : JobValue) (answer other : Answer) : Type 0 where
+-- What is known of where the two are, and what follows if they are at one address.
+pub record Located (hints : List ℕ) (a b : JobValue) (answer other : Answer) : Type 0 where
   pub one : ℕ
   pub another : ℕ
   pub answer_is : answer ≡ At one
@@ -167,9 +167,9 @@ pub record Located (told : List ℕ) (a b : JobValue) (answer other : Answer) : 
   pub small_one : one < 2 ^ 31
   pub small_another : another < 2 ^ 31
   pub same : one ≡ another → a ≡ b
-  pub takes : (k : ℕ) → told ≡ k ∷ [] → another ≡ k → one ≡ k
+  pub takes : (k : ℕ) → hints ≡ k ∷ [] → another ≡ k → one ≡ k
 
-module _ (told : List ℕ) (old a b : JobValue) (t area : Name) (v : Bool) (first : Answer) (h : Apart told old a b t area v first) where
+module _ (hints : List ℕ) (old a b : JobValue) (t area : Name) (v : Bool) (first : Answer) (h : Apart hints old a b t area v first) where
   active_then : (new : State) (holds : Name) (number : ℕ) (wanted : WantValue) (p : PlaceValue) → GrantTo old.state holds number wanted p new → is_active new.owners t ≡ true
   active_then new holds number wanted p g = task_stays old.state new t holds number wanted p g h.active
 
@@ -183,7 +183,7 @@ module _ (told : List ℕ) (old a b : JobValue) (t area : Name) (v : Bool) (firs
       let names : a.names ≡ b.names = h.names ∙ ap (insert old.names area) s.0 ∙ sym h.names_other in
       λ i. record { state = s.1 i; names = names i; abended = h.abended i; former = h.former i }
 
-  pub located : (P : Condition) (answer other : Answer) (c d : JobValue) → IsBounded old.state.regions → Does P a t (says.Where area) answer c → Does Any b t (says.Where area) other d → Located told c d answer other
+  pub located : (P : Condition) (answer other : Answer) (c d : JobValue) → IsBounded old.state.regions → Does P a t (says.Where area) answer c → Does Any b t (says.Where area) other d → Located hints c d answer other
   located P answer other c d bounded x y =
       let p = when_active _ _ (is_active a.state.owners t) (active_then a.state h.keeps h.number h.want h.one h.granted) x in
       let q = when_active _ _ (is_active b.state.owners t) (active_then b.state h.keeps h.number h.want h.other h.granted_other) y in

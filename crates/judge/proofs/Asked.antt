@@ -24,7 +24,7 @@ asked_behind : (served left : List (List ℕ)) → GrantsAreShown (served ++ lef
 asked_behind [] left a = a
 asked_behind (bytes ∷ served) left a = asked_behind served left a.1
 
--- a request stands behind the first statement
+-- a request stands after the first statement
 not_first : (first : Bool) (l : Line) → leaves_open l ≡ true → IsLine first (Ok l) → first ≡ false
 not_first first line.Nothing opens x = absurd (let e : false ≡ true = opens in cc)
 not_first first (line.Statement t (says.Region below above fill residence)) opens x = absurd (let e : false ≡ true = opens in cc)
@@ -106,7 +106,7 @@ open_other number step bytes lines rest (l, is, (opens, no_area, no_list)) = (l,
   at (question ∷ lines) (inl (t, a, v, asks, is_question)) = no_area t a v asks
   at lines (inr (t, areas, asks, each)) = no_list t areas asks
 
--- a list behind which its areas are not asked for
+-- a list after which its areas are not asked for
 pub open_list : (number : ℕ) (step : Option JobValue) (bytes : List ℕ) (lines : List (List ℕ)) (rest : List ℕ) (task : Name) (areas : List Name) → IsList step bytes task areas → (AskEach lines task areas → ⊥) → IsOpen number step (bytes ∷ lines) rest
 unfolding task_in areas_in is_area
 open_list number step bytes lines rest task areas (l, is, asks) none = (l, is, ap leaves_open asks.4, λ asked. absurd (at lines none asked)) where

@@ -42,8 +42,8 @@ module _ (old : JobValue) (t : Name) (x : Answer) (new : JobValue) (number : ℕ
   asks_found : is_active old.state.owners t ≡ true → (k : SourceRequest) (o : Option Request) → resolved old.names k ≡ o → ShowsSome (statement.Request k) → is_settled (statement.Request k) x ≡ false → Asks Any old t k o x new → Found old.state.owners number t (statement.Request k) x
   asks_found active k None e some u m = true_false (sym (ap (is_settled (statement.Request k)) m.0) ∙ u)
   asks_found active k (Some r) e some u m =
-      subst (Found old.state.owners number t (statement.Request k)) (sym m.told)
-      (opened old.names old.state t new.state m.reply number k r e some (ap (request_settled k) (sym m.told) ∙ unsettled k x u) (acted old.state t r m.reply new.state active m.step))
+      subst (Found old.state.owners number t (statement.Request k)) (sym m.answer_is)
+      (opened old.names old.state t new.state m.reply number k r e some (ap (request_settled k) (sym m.answer_is) ∙ unsettled k x u) (acted old.state t r m.reply new.state active m.step))
 
   where_found : (name : Name) (o : Option PlaceValue) → x ≡ where_answer o → is_settled (statement.Where name) x ≡ false → Found old.state.owners number t (statement.Where name) x
   where_found name None e u = true_false (sym (ap (is_settled (statement.Where name)) e) ∙ u)

@@ -84,7 +84,7 @@ at_long number t n small =
     let digits = length-append (hex 8 n) (codes "\n" ++ []) in
     omega (arith, parts, digits, writes.many)
 
--- what stands behind the front of the second of two lines, where that tells an address
+-- what stands after the front of the second of two lines, where that tells an address
 pub digits_behind : (number : ℕ) (t : Name) (n : ℕ) (one text rest : List ℕ) (front : ℕ) → front ≡ length one + length (reply_line number t (one_line_text (At 0))) - 9 → text ≡ one ++ (reply_line number t (one_line_text (At n)) ++ rest) → drop front text ≡ hex 8 n ++ (codes "\n" ++ rest)
 digits_behind number t n one text rest front is e =
     let many : front ≡ length one + length (before_at number t) = let l = at_long number t 0 (omega arith) in omega (arith, is, l) in
@@ -112,17 +112,17 @@ read_back text front addr rest small e =
 
 -- ---- a line that can be granted no place
 
--- what a line that told something did
-abbrev pub HasTold : Condition → WalkValue → List ℕ → LineEvent → WalkValue → Type 0
-HasTold P w l told new =
-    ((fault : Fault) × (told ≡ tells.Faulted fault) × FaultOf (is_first w.step) l fault)
-    ⊎ (((fault : Fault) → told ≡ tells.Faulted fault → ⊥) × ServesLine (job_machine P) w.number w.step l (events_of_line w.number new told) new.step)
+-- what a line with an event did
+abbrev pub HasEvent : Condition → WalkValue → List ℕ → LineEvent → WalkValue → Type 0
+HasEvent P w l line_event new =
+    ((fault : Fault) × (line_event ≡ tells.Faulted fault) × FaultOf (is_first w.step) l fault)
+    ⊎ (((fault : Fault) → line_event ≡ tells.Faulted fault → ⊥) × ServesLine (job_machine P) w.number w.step l (events_of_line w.number new line_event) new.step)
 
-pub told_cases : (P : Condition) (w : WalkValue) (l : List ℕ) (told : LineEvent) (new : WalkValue) → ServesAsUnder P w l told new → HasTold P w l told new
-told_cases P w l (tells.Faulted fault) new x = inl (fault, refl, x.0)
-told_cases P w l tells.Nothing new x = inr ((λ fault e. cc), x)
-told_cases P w l (tells.StepBegan ended card) new x = inr ((λ fault e. cc), x)
-told_cases P w l (tells.Answered t a) new x = inr ((λ fault e. cc), x)
+pub event_cases : (P : Condition) (w : WalkValue) (l : List ℕ) (line_event : LineEvent) (new : WalkValue) → ServesAsUnder P w l line_event new → HasEvent P w l line_event new
+event_cases P w l (tells.Faulted fault) new x = inl (fault, refl, x.0)
+event_cases P w l tells.Nothing new x = inr ((λ fault e. cc), x)
+event_cases P w l (tells.StepBegan ended card) new x = inr ((λ fault e. cc), x)
+event_cases P w l (tells.Answered t a) new x = inr ((λ fault e. cc), x)
 
 -- a run that prints a text from a line on serves it or tells its fault
 abbrev pub Serving : ℕ → Option JobValue → List ℕ → List (List ℕ) → List ℕ → Outcome → Type 0
@@ -144,8 +144,8 @@ module _ (P : Condition) (w w' : WalkValue) (l : List ℕ) (t : LineEvent) (is :
   ContinuesRun = (rest : List ℕ) × (text ≡ text_of_event ++ rest) × MayPrint (w.number + 1) w'.step more rest outcome
 
   pub closed_line : IsClosed w.step l → MayPrint w.number w.step (l ∷ more) text outcome → ((fault : Fault) × (t ≡ tells.Faulted fault) × (text ≡ text_of_event)) ⊎ (((fault : Fault) → t ≡ tells.Faulted fault → ⊥) × ContinuesRun)
-  closed_line closed may = at (told_cases P w l t w' is) (may_serve w.number w.step l more text outcome may) where
-    at : HasTold P w l t w' → ((events : List Event) × Faults w.number (is_first w.step) l events × (text ≡ printing events)) ⊎ Serving w.number w.step l more text outcome
+  closed_line closed may = at (event_cases P w l t w' is) (may_serve w.number w.step l more text outcome may) where
+    at : HasEvent P w l t w' → ((events : List Event) × Faults w.number (is_first w.step) l events × (text ≡ printing events)) ⊎ Serving w.number w.step l more text outcome
         → ((fault : Fault) × (t ≡ tells.Faulted fault) × (text ≡ text_of_event)) ⊎ (((fault : Fault) → t ≡ tells.Faulted fault → ⊥) × ContinuesRun)
     at (inl x) (inl y) =
         let fault = one_reading.one_fault (is_first w.step) l y.1.0 x.0 y.1.1 x.2 in
@@ -195,8 +195,8 @@ module _ (P : Condition) (w w' : WalkValue) (l : List ℕ) (t : LineEvent) (text
 -- what is served by such a line, or by any
 module _ (P : Condition) (w w' : WalkValue) (l : List ℕ) (t : LineEvent) (printed : List ℕ) (is : ServesAsUnder P w l t w') (same : printed ≡ printing (events_of_line w.number w' t)) where
   pub one_leads : ((fault : Fault) → t ≡ tells.Faulted fault → ⊥) → ServesLine machine w.number w.step l (events_of_line w.number w' t) w'.step
-  one_leads whole = at (told_cases Any w l t w' (told_by P w w' l t is)) where
-    at : HasTold Any w l t w' → ServesLine machine w.number w.step l (events_of_line w.number w' t) w'.step
+  one_leads whole = at (event_cases Any w l t w' (told_by P w w' l t is)) where
+    at : HasEvent Any w l t w' → ServesLine machine w.number w.step l (events_of_line w.number w' t) w'.step
     at (inl x) = absurd (whole x.0 x.1)
     at (inr x) = x.1
 
@@ -204,37 +204,37 @@ module _ (P : Condition) (w w' : WalkValue) (l : List ℕ) (t : LineEvent) (prin
   line_served whole next = (events_of_line w.number w' t, inr (w'.step, events_of_line w.number w' t, [], one_leads whole, sym (append-nil (events_of_line w.number w' t)), (refl, refl)), next, same)
 
   pub fault_served : (fault : Fault) → t ≡ tells.Faulted fault → IsServed (l ∷ []) w printed false w'
-  fault_served fault e = at (told_cases P w l t w' is) where
-    at : HasTold P w l t w' → IsServed (l ∷ []) w printed false w'
+  fault_served fault e = at (event_cases P w l t w' is) where
+    at : HasEvent P w l t w' → IsServed (l ∷ []) w printed false w'
     at (inl x) = (l, Faulted w.number x.0 ∷ [], refl, (x.0, x.2, refl), same ∙ ap (λ t. printing (events_of_line w.number w' t)) x.1)
     at (inr x) = absurd (x.0 fault e)
 
--- ---- a grant and a question behind it
+-- ---- a grant and a question after it
 
 abbrev grant_line : Name → Form → ℕ → AskValue → Bool → Name → Line
 grant_line task form n ask v area = line.Statement task (says.Request (written.Obtain form n ask v area))
 
--- each is granted an area, and is told so
+-- each is granted an area, and answered so
 abbrev Parted : List ℕ → ℕ → Option JobValue → Name → Name → Bool → List Event → Option JobValue → Option JobValue → Type 0
-Parted told number old task area v events a b =
-    (answer : Answer) × (job : JobValue) × (x : JobValue) × (y : JobValue) × (old ≡ Some job) × (a ≡ Some x) × (b ≡ Some y) × (events ≡ AnswerTo number task answer ∷ []) × Apart told job x y task area v answer
+Parted hints number old task area v events a b =
+    (answer : Answer) × (job : JobValue) × (x : JobValue) × (y : JobValue) × (old ≡ Some job) × (a ≡ Some x) × (b ≡ Some y) × (events ≡ AnswerTo number task answer ∷ []) × Apart hints job x y task area v answer
 
 abbrev Granting : List ℕ → ℕ → Option JobValue → Name → Name → Bool → List Event → List Event → Option JobValue → Option JobValue → Type 0
-Granting told number old task area v events other a b =
+Granting hints number old task area v events other a b =
     ((later : JobValue) × (a ≡ Some later)) × (events ≡ other)
-    × ((a ≡ b) ⊎ Parted told number old task area v events a b)
+    × ((a ≡ b) ⊎ Parted hints number old task area v events a b)
 
-grants : (told : List ℕ) (number : ℕ) (old : Option JobValue) (task : Name) (form : Form) (n : ℕ) (ask : AskValue) (v : Bool) (area : Name) (events other : List Event) (a b : Option JobValue) → IsAsk ask
-    → Serves (job_machine (Takes told)) number old (grant_line task form n ask v area) events a → Serves machine number old (grant_line task form n ask v area) other b → Granting told number old task area v events other a b
-grants told number None task form n ask v area events other a b ranged x y = absurd x
-grants told number (Some job) task form n ask v area events other a b ranged x y =
-    let d = asked told job task x.0 y.0 x.1 y.1 form n ask v area ranged x.2 y.2 in
+grants : (hints : List ℕ) (number : ℕ) (old : Option JobValue) (task : Name) (form : Form) (n : ℕ) (ask : AskValue) (v : Bool) (area : Name) (events other : List Event) (a b : Option JobValue) → IsAsk ask
+    → Serves (job_machine (Takes hints)) number old (grant_line task form n ask v area) events a → Serves machine number old (grant_line task form n ask v area) other b → Granting hints number old task area v events other a b
+grants hints number None task form n ask v area events other a b ranged x y = absurd x
+grants hints number (Some job) task form n ask v area events other a b ranged x y =
+    let d = asked hints job task x.0 y.0 x.1 y.1 form n ask v area ranged x.2 y.2 in
     ((x.1, x.4), x.3 ∙ ap (λ answer. AnswerTo number task answer ∷ []) d.0 ∙ sym y.3, at d.1) where
-      at : ((x.1 ≡ y.1) ⊎ Apart told job x.1 y.1 task area v x.0) → (a ≡ b) ⊎ Parted told number (Some job) task area v events a b
+      at : ((x.1 ≡ y.1) ⊎ Apart hints job x.1 y.1 task area v x.0) → (a ≡ b) ⊎ Parted hints number (Some job) task area v events a b
       at (inl same) = inl (x.4 ∙ ap Some same ∙ sym y.4)
       at (inr apart) = inr (x.0, job, x.1, y.1, refl, x.4, y.4, x.3, apart)
 
-module _ (told : List ℕ) (w w1 w2 : WalkValue) (l q : List ℕ) (tl tq : LineEvent) (task area : Name) (variable : Bool) (is_l : ServesAsUnder (Takes told) w l tl w1) (is_q : ServesAsUnder (Takes []) w1 q tq w2) (grant : IsGrant w.step l task area variable) (question : IsQuestion q task area)
+module _ (hints : List ℕ) (w w1 w2 : WalkValue) (l q : List ℕ) (tl tq : LineEvent) (task area : Name) (variable : Bool) (is_l : ServesAsUnder (Takes hints) w l tl w1) (is_q : ServesAsUnder (Takes []) w1 q tq w2) (grant : IsGrant w.step l task area variable) (question : IsQuestion q task area)
     (bounds : InBounds w.step) (next : w1.number ≡ w.number + 1) where
   abbrev pub one_text : List ℕ
   one_text = printing (events_of_line w.number w1 tl)
@@ -257,7 +257,7 @@ module _ (told : List ℕ) (w w1 w2 : WalkValue) (l q : List ℕ) (tl tq : LineE
     pub small_another : another < 2 ^ 31
     pub long : length one_text ≡ length (answer_text w.number task (no_bytes variable))
     pub same : one ≡ another → MayPrint (w1.number + 1) w2.step more rest outcome
-    pub takes : (k : ℕ) → told ≡ k ∷ [] → another ≡ k → one ≡ k
+    pub takes : (k : ℕ) → hints ≡ k ∷ [] → another ≡ k → one ≡ k
 
   -- the line of the question says so
   question_at : (step : Option JobValue) (job : JobValue) → step ≡ Some job → LineOf (is_first step) q (line.Statement task (says.Where area))
@@ -277,9 +277,9 @@ module _ (told : List ℕ) (w w1 w2 : WalkValue) (l q : List ℕ) (tl tq : LineE
       at (inr x) = x.1
 
     -- what the question is answered
-    apart : (left : List ℕ) (answer : Answer) (job x y : JobValue) → w.step ≡ Some job → w1.step ≡ Some x → events_of_line w.number w1 tl ≡ AnswerTo w.number task answer ∷ [] → Apart told job x y task area variable answer → MayPrint (w.number + 1) (Some y) (q ∷ more) left outcome → GrantQuestion more left outcome
-    apart left answer job x y of is_x tells_it a may = at (told_cases (Takes []) w1 q tq w2 is_q) (may_serve w1.number (Some y) q more left outcome (subst (λ n. MayPrint n (Some y) (q ∷ more) left outcome) (sym next) may)) where
-      at : HasTold (Takes []) w1 q tq w2 → ((events : List Event) × Faults w1.number (is_first (Some y)) q events × (left ≡ printing events)) ⊎ Serving w1.number (Some y) q more left outcome → GrantQuestion more left outcome
+    apart : (left : List ℕ) (answer : Answer) (job x y : JobValue) → w.step ≡ Some job → w1.step ≡ Some x → events_of_line w.number w1 tl ≡ AnswerTo w.number task answer ∷ [] → Apart hints job x y task area variable answer → MayPrint (w.number + 1) (Some y) (q ∷ more) left outcome → GrantQuestion more left outcome
+    apart left answer job x y of is_x tells_it a may = at (event_cases (Takes []) w1 q tq w2 is_q) (may_serve w1.number (Some y) q more left outcome (subst (λ n. MayPrint n (Some y) (q ∷ more) left outcome) (sym next) may)) where
+      at : HasEvent (Takes []) w1 q tq w2 → ((events : List Event) × Faults w1.number (is_first (Some y)) q events × (left ≡ printing events)) ⊎ Serving w1.number (Some y) q more left outcome → GrantQuestion more left outcome
       at (inl u) v = absurd (no_fault (Takes []) w1 w2 tq q _ (question_at w1.step x is_x) is_q u.0 u.1)
       at (inr u) (inl v) = absurd (one_reading.not_both false q _ v.1.0 question v.1.1)
       at (inr u) (inr v) =
@@ -289,7 +289,7 @@ module _ (told : List ℕ) (w w1 w2 : WalkValue) (l q : List ℕ) (tl tq : LineE
           let theirs : Serves machine w1.number (Some y) (line.Statement task (says.Where area)) v.1 v.0 =
           subst (λ one_line_text. Serves machine w1.number (Some y) one_line_text v.1 v.0) (one_reading.one_line false q v.3.0 (line.Statement task (says.Where area)) v.3.1 question) v.3.2 in
           let bounded : IsBounded job.state.regions = subst InBounds of bounds in
-          let f = located told job x y task area variable answer a (Takes []) mine.0 theirs.0 mine.1 theirs.1 bounded mine.2 theirs.2 in
+          let f = located hints job x y task area variable answer a (Takes []) mine.0 theirs.0 mine.1 theirs.1 bounded mine.2 theirs.2 in
           record {
             one = f.one;
             another = f.another;
@@ -304,38 +304,38 @@ module _ (told : List ℕ) (w w1 w2 : WalkValue) (l q : List ℕ) (tl tq : LineE
           }
 
     pub pair : (text : List ℕ) → MayPrint w.number w.step (l ∷ q ∷ more) text outcome → (left : List ℕ) × (text ≡ one_text ++ left) × (Behind more left outcome ⊎ GrantQuestion more left outcome)
-    pair text may = at (told_cases (Takes told) w l tl w1 is_l) (may_serve w.number w.step l (q ∷ more) text outcome may) where
+    pair text may = at (event_cases (Takes hints) w l tl w1 is_l) (may_serve w.number w.step l (q ∷ more) text outcome may) where
       one_line_text : LineOf (is_first w.step) l (grant_line task grant.2.0 grant.2.1 grant.2.2 variable area)
       one_line_text = subst (λ one_line_text. LineOf (is_first w.step) l one_line_text) grant.2.3 grant.1
 
-      at : HasTold (Takes told) w l tl w1 → ((events : List Event) × Faults w.number (is_first w.step) l events × (text ≡ printing events)) ⊎ Serving w.number w.step l (q ∷ more) text outcome
+      at : HasEvent (Takes hints) w l tl w1 → ((events : List Event) × Faults w.number (is_first w.step) l events × (text ≡ printing events)) ⊎ Serving w.number w.step l (q ∷ more) text outcome
           → (left : List ℕ) × (text ≡ one_text ++ left) × (Behind more left outcome ⊎ GrantQuestion more left outcome)
       at (inl u) v = absurd (one_reading.not_both (is_first w.step) l _ u.0 one_line_text u.2)
       at (inr u) (inl v) = absurd (one_reading.not_both (is_first w.step) l _ v.1.0 one_line_text v.1.1)
       at (inr u) (inr v) =
-          let mine = subst (λ one_line_text. Serves (job_machine (Takes told)) w.number w.step one_line_text (events_of_line w.number w1 tl) w1.step) (one_reading.one_line (is_first w.step) l u.1.0 _ u.1.1 one_line_text) u.1.2 in
+          let mine = subst (λ one_line_text. Serves (job_machine (Takes hints)) w.number w.step one_line_text (events_of_line w.number w1 tl) w1.step) (one_reading.one_line (is_first w.step) l u.1.0 _ u.1.1 one_line_text) u.1.2 in
           let theirs = subst (λ one_line_text. Serves machine w.number w.step one_line_text v.1 v.0) (one_reading.one_line (is_first w.step) l v.3.0 _ v.3.1 one_line_text) v.3.2 in
-          let g = grants told w.number w.step task grant.2.0 grant.2.1 grant.2.2 variable area (events_of_line w.number w1 tl) v.1 w1.step v.0 (line_ranged (is_first w.step) l _ one_line_text).1 mine theirs in
+          let g = grants hints w.number w.step task grant.2.0 grant.2.1 grant.2.2 variable area (events_of_line w.number w1 tl) v.1 w1.step v.0 (line_ranged (is_first w.step) l _ one_line_text).1 mine theirs in
           (v.2, v.4 ∙ ap (λ events. printing events ++ v.2) (sym g.1), go g.0.0 g.0.1 g.2) where
-            go : (later : JobValue) → w1.step ≡ Some later → ((w1.step ≡ v.0) ⊎ Parted told w.number w.step task area variable (events_of_line w.number w1 tl) w1.step v.0) → Behind more v.2 outcome ⊎ GrantQuestion more v.2 outcome
+            go : (later : JobValue) → w1.step ≡ Some later → ((w1.step ≡ v.0) ⊎ Parted hints w.number w.step task area variable (events_of_line w.number w1 tl) w1.step v.0) → Behind more v.2 outcome ⊎ GrantQuestion more v.2 outcome
             go later e (inl same) = inl (alike v.2 later e (subst (λ step. MayPrint (w.number + 1) step (q ∷ more) v.2 outcome) (sym same) v.5))
             go later e (inr a) = inr (apart v.2 a.0 a.1 a.2 a.3 a.4 a.5 a.7 a.8 (subst (λ step. MayPrint (w.number + 1) step (q ∷ more) v.2 outcome) a.6 v.5))
 
   -- neither of the lines has a fault
   pub grant_whole : (fault : Fault) → tl ≡ tells.Faulted fault → ⊥
-  grant_whole = no_fault (Takes told) w w1 tl l (grant_line task grant.2.0 grant.2.1 grant.2.2 variable area) (subst (λ one_line_text. LineOf (is_first w.step) l one_line_text) grant.2.3 grant.1) is_l
+  grant_whole = no_fault (Takes hints) w w1 tl l (grant_line task grant.2.0 grant.2.1 grant.2.2 variable area) (subst (λ one_line_text. LineOf (is_first w.step) l one_line_text) grant.2.3 grant.1) is_l
 
-  in_step : (number : ℕ) (old : Option JobValue) (events : List Event) (new : Option JobValue) → Serves (job_machine (Takes told)) number old (grant_line task grant.2.0 grant.2.1 grant.2.2 variable area) events new → (later : JobValue) × (new ≡ Some later)
+  in_step : (number : ℕ) (old : Option JobValue) (events : List Event) (new : Option JobValue) → Serves (job_machine (Takes hints)) number old (grant_line task grant.2.0 grant.2.1 grant.2.2 variable area) events new → (later : JobValue) × (new ≡ Some later)
   in_step number None events new x = absurd x
   in_step number (Some job) events new x = (x.1, x.4)
 
   pub question_whole : (fault : Fault) → tq ≡ tells.Faulted fault → ⊥
-  question_whole = at (told_cases (Takes told) w l tl w1 is_l) where
-    at : HasTold (Takes told) w l tl w1 → (fault : Fault) → tq ≡ tells.Faulted fault → ⊥
+  question_whole = at (event_cases (Takes hints) w l tl w1 is_l) where
+    at : HasEvent (Takes hints) w l tl w1 → (fault : Fault) → tq ≡ tells.Faulted fault → ⊥
     at (inl u) = absurd (grant_whole u.0 u.1)
     at (inr u) =
         let one_line_text : LineOf (is_first w.step) l (grant_line task grant.2.0 grant.2.1 grant.2.2 variable area) = subst (λ one_line_text. LineOf (is_first w.step) l one_line_text) grant.2.3 grant.1 in
-        let mine = subst (λ one_line_text. Serves (job_machine (Takes told)) w.number w.step one_line_text (events_of_line w.number w1 tl) w1.step) (one_reading.one_line (is_first w.step) l u.1.0 _ u.1.1 one_line_text) u.1.2 in
+        let mine = subst (λ one_line_text. Serves (job_machine (Takes hints)) w.number w.step one_line_text (events_of_line w.number w1 tl) w1.step) (one_reading.one_line (is_first w.step) l u.1.0 _ u.1.1 one_line_text) u.1.2 in
         let s = in_step w.number w.step (events_of_line w.number w1 tl) w1.step mine in
         no_fault (Takes []) w1 w2 tq q (line.Statement task (says.Where area)) (question_at w1.step s.0 s.1) is_q
 
@@ -344,7 +344,7 @@ module _ (told : List ℕ) (w w1 w2 : WalkValue) (l q : List ℕ) (tl tq : LineE
   pair_served printed same last =
       let one = events_of_line w.number w1 tl in
       let other = events_of_line w1.number w2 tq in
-      let first = one_leads (Takes told) w w1 l tl one_text is_l refl grant_whole in
+      let first = one_leads (Takes hints) w w1 l tl one_text is_l refl grant_whole in
       let second = subst (λ n. ServesLine machine n w1.step q other w2.step) next (one_leads (Takes []) w1 w2 q tq other_text is_q refl question_whole) in
       (one ++ other, inr (w1.step, one, other, first, refl, inr (w2.step, other, [], second, sym (append-nil other), (refl, refl))), (let e : w2.number ≡ w.number + 2 = omega (arith, last, next) in e), same ∙ sym (printed_both one other))
 
@@ -371,7 +371,7 @@ module _ (told : List ℕ) (w w1 w2 : WalkValue) (l q : List ℕ) (tl tq : LineE
       on : (more : List (List ℕ)) (outcome : Outcome) → MayPrint w.number w.step (l ∷ q ∷ more) text outcome → MayPrint w2.number w2.step more rest outcome
       on more outcome may = let p = pair more outcome text may in at more outcome p.0 (append_cancel_left one_text _ _ (sym p.1 ∙ split)) p.2
 
-    pub pair_differs : (k front : ℕ) → told ≡ k ∷ [] → w1.number ≡ w.number + 1 → front ≡ length (answer_text w.number task (no_bytes variable)) + length (reply_line (w.number + 1) task (one_line_text (At 0))) - 9
+    pub pair_differs : (k front : ℕ) → hints ≡ k ∷ [] → w1.number ≡ w.number + 1 → front ≡ length (answer_text w.number task (no_bytes variable)) + length (reply_line (w.number + 1) task (one_line_text (At 0))) - 9
         → ((addr : ℕ) (rest : List ℕ) → addr < 2 ^ 31 → drop front text ≡ hex 8 addr ++ rest → k ≡ addr) → ((rest : List ℕ) → text ≡ printed ++ rest → ⊥) → Decides (l ∷ q ∷ []) text w printed true false w2
     pair_differs k front is number front_is reads other more outcome may = let p = pair more outcome text may in at p.0 p.1 p.2 where
       whole : (left rest : List ℕ) → text ≡ one_text ++ left → left ≡ other_text ++ rest → text ≡ printed ++ rest
@@ -388,7 +388,7 @@ module _ (told : List ℕ) (w w1 w2 : WalkValue) (l q : List ℕ) (tl tq : LineE
           a.another_is ∙ ap (λ n. reply_line w1.number task (one_line_text (At n)) ++ a.rest) (sym k_is ∙ sym one_k) ∙ ap (λ x. x ++ a.rest) (sym (a.one_is ∙ append-nil (reply_line w1.number task (one_line_text (At a.one))))) in
           other a.rest (whole left a.rest e mine)
 
-    pub pair_decides : (k front : ℕ) → told ≡ k ∷ [] → w1.number ≡ w.number + 1 → w2.number ≡ w1.number + 1 → front ≡ length (answer_text w.number task (no_bytes variable)) + length (reply_line (w.number + 1) task (one_line_text (At 0))) - 9
+    pub pair_decides : (k front : ℕ) → hints ≡ k ∷ [] → w1.number ≡ w.number + 1 → w2.number ≡ w1.number + 1 → front ≡ length (answer_text w.number task (no_bytes variable)) + length (reply_line (w.number + 1) task (one_line_text (At 0))) - 9
         → ((addr : ℕ) (rest : List ℕ) → addr < 2 ^ 31 → drop front text ≡ hex 8 addr ++ rest → k ≡ addr)
         → (passes : Bool) → (passes ≡ true → text ≡ printed ++ drop (length printed) text) → ((rest : List ℕ) → text ≡ printed ++ rest → passes ≡ true) → Decides (l ∷ q ∷ []) text w printed true passes w2
     pair_decides k front is number last front_is reads true begun never = pair_passes last (begun refl)
@@ -398,7 +398,7 @@ module _ (told : List ℕ) (w w1 w2 : WalkValue) (l q : List ℕ) (tl tq : LineE
 pub one_said : {a b : Line} → (x : Option Line) → x ≡ Some a → x ≡ Some b → a ≡ b
 one_said x e f = let g = sym e ∙ f in cc
 
--- a grant and a question behind it, which asks for it
+-- a grant and a question after it, which asks for it
 pub area_asked : (step : Option JobValue) (l q : List ℕ) (task area : Name) (variable : Bool) (left : List (List ℕ)) → IsGrant step l task area variable → IsQuestion q task area → GrantsAreShownBefore (l ∷ q ∷ []) left
 area_asked step l q task area variable left grant question = (first, (second, tt)) where
   first : (one_line_text : Line) → LineOf false l one_line_text → leaves_open one_line_text ≡ true → GrantIsShown one_line_text (q ∷ left)
@@ -420,7 +420,7 @@ decides_before served more left old text false false new d = d more
 abbrev pub Comes : List ℕ → List ℕ → ℕ → ℕ → WalkValue → Type 0
 Comes script output at done w = (outcome : Outcome) → IsPrinting script output outcome → MayPrint w.number w.step (lines_of (drop at script)) (drop done output) outcome
 
--- With so much of it printed the job stands here, behind lines that are asked for.
+-- With so much of it printed the job stands here, after lines that are asked for.
 abbrev pub Follows : List ℕ → List ℕ → ℕ → ℕ → WalkValue → Type 0
 Follows script output at done w = Comes script output at done w × (s : HasReached script (take done output) w (drop at script)) × GrantsAreShownBefore s.1.served (lines_of (drop at script))
 
@@ -471,7 +471,7 @@ stands_end script text last at w outcome all (events, reached, is) (ended, close
 pub follows_first : (script output : List ℕ) (w : WalkValue) → w ≡ new_walk → Follows script output 0 0 w
 follows_first script output w e = subst (λ w. Follows script output 0 0 w) (sym e) ((λ outcome may. may), ([], record { served = []; lines = refl; counted = refl; leads = (refl, refl) }, refl), tt)
 
--- what is printed so far, and what the output has behind it
+-- what is printed so far, and what the output has after it
 pub taken_more : (output text left : List ℕ) (done : ℕ) → left ≡ drop done output → left ≡ text ++ drop (length text) left → take (done + length text) output ≡ take done output ++ text
 taken_more output text left done is front =
     let cut : take (length text) (drop done output) ≡ text = ap (take (length text)) (sym is ∙ front) ∙ take-append_seam text (drop (length text) left) in
@@ -546,7 +546,7 @@ module _ (script output rest left text : List ℕ) (at done taken : ℕ) (w w' :
       subst (λ w'. IsFollowed script output w' at (take done output ++ []) true None w.number) (sym same)
       ((opens_here is, [], opened_none is), (f.1.0, f.1.1, append-nil (take done output) ∙ f.1.2), within, number)
 
--- behind the last line
+-- after the last line
 pub follows_to_end : (script output : List ℕ) (at done : ℕ) (w : WalkValue) (last : List ℕ) (outcome : Outcome) (passes : Bool) → length script ≤ at → Follows script output at done w → PrintsEnd w last outcome → Tests passes (drop done output ≡ last)
     → (left line_open : ℕ) → IsFollowed script output w left (take done output ++ last) passes (Some outcome) line_open
 follows_to_end script output at done w last outcome true all f ends same left line_open =

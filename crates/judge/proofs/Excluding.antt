@@ -38,7 +38,7 @@ use Rattle.judge.specs.Excluding.{Alike, IsBegunLine, IsUndecidedAt, IsVerdict, 
 use Rattle.judge.specs.declared.exclusion.LineVerdict.TheVariants as verdict
 use Rattle.judge.specs.Outline.{AreAlike, BeginsOpen, is_settled}
 use Rattle.judge.proofs.Compared.{begins_alike, is_followed, report_alike, settled_alike, shown_alike}
-use Rattle.judge.proofs.Decided.{HasTold, Serving, fault_served, line_served, may_serve, one_leads, told_cases}
+use Rattle.judge.proofs.Decided.{HasEvent, Serving, fault_served, line_served, may_serve, one_leads, event_cases}
 
 -- ---- a job is like itself
 
@@ -83,7 +83,7 @@ replies_apart st k r (reply.Abended code fallen) = refl
 
 asks_apart : (old : JobValue) (t : Name) (k : SourceRequest) (o : Option Request) (x : Answer) (new : JobValue) → Asks Any old t k o x new → is_region x ≡ false
 asks_apart old t k None x new m = ap is_region m.0
-asks_apart old t k (Some r) x new m = ap is_region m.told ∙ replies_apart old.state k r m.reply
+asks_apart old t k (Some r) x new m = ap is_region m.answer_is ∙ replies_apart old.state k r m.reply
 
 where_apart : (o : Option PlaceValue) → is_region (where_answer o) ≡ false
 where_apart None = refl
@@ -102,7 +102,7 @@ does_apart old t s x new m = at _ _ (is_active old.state.owners t) m (λ m. ap i
   at P Q true m f g = g m
   at P Q false m f g = f m
 
--- ---- what is told of a statement of a step
+-- ---- the answer to a statement of a step
 
 abbrev answer_at : List Event → Answer
 answer_at (AnswerTo number t x ∷ events) = x
@@ -110,23 +110,23 @@ answer_at _ = NotRun
 
 -- The answer of the line is that of the statement.
 module _ (w w' : WalkValue) (tl : LineEvent) (job : JobValue) (t : Name) (s : Statement) (mine : Steps machine w.number job t s (events_of_line w.number w' tl) w'.step) where
-  told_answer : (k : LineEvent) → tl ≡ k → ((u : Name) (a : Short) → (tl ≡ tells.Answered u a) × (mine.0 ≡ full_answer mine.1.state (ended_with_in w'.reply) u a) → (u : Name) × (a : Short) × (tl ≡ tells.Answered u a) × (mine.0 ≡ full_answer mine.1.state (ended_with_in w'.reply) u a))
+  answered_by : (k : LineEvent) → tl ≡ k → ((u : Name) (a : Short) → (tl ≡ tells.Answered u a) × (mine.0 ≡ full_answer mine.1.state (ended_with_in w'.reply) u a) → (u : Name) × (a : Short) × (tl ≡ tells.Answered u a) × (mine.0 ≡ full_answer mine.1.state (ended_with_in w'.reply) u a))
       → (u : Name) × (a : Short) × (tl ≡ tells.Answered u a) × (mine.0 ≡ full_answer mine.1.state (ended_with_in w'.reply) u a)
-  told_answer (tells.Answered u a) e f =
+  answered_by (tells.Answered u a) e f =
       (u, a, e, sym (ap answer_at (ap (events_of_line w.number w') (sym e) ∙ mine.3)) ∙ ap (λ step. full_answer_in step (ended_with_in w'.reply) u a) mine.4)
-  told_answer tells.Nothing e f = absurd (let g : [] ≡ AnswerTo w.number t mine.0 ∷ [] = ap (events_of_line w.number w') (sym e) ∙ mine.3 in cc)
-  told_answer (tells.StepBegan None card) e f =
+  answered_by tells.Nothing e f = absurd (let g : [] ≡ AnswerTo w.number t mine.0 ∷ [] = ap (events_of_line w.number w') (sym e) ∙ mine.3 in cc)
+  answered_by (tells.StepBegan None card) e f =
       absurd (true_false (ap is_region (ap answer_at (ap (events_of_line w.number w') (sym e) ∙ mine.3)) ∙ does_apart job t s mine.0 mine.1 mine.2))
-  told_answer (tells.StepBegan (Some abended) card) e f = absurd (let g : StepEnded abended ∷ AnswerTo w.number card.name (Region card) ∷ [] ≡ AnswerTo w.number t mine.0 ∷ [] = ap (events_of_line w.number w') (sym e) ∙ mine.3 in cc)
-  told_answer (tells.Faulted fault) e f = absurd (let g : Faulted w.number fault ∷ [] ≡ AnswerTo w.number t mine.0 ∷ [] = ap (events_of_line w.number w') (sym e) ∙ mine.3 in cc)
+  answered_by (tells.StepBegan (Some abended) card) e f = absurd (let g : StepEnded abended ∷ AnswerTo w.number card.name (Region card) ∷ [] ≡ AnswerTo w.number t mine.0 ∷ [] = ap (events_of_line w.number w') (sym e) ∙ mine.3 in cc)
+  answered_by (tells.Faulted fault) e f = absurd (let g : Faulted w.number fault ∷ [] ≡ AnswerTo w.number t mine.0 ∷ [] = ap (events_of_line w.number w') (sym e) ∙ mine.3 in cc)
 
-  told : (u : Name) × (a : Short) × (tl ≡ tells.Answered u a) × (mine.0 ≡ full_answer mine.1.state (ended_with_in w'.reply) u a)
-  told = told_answer tl refl (λ u a x. (u, a, x.0, x.1))
+  answered : (u : Name) × (a : Short) × (tl ≡ tells.Answered u a) × (mine.0 ≡ full_answer mine.1.state (ended_with_in w'.reply) u a)
+  answered = answered_by tl refl (λ u a x. (u, a, x.0, x.1))
 
   -- whether it is settled
-  pub settled_told : (b : Bool) (sure : Option Answer → Bool) → ((x : Answer) → sure (Some x) ≡ is_settled s x) → ((st : State) (fallen : List Name) → b ≡ sure (answer_in st fallen tl)) → is_settled s mine.0 ≡ b
-  settled_told b sure are f =
-      ap (is_settled s) told.3 ∙ sym (are _) ∙ ap (λ k. sure (answer_in mine.1.state (ended_with_in w'.reply) k)) (sym told.2) ∙ sym (f mine.1.state (ended_with_in w'.reply))
+  pub settled_answer : (b : Bool) (sure : Option Answer → Bool) → ((x : Answer) → sure (Some x) ≡ is_settled s x) → ((st : State) (fallen : List Name) → b ≡ sure (answer_in st fallen tl)) → is_settled s mine.0 ≡ b
+  settled_answer b sure are f =
+      ap (is_settled s) answered.3 ∙ sym (are _) ∙ ap (λ k. sure (answer_in mine.1.state (ended_with_in w'.reply) k)) (sym answered.2) ∙ sym (f mine.1.state (ended_with_in w'.reply))
 
 -- ---- how a line is served in two jobs that differ in nothing but places
 
@@ -320,10 +320,10 @@ module _ (P : Condition) (w w' : WalkValue) (l : List ℕ) (tl : LineEvent) (is 
     at None (line.Statement t (statement.Where name)) x f = absurd x
     at None (line.Statement t statement.ReportSubpools) x f = absurd x
     at None (line.Statement t statement.ReportMap) x f = absurd x
-    at (Some job) (line.Statement t (statement.Request k)) x f = λ n a g. ap (is_settled (statement.Request k)) (sym (ap answer_at (sym x.3 ∙ g))) ∙ settled_told w w' tl job t (statement.Request k) x b (is_certain (line.Statement t (statement.Request k))) (λ x. refl) f ∙ e
-    at (Some job) (line.Statement t (statement.Where name)) x f = λ n a g. ap (is_settled (statement.Where name)) (sym (ap answer_at (sym x.3 ∙ g))) ∙ settled_told w w' tl job t (statement.Where name) x b (is_certain (line.Statement t (statement.Where name))) (λ x. refl) f ∙ e
-    at (Some job) (line.Statement t statement.ReportSubpools) x f = λ n a g. ap (is_settled statement.ReportSubpools) (sym (ap answer_at (sym x.3 ∙ g))) ∙ settled_told w w' tl job t statement.ReportSubpools x b (is_certain (line.Statement t statement.ReportSubpools)) (λ x. refl) f ∙ e
-    at (Some job) (line.Statement t statement.ReportMap) x f = λ n a g. ap (is_settled statement.ReportMap) (sym (ap answer_at (sym x.3 ∙ g))) ∙ settled_told w w' tl job t statement.ReportMap x b (is_certain (line.Statement t statement.ReportMap)) (λ x. refl) f ∙ e
+    at (Some job) (line.Statement t (statement.Request k)) x f = λ n a g. ap (is_settled (statement.Request k)) (sym (ap answer_at (sym x.3 ∙ g))) ∙ settled_answer w w' tl job t (statement.Request k) x b (is_certain (line.Statement t (statement.Request k))) (λ x. refl) f ∙ e
+    at (Some job) (line.Statement t (statement.Where name)) x f = λ n a g. ap (is_settled (statement.Where name)) (sym (ap answer_at (sym x.3 ∙ g))) ∙ settled_answer w w' tl job t (statement.Where name) x b (is_certain (line.Statement t (statement.Where name))) (λ x. refl) f ∙ e
+    at (Some job) (line.Statement t statement.ReportSubpools) x f = λ n a g. ap (is_settled statement.ReportSubpools) (sym (ap answer_at (sym x.3 ∙ g))) ∙ settled_answer w w' tl job t statement.ReportSubpools x b (is_certain (line.Statement t statement.ReportSubpools)) (λ x. refl) f ∙ e
+    at (Some job) (line.Statement t statement.ReportMap) x f = λ n a g. ap (is_settled statement.ReportMap) (sym (ap answer_at (sym x.3 ∙ g))) ∙ settled_answer w w' tl job t statement.ReportMap x b (is_certain (line.Statement t statement.ReportMap)) (λ x. refl) f ∙ e
 
   pub open_in : (b : Bool) → ((st : State) (fallen : List Name) → b ≡ is_certain said (answer_in st fallen tl)) → b ≡ false → OpenIn said (events_of_line w.number w' tl)
   open_in b f e = at w.step said mine f where
@@ -334,20 +334,20 @@ module _ (P : Condition) (w w' : WalkValue) (l : List ℕ) (tl : LineEvent) (is 
     at None (line.Statement t (statement.Where name)) x f = absurd x
     at None (line.Statement t statement.ReportSubpools) x f = absurd x
     at None (line.Statement t statement.ReportMap) x f = absurd x
-    at (Some job) (line.Statement t (statement.Request k)) x f = λ n a g. ap (is_settled (statement.Request k)) (sym (ap answer_at (sym x.3 ∙ g))) ∙ settled_told w w' tl job t (statement.Request k) x b (is_certain (line.Statement t (statement.Request k))) (λ x. refl) f ∙ e
-    at (Some job) (line.Statement t (statement.Where name)) x f = λ n a g. ap (is_settled (statement.Where name)) (sym (ap answer_at (sym x.3 ∙ g))) ∙ settled_told w w' tl job t (statement.Where name) x b (is_certain (line.Statement t (statement.Where name))) (λ x. refl) f ∙ e
-    at (Some job) (line.Statement t statement.ReportSubpools) x f = λ n a g. ap (is_settled statement.ReportSubpools) (sym (ap answer_at (sym x.3 ∙ g))) ∙ settled_told w w' tl job t statement.ReportSubpools x b (is_certain (line.Statement t statement.ReportSubpools)) (λ x. refl) f ∙ e
-    at (Some job) (line.Statement t statement.ReportMap) x f = λ n a g. ap (is_settled statement.ReportMap) (sym (ap answer_at (sym x.3 ∙ g))) ∙ settled_told w w' tl job t statement.ReportMap x b (is_certain (line.Statement t statement.ReportMap)) (λ x. refl) f ∙ e
+    at (Some job) (line.Statement t (statement.Request k)) x f = λ n a g. ap (is_settled (statement.Request k)) (sym (ap answer_at (sym x.3 ∙ g))) ∙ settled_answer w w' tl job t (statement.Request k) x b (is_certain (line.Statement t (statement.Request k))) (λ x. refl) f ∙ e
+    at (Some job) (line.Statement t (statement.Where name)) x f = λ n a g. ap (is_settled (statement.Where name)) (sym (ap answer_at (sym x.3 ∙ g))) ∙ settled_answer w w' tl job t (statement.Where name) x b (is_certain (line.Statement t (statement.Where name))) (λ x. refl) f ∙ e
+    at (Some job) (line.Statement t statement.ReportSubpools) x f = λ n a g. ap (is_settled statement.ReportSubpools) (sym (ap answer_at (sym x.3 ∙ g))) ∙ settled_answer w w' tl job t statement.ReportSubpools x b (is_certain (line.Statement t statement.ReportSubpools)) (λ x. refl) f ∙ e
+    at (Some job) (line.Statement t statement.ReportMap) x f = λ n a g. ap (is_settled statement.ReportMap) (sym (ap answer_at (sym x.3 ∙ g))) ∙ settled_answer w w' tl job t statement.ReportMap x b (is_certain (line.Statement t statement.ReportMap)) (λ x. refl) f ∙ e
 
 -- a line with a fault
 module _ (P : Condition) (w w' : WalkValue) (l : List ℕ) (tl : LineEvent) (is : ServesAsUnder P w l tl w') (printed : List ℕ) (same : printed ≡ printing (events_of_line w.number w' tl)) (left : List ℕ) where
-  -- the fault of the line, which is told
+  -- the event of the line is its fault
   abbrev Faulty : Type 0
   Faulty = (fault : Fault) × (tl ≡ tells.Faulted fault) × FaultOf (is_first w.step) l fault
 
   faulty : (fault : Fault) → FaultOf (is_first w.step) l fault → Faulty
-  faulty fault f = at (told_cases P w l tl w' is) where
-    at : HasTold P w l tl w' → Faulty
+  faulty fault f = at (event_cases P w l tl w' is) where
+    at : HasEvent P w l tl w' → Faulty
     at (inl x) = x
     at (inr x) = absurd (one_reading.not_both (is_first w.step) l x.1.0 fault x.1.1 f)
 

@@ -1,4 +1,4 @@
--- The line of a list decides what a run may print, where questions stand behind it.
+-- The line of a list decides what a run may print, where questions stand after it.
 use Rattle.std.proofs.Common.{◌≡◌, ℕ, ◌+◌, ◌<◌, ◌⊎◌, inl, inr, Bool, true, false, List, [], ◌∷◌, ◌++◌, suc, length, map, drop, codes, ◌-◌, Option, Some, None, append_assoc, append-nil, arith, refl, sym, ap, ◌∙◌, subst}
 use Rattle.std.specs.Prelude.{◌||◌, not, ◌^◌}
 use Rattle.std.specs.Bool.{MatchBool}
@@ -32,28 +32,28 @@ use Rattle.mvs_job.specs.declared.walk.LineEvent.TheVariants as tells
 use Rattle.mvs_job.specs.LineEvents.{ServesAsUnder, WalkValue, events_of_line}
 use Rattle.judge.specs.Judging.{AreApart, AskEach, BeginsAnswered, GrantsAreShownBefore, GrantIsShown, IsOpen, IsQuestion, leaves_open}
 use Rattle.judge.specs.Deciding.{DecidesBefore, InBounds, IsFoundFirst, IsList, IsServed, MayPrint, OpensList, ReadsEach, at_text, no_bytes}
-use Rattle.judge.proofs.Decided.{HasTold, Serving, at_long, digits_behind, line_served, may_serve, one_leads, one_said, told_cases}
+use Rattle.judge.proofs.Decided.{HasEvent, Serving, at_long, digits_behind, line_served, may_serve, one_leads, one_said, event_cases}
 use Rattle.judge.proofs.Lists.{AreAt, AreOtherwise, ListApart, listed, texts_part}
 
 -- ---- addresses that are read
 
-pub read_none : (told addrs : List ℕ) → length addrs ≡ 0 → told ≡ told ++ addrs
-read_none told [] e = sym (append-nil told)
-read_none told (addr ∷ addrs) e = absurd (omega (arith, e))
+pub read_none : (hints addrs : List ℕ) → length addrs ≡ 0 → hints ≡ hints ++ addrs
+read_none hints [] e = sym (append-nil hints)
+read_none hints (addr ∷ addrs) e = absurd (omega (arith, e))
 
-pub read_next : (number : ℕ) (t : Name) (text : List ℕ) (len k many : ℕ) (told : List ℕ) (P : List ℕ → Type 0) → len ≡ length (reply_line number t (one_line_text (At 0)))
+pub read_next : (number : ℕ) (t : Name) (text : List ℕ) (len k many : ℕ) (hints : List ℕ) (P : List ℕ → Type 0) → len ≡ length (reply_line number t (one_line_text (At 0)))
     → ((addr : ℕ) (rest : List ℕ) → addr < 2 ^ 31 → drop (len - 9) text ≡ hex 8 addr ++ rest → k ≡ addr)
-    → ((addrs : List ℕ) (rest : List ℕ) → length addrs ≡ many → AllByRecursion (λ addr. addr < 2 ^ 31) addrs → drop len text ≡ at_text (number + 1) t addrs ++ rest → P ((told ++ k ∷ []) ++ addrs))
-    → (addrs : List ℕ) (rest : List ℕ) → length addrs ≡ suc many → AllByRecursion (λ addr. addr < 2 ^ 31) addrs → text ≡ at_text number t addrs ++ rest → P (told ++ addrs)
-read_next number t text len k many told P len_is reads behind [] rest e small is = absurd (omega (arith, e))
-read_next number t text len k many told P len_is reads behind (addr ∷ addrs) rest e small is =
+    → ((addrs : List ℕ) (rest : List ℕ) → length addrs ≡ many → AllByRecursion (λ addr. addr < 2 ^ 31) addrs → drop len text ≡ at_text (number + 1) t addrs ++ rest → P ((hints ++ k ∷ []) ++ addrs))
+    → (addrs : List ℕ) (rest : List ℕ) → length addrs ≡ suc many → AllByRecursion (λ addr. addr < 2 ^ 31) addrs → text ≡ at_text number t addrs ++ rest → P (hints ++ addrs)
+read_next number t text len k many hints P len_is reads behind [] rest e small is = absurd (omega (arith, e))
+read_next number t text len k many hints P len_is reads behind (addr ∷ addrs) rest e small is =
     let here = reply_line number t (one_line_text (At addr)) in
     let whole : text ≡ here ++ (at_text (number + 1) t addrs ++ rest) = is ∙ append_assoc here (at_text (number + 1) t addrs) rest in
     let digits = digits_behind number t addr [] text (at_text (number + 1) t addrs ++ rest) (len - 9) (omega (arith, len_is)) whole in
     let k_is : k ≡ addr = reads addr (codes "\n" ++ (at_text (number + 1) t addrs ++ rest)) small.0 digits in
     let long : len ≡ length here = len_is ∙ at_long number t 0 (omega arith) ∙ sym (at_long number t addr (let s = small.0 in omega (arith, s))) in
     let left : drop len text ≡ at_text (number + 1) t addrs ++ rest = (λ i. drop (long i) (whole i)) ∙ drop-append_seam here (at_text (number + 1) t addrs ++ rest) in
-    subst P (append_assoc told (k ∷ []) addrs ∙ ap (λ k. told ++ (k ∷ addrs)) k_is) (behind addrs rest (omega (arith, e)) small.1 left)
+    subst P (append_assoc hints (k ∷ []) addrs ∙ ap (λ k. hints ++ (k ∷ addrs)) k_is) (behind addrs rest (omega (arith, e)) small.1 left)
 
 -- ---- the lines
 
@@ -94,11 +94,11 @@ questions number job task (area ∷ areas) (p ∷ ps) (q ∷ lines) text outcome
 abbrev list_line : Name → Form → ℕ → List ℕ → ℕ → List Name → Line
 list_line task form n lengths start areas = line.Statement task (says.Request (written.ObtainList form n lengths start areas))
 
-module _ (told : List ℕ) (number : ℕ) (task : Name) (form : Form) (n : ℕ) (lengths : List ℕ) (start : ℕ) (areas : List Name) (long : length lengths ≡ length areas) (apart : AreApart areas) (events other : List Event) (a b : Option JobValue) (more : List (List ℕ)) (rest now : List ℕ) (outcome : Outcome) (each : AskEach more task areas)
-    (reads : printing events ≡ answer_text number task Rc0 → ReadsEach rest (number + 1) task areas told) (front : printing events ++ rest ≡ printing other ++ now) where
-  alike : (old : Option JobValue) → InBounds old → Serves (job_machine (Takes told)) number old (list_line task form n lengths start areas) events a → Serves machine number old (list_line task form n lengths start areas) other b → MayPrint (number + 1) b more now outcome → MayPrint (number + 1) a more rest outcome
+module _ (hints : List ℕ) (number : ℕ) (task : Name) (form : Form) (n : ℕ) (lengths : List ℕ) (start : ℕ) (areas : List Name) (long : length lengths ≡ length areas) (apart : AreApart areas) (events other : List Event) (a b : Option JobValue) (more : List (List ℕ)) (rest now : List ℕ) (outcome : Outcome) (each : AskEach more task areas)
+    (reads : printing events ≡ answer_text number task Rc0 → ReadsEach rest (number + 1) task areas hints) (front : printing events ++ rest ≡ printing other ++ now) where
+  alike : (old : Option JobValue) → InBounds old → Serves (job_machine (Takes hints)) number old (list_line task form n lengths start areas) events a → Serves machine number old (list_line task form n lengths start areas) other b → MayPrint (number + 1) b more now outcome → MayPrint (number + 1) a more rest outcome
   alike None bounds x y may = absurd x
-  alike (Some job) bounds x y may = go (listed told job task x.0 y.0 x.1 y.1 form n lengths start areas long apart bounds x.2 y.2) where
+  alike (Some job) bounds x y may = go (listed hints job task x.0 y.0 x.1 y.1 form n lengths start areas long apart bounds x.2 y.2) where
     mine : printing events ≡ answer_text number task x.0
     mine = ap printing x.3 ∙ append-nil (answer_text number task x.0)
 
@@ -118,54 +118,54 @@ module _ (told : List ℕ) (number : ℕ) (task : Name) (form : Form) (n : ℕ) 
     part (inl (e, f)) = texts_part number task y.0 rest now f (ap (λ a. answer_text number task a ++ rest) (sym e) ∙ both)
     part (inr (f, e)) = texts_part number task x.0 now rest f (ap (λ a. answer_text number task a ++ now) (sym e) ∙ sym both)
 
-    go : ((x.0 ≡ y.0) × (x.1 ≡ y.1)) ⊎ (AreOtherwise x.0 y.0 ⊎ ((x.0 ≡ y.0) × (x.0 ≡ Rc0) × ListApart told x.1 y.1 task areas)) → MayPrint (number + 1) a more rest outcome
+    go : ((x.0 ≡ y.0) × (x.1 ≡ y.1)) ⊎ (AreOtherwise x.0 y.0 ⊎ ((x.0 ≡ y.0) × (x.0 ≡ Rc0) × ListApart hints x.1 y.1 task areas)) → MayPrint (number + 1) a more rest outcome
     go (inl s) = on s.0 s.1
     go (inr (inl o)) = absurd (part o)
     go (inr (inr (e, f, l))) =
         let q = questions (number + 1) y.1 task areas l.places more now outcome l.active l.are_at each (subst (λ step. MayPrint (number + 1) step more now outcome) y.4 may) in
         on e (l.same (reads (mine ∙ ap (answer_text number task) f) (map (λ p. p.addr) l.places) q.0 l.long l.small (sym (left e) ∙ q.1)))
 
-module _ (told : List ℕ) (w w1 : WalkValue) (l : List ℕ) (tl : LineEvent) (task : Name) (areas : List Name) (is_l : ServesAsUnder (Takes told) w l tl w1) (asks : IsList w.step l task areas) (bounds : InBounds w.step) (printed : List ℕ) (same : printed ≡ printing (events_of_line w.number w1 tl)) where
+module _ (hints : List ℕ) (w w1 : WalkValue) (l : List ℕ) (tl : LineEvent) (task : Name) (areas : List Name) (is_l : ServesAsUnder (Takes hints) w l tl w1) (asks : IsList w.step l task areas) (bounds : InBounds w.step) (printed : List ℕ) (same : printed ≡ printing (events_of_line w.number w1 tl)) where
   said_is : LineOf (is_first w.step) l (list_line task asks.2.0 asks.2.1 asks.2.2 asks.2.3 areas)
   said_is = subst (λ one_line_text. LineOf (is_first w.step) l one_line_text) asks.2.4 asks.1
 
   pub list_whole : (fault : Fault) → tl ≡ tells.Faulted fault → ⊥
-  list_whole fault e = one_reading.not_both (is_first w.step) l _ fault said_is (subst (λ t. ServesAsUnder (Takes told) w l t w1) e is_l).0
+  list_whole fault e = one_reading.not_both (is_first w.step) l _ fault said_is (subst (λ t. ServesAsUnder (Takes hints) w l t w1) e is_l).0
 
   pub list_served : w1.number ≡ w.number + 1 → IsServed (l ∷ []) w printed true w1
-  list_served next = line_served (Takes told) w w1 l tl printed is_l same list_whole next
+  list_served next = line_served (Takes hints) w w1 l tl printed is_l same list_whole next
 
   module _ (more : List (List ℕ)) (left : List ℕ) (each : AskEach more task areas) where
-    continues : (rest : List ℕ) (outcome : Outcome) → (printing (events_of_line w.number w1 tl) ≡ answer_text w.number task Rc0 → ReadsEach rest (w.number + 1) task areas told) → left ≡ printing (events_of_line w.number w1 tl) ++ rest → MayPrint w.number w.step (l ∷ more) left outcome → MayPrint (w.number + 1) w1.step more rest outcome
-    continues rest outcome reads front may = at (told_cases (Takes told) w l tl w1 is_l) (may_serve w.number w.step l more left outcome may) where
-      at : HasTold (Takes told) w l tl w1 → ((events : List Event) × Faults w.number (is_first w.step) l events × (left ≡ printing events)) ⊎ Serving w.number w.step l more left outcome → MayPrint (w.number + 1) w1.step more rest outcome
+    continues : (rest : List ℕ) (outcome : Outcome) → (printing (events_of_line w.number w1 tl) ≡ answer_text w.number task Rc0 → ReadsEach rest (w.number + 1) task areas hints) → left ≡ printing (events_of_line w.number w1 tl) ++ rest → MayPrint w.number w.step (l ∷ more) left outcome → MayPrint (w.number + 1) w1.step more rest outcome
+    continues rest outcome reads front may = at (event_cases (Takes hints) w l tl w1 is_l) (may_serve w.number w.step l more left outcome may) where
+      at : HasEvent (Takes hints) w l tl w1 → ((events : List Event) × Faults w.number (is_first w.step) l events × (left ≡ printing events)) ⊎ Serving w.number w.step l more left outcome → MayPrint (w.number + 1) w1.step more rest outcome
       at (inl u) v = absurd (list_whole u.0 u.1)
       at (inr u) (inl v) = absurd (one_reading.not_both (is_first w.step) l _ v.1.0 said_is v.1.1)
       at (inr u) (inr v) =
-          let mine = subst (λ one_line_text. Serves (job_machine (Takes told)) w.number w.step one_line_text (events_of_line w.number w1 tl) w1.step) (one_reading.one_line (is_first w.step) l u.1.0 _ u.1.1 said_is) u.1.2 in
+          let mine = subst (λ one_line_text. Serves (job_machine (Takes hints)) w.number w.step one_line_text (events_of_line w.number w1 tl) w1.step) (one_reading.one_line (is_first w.step) l u.1.0 _ u.1.1 said_is) u.1.2 in
           let theirs = subst (λ one_line_text. Serves machine w.number w.step one_line_text v.1 v.0) (one_reading.one_line (is_first w.step) l v.3.0 _ v.3.1 said_is) v.3.2 in
-          alike told w.number task asks.2.0 asks.2.1 asks.2.2 asks.2.3 areas asks.2.5 asks.2.6 (events_of_line w.number w1 tl) v.1 w1.step v.0 more rest v.2 outcome each reads (sym front ∙ v.4) w.step bounds mine theirs v.5
+          alike hints w.number task asks.2.0 asks.2.1 asks.2.2 asks.2.3 areas asks.2.5 asks.2.6 (events_of_line w.number w1 tl) v.1 w1.step v.0 more rest v.2 outcome each reads (sym front ∙ v.4) w.step bounds mine theirs v.5
 
     -- what the list decides, where a text begins with what is printed of it
-    pub list_decides : w1.number ≡ w.number + 1 → ReadsEach (drop (length (answer_text w.number task (no_bytes false))) left) (w.number + 1) task areas told → left ≡ printed ++ drop (length printed) left → DecidesBefore (l ∷ []) more left w printed true true w1
+    pub list_decides : w1.number ≡ w.number + 1 → ReadsEach (drop (length (answer_text w.number task (no_bytes false))) left) (w.number + 1) task areas hints → left ≡ printed ++ drop (length printed) left → DecidesBefore (l ∷ []) more left w printed true true w1
     list_decides next reads front = (front, on) where
       on : (outcome : Outcome) → MayPrint w.number w.step (l ∷ more) left outcome → MayPrint w1.number w1.step more (drop (length printed) left) outcome
       on outcome may =
           subst (λ n. MayPrint n w1.step more (drop (length printed) left) outcome) (sym next)
-          (continues (drop (length printed) left) outcome (λ e. subst (λ x. ReadsEach (drop (length x) left) (w.number + 1) task areas told) (sym (same ∙ e)) reads) (front ∙ ap (λ x. x ++ drop (length printed) left) same) may)
+          (continues (drop (length printed) left) outcome (λ e. subst (λ x. ReadsEach (drop (length x) left) (w.number + 1) task areas hints) (sym (same ∙ e)) reads) (front ∙ ap (λ x. x ++ drop (length printed) left) same) may)
 
     -- or the list is open
     pub list_opens : ((rest : List ℕ) → left ≡ printed ++ rest → ⊥) → BeginsAnswered w.number task left → IsOpen w.number w.step (l ∷ more) left
     list_opens differs begins =
-        (asks.0, asks.1, ap leaves_open asks.2.4, λ _. ((task, areas, asks.2), events_of_line w.number w1 tl, w1.step, one_leads (Takes told) w w1 l tl printed is_l same list_whole, (λ rest e. differs rest (e ∙ ap (λ x. x ++ rest) (sym same))), begins))
+        (asks.0, asks.1, ap leaves_open asks.2.4, λ _. ((task, areas, asks.2), events_of_line w.number w1 tl, w1.step, one_leads (Takes hints) w w1 l tl printed is_l same list_whole, (λ rest e. differs rest (e ∙ ap (λ x. x ++ rest) (sym same))), begins))
 
     -- or no list is answered so
     pub list_refuses : ((rest : List ℕ) → left ≡ printed ++ rest → ⊥) → (BeginsAnswered w.number task left → ⊥) → DecidesBefore (l ∷ []) more left w printed true false w1
-    list_refuses differs none outcome may = at (told_cases (Takes told) w l tl w1 is_l) (may_serve w.number w.step l more left outcome may) where
-      step_differs : (old : Option JobValue) → InBounds old → (events other : List Event) (a b : Option JobValue) (rest : List ℕ) → Serves (job_machine (Takes told)) w.number old (list_line task asks.2.0 asks.2.1 asks.2.2 asks.2.3 areas) events a
+    list_refuses differs none outcome may = at (event_cases (Takes hints) w l tl w1 is_l) (may_serve w.number w.step l more left outcome may) where
+      step_differs : (old : Option JobValue) → InBounds old → (events other : List Event) (a b : Option JobValue) (rest : List ℕ) → Serves (job_machine (Takes hints)) w.number old (list_line task asks.2.0 asks.2.1 asks.2.2 asks.2.3 areas) events a
           → Serves machine w.number old (list_line task asks.2.0 asks.2.1 asks.2.2 asks.2.3 areas) other b → printed ≡ printing events → left ≡ printing other ++ rest → ⊥
       step_differs None bounds events other a b rest x y is e = absurd x
-      step_differs (Some job) bounds events other a b rest x y is e = go (listed told job task x.0 y.0 x.1 y.1 asks.2.0 asks.2.1 asks.2.2 asks.2.3 areas asks.2.5 asks.2.6 bounds x.2 y.2) where
+      step_differs (Some job) bounds events other a b rest x y is e = go (listed hints job task x.0 y.0 x.1 y.1 asks.2.0 asks.2.1 asks.2.2 asks.2.3 areas asks.2.5 asks.2.6 bounds x.2 y.2) where
         theirs : left ≡ answer_text w.number task y.0 ++ rest
         theirs = e ∙ ap (λ events. printing events ++ rest) y.3 ∙ ap (λ x. x ++ rest) (append-nil (answer_text w.number task y.0))
 
@@ -176,20 +176,20 @@ module _ (told : List ℕ) (w w1 : WalkValue) (l : List ℕ) (tl : LineEvent) (t
         other_differs (inl (f, g)) = none (y.0, inr g, rest, theirs)
         other_differs (inr (f, g)) = none (y.0, inl g, rest, theirs)
 
-        go : ((x.0 ≡ y.0) × (x.1 ≡ y.1)) ⊎ (AreOtherwise x.0 y.0 ⊎ ((x.0 ≡ y.0) × (x.0 ≡ Rc0) × ListApart told x.1 y.1 task areas)) → ⊥
+        go : ((x.0 ≡ y.0) × (x.1 ≡ y.1)) ⊎ (AreOtherwise x.0 y.0 ⊎ ((x.0 ≡ y.0) × (x.0 ≡ Rc0) × ListApart hints x.1 y.1 task areas)) → ⊥
         go (inl s) = alike_differs s.0
         go (inr (inl o)) = other_differs o
         go (inr (inr (f, g, h))) = alike_differs f
 
-      at : HasTold (Takes told) w l tl w1 → ((events : List Event) × Faults w.number (is_first w.step) l events × (left ≡ printing events)) ⊎ Serving w.number w.step l more left outcome → ⊥
+      at : HasEvent (Takes hints) w l tl w1 → ((events : List Event) × Faults w.number (is_first w.step) l events × (left ≡ printing events)) ⊎ Serving w.number w.step l more left outcome → ⊥
       at (inl u) v = list_whole u.0 u.1
       at (inr u) (inl v) = one_reading.not_both (is_first w.step) l _ v.1.0 said_is v.1.1
       at (inr u) (inr v) =
-          let mine = subst (λ one_line_text. Serves (job_machine (Takes told)) w.number w.step one_line_text (events_of_line w.number w1 tl) w1.step) (one_reading.one_line (is_first w.step) l u.1.0 _ u.1.1 said_is) u.1.2 in
+          let mine = subst (λ one_line_text. Serves (job_machine (Takes hints)) w.number w.step one_line_text (events_of_line w.number w1 tl) w1.step) (one_reading.one_line (is_first w.step) l u.1.0 _ u.1.1 said_is) u.1.2 in
           let theirs = subst (λ one_line_text. Serves machine w.number w.step one_line_text v.1 v.0) (one_reading.one_line (is_first w.step) l v.3.0 _ v.3.1 said_is) v.3.2 in
           step_differs w.step bounds (events_of_line w.number w1 tl) v.1 w1.step v.0 v.2 mine theirs same v.4
 
--- a list behind which its areas are asked for
+-- a list after which its areas are asked for
 pub list_asked : (step : Option JobValue) (l : List ℕ) (task : Name) (areas : List Name) (more : List (List ℕ)) → IsList step l task areas → AskEach more task areas → GrantsAreShownBefore (l ∷ []) more
 list_asked step l task areas more asks each = (first, tt) where
   first : (one_line_text : Line) → LineOf false l one_line_text → leaves_open one_line_text ≡ true → GrantIsShown one_line_text more

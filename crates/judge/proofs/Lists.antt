@@ -1,4 +1,4 @@
--- A request for a list, and questions behind it where its areas lie.
+-- A request for a list, and questions after it where its areas lie.
 use Rattle.std.proofs.Common.{◌≡◌, ℕ, ◌<◌, ◌⊎◌, inl, inr, Bool, true, false, cond, List, [], ◌∷◌, ◌++◌, length, map, codes, decimal, Some, append_assoc, arith, refl, sym, ap, ◌∙◌, subst}
 use Rattle.std.specs.Prelude.{◌≢◌, not, ◌^◌}
 use Rattle.std.specs.List.{AllByRecursion}
@@ -76,17 +76,17 @@ map_long f [] = refl
 map_long f (x ∷ xs) = let e = map_long f xs in omega (arith, e)
 
 -- a list that takes the addresses of another one is that
-taken_same : (t : Name) (number : ℕ) (wants : List WantValue) (told : List ℕ) (ps qs : List PlaceValue) (old a b : State) → ListFollowsHints old t number wants told ps a → ListGrant old t number wants qs b → told ≡ map (λ q. q.addr) qs → (ps ≡ qs) × (a ≡ b)
-taken_same t number [] told [] [] old a b x y e = (refl, x ∙ sym y)
-taken_same t number [] told [] (q ∷ qs) old a b x y e = absurd y
-taken_same t number [] told (p ∷ ps) qs old a b x y e = absurd x
-taken_same t number (want ∷ wants) told [] qs old a b x y e = absurd x
+taken_same : (t : Name) (number : ℕ) (wants : List WantValue) (hints : List ℕ) (ps qs : List PlaceValue) (old a b : State) → ListFollowsHints old t number wants hints ps a → ListGrant old t number wants qs b → hints ≡ map (λ q. q.addr) qs → (ps ≡ qs) × (a ≡ b)
+taken_same t number [] hints [] [] old a b x y e = (refl, x ∙ sym y)
+taken_same t number [] hints [] (q ∷ qs) old a b x y e = absurd y
+taken_same t number [] hints (p ∷ ps) qs old a b x y e = absurd x
+taken_same t number (want ∷ wants) hints [] qs old a b x y e = absurd x
 taken_same t number (want ∷ wants) [] (p ∷ ps) qs old a b x y e = absurd x
-taken_same t number (want ∷ wants) (n ∷ told) (p ∷ ps) [] old a b x y e = absurd y
-taken_same t number (want ∷ wants) (n ∷ told) (p ∷ ps) (q ∷ qs) old a b x y e =
+taken_same t number (want ∷ wants) (n ∷ hints) (p ∷ ps) [] old a b x y e = absurd y
+taken_same t number (want ∷ wants) (n ∷ hints) (p ∷ ps) (q ∷ qs) old a b x y e =
     let here = x.2 q y.0 y.1 (sym (ap head_of e)) in
     let same = one_grant old t number want p q x.0 y.0 x.1 y.1 (here ∙ ap head_of e) in
-    let rest = taken_same t number wants told ps qs y.0 a b (subst (λ m. ListFollowsHints m t number wants told ps a) same.1 x.3) y.2 (ap tail_of e) in
+    let rest = taken_same t number wants hints ps qs y.0 a b (subst (λ m. ListFollowsHints m t number wants hints ps a) same.1 x.3) y.2 (ap tail_of e) in
     ((λ i. same.0 i ∷ rest.0 i), rest.1)
 
 list_active : (t : Name) (holds : Name) (number : ℕ) (wants : List WantValue) (ps : List PlaceValue) (old new : State) → ListGrant old holds number wants ps new → is_active old.owners t ≡ true → is_active new.owners t ≡ true
@@ -124,19 +124,19 @@ texts_part number t answer u v (inr (kin, fallen, is)) e =
 -- ---- the list
 
 -- Both are granted the list, at places of their own.
-pub record ListApart (told : List ℕ) (a b : JobValue) (t : Name) (areas : List Name) : Type 0 where
+pub record ListApart (hints : List ℕ) (a b : JobValue) (t : Name) (areas : List Name) : Type 0 where
   pub places : List PlaceValue
   pub are_at : AreAt b.names areas places
   pub active : is_active b.state.owners t ≡ true
   pub long : length (map (λ p. p.addr) places) ≡ length areas
   pub small : AllByRecursion (λ addr. addr < 2 ^ 31) (map (λ p. p.addr) places)
-  pub same : told ≡ map (λ p. p.addr) places → a ≡ b
+  pub same : hints ≡ map (λ p. p.addr) places → a ≡ b
 
 -- One is granted it, and the other one refused.
 abbrev pub AreOtherwise : Answer → Answer → Type 0
 AreOtherwise answer other = ((answer ≡ Rc0) × IsFailure other) ⊎ (IsFailure answer × (other ≡ Rc0))
 
-module _ (told : List ℕ) (old : JobValue) (t : Name) (answer other : Answer) (a b : JobValue) (form : Form) (number : ℕ) (lengths : List ℕ) (start : ℕ) (areas : List Name) (long : length lengths ≡ length areas) (apart : AreApart areas) (bounded : IsBounded old.state.regions) where
+module _ (hints : List ℕ) (old : JobValue) (t : Name) (answer other : Answer) (a b : JobValue) (form : Form) (number : ℕ) (lengths : List ℕ) (start : ℕ) (areas : List Name) (long : length lengths ≡ length areas) (apart : AreApart areas) (bounded : IsBounded old.state.regions) where
   abbrev k : SourceRequest
   k = written.ObtainList form number lengths start areas
 
@@ -150,35 +150,35 @@ module _ (told : List ℕ) (old : JobValue) (t : Name) (answer other : Answer) (
   wants = map (λ n. fixed_want n start Below) lengths
 
   abbrev Alike : Type 0
-  Alike = ((answer ≡ other) × (a ≡ b)) ⊎ (AreOtherwise answer other ⊎ ((answer ≡ other) × (answer ≡ Rc0) × ListApart told a b t areas))
+  Alike = ((answer ≡ other) × (a ≡ b)) ⊎ (AreOtherwise answer other ⊎ ((answer ≡ other) × (answer ≡ Rc0) × ListApart hints a b t areas))
 
   fails : (c : Bool) (kin : Family) (reply : Reply) (new : State) (said : Answer) → Fails c old.state t (short kin) reply new → said ≡ answer_of old.state k r reply → IsFailure said
   fails true kin reply new said x e = inl (e ∙ ap (answer_of old.state k r) x.0)
   fails false kin reply new said x e = inr (kin, x.0.fallen, e ∙ ap (answer_of old.state k r) x.1)
 
-  obtains : Makes (Takes told) old t k r answer a → Makes Any old t k r other b → Alike
+  obtains : Makes (Takes hints) old t k r answer a → Makes Any old t k r other b → Alike
   obtains x y = by_active (is_active old.state.owners t) (step_cases old.state t r x.reply a.state x.step) (step_cases old.state t r y.reply b.state y.step) (λ p q. none (ap granted_at p.0) (ap granted_at q.0))
       (λ active p q. by_two (is_invalid number) p q (λ u v. none (ap granted_at u.1) (ap granted_at v.1)) (at active)) where
         same_at : granted_at x.reply ≡ granted_at y.reply → (answer ≡ other) × (a ≡ b)
         same_at e =
             let s = one_step old.state t r x.reply y.reply a.state b.state x.step y.step e in
-            made_same (Takes told) old t answer other a b k r x y s.0 s.1
+            made_same (Takes hints) old t answer other a b k r x y s.0 s.1
 
         none : granted_at x.reply ≡ [] → granted_at y.reply ≡ [] → Alike
         none e f = inl (same_at (e ∙ sym f))
 
-        takes : (ps qs : List PlaceValue) → x.reply ≡ Listed ps → y.reply ≡ Listed qs → ListGrant old.state keeps number wants qs b.state → length told ≡ length lengths → told ≡ map (λ q. q.addr) qs → a ≡ b
+        takes : (ps qs : List PlaceValue) → x.reply ≡ Listed ps → y.reply ≡ Listed qs → ListGrant old.state keeps number wants qs b.state → length hints ≡ length lengths → hints ≡ map (λ q. q.addr) qs → a ≡ b
         takes ps qs d e h many at_qs =
-            let taken = (subst (λ reply. Takes told old.state t r reply a.state) d x.meets) many in
-            let s = taken_same keeps number wants told ps qs old.state a.state b.state taken h at_qs in
-            (made_same (Takes told) old t answer other a b k r x y (d ∙ ap Listed s.0 ∙ sym e) s.1).1
+            let taken = (subst (λ reply. Takes hints old.state t r reply a.state) d x.meets) many in
+            let s = taken_same keeps number wants hints ps qs old.state a.state b.state taken h at_qs in
+            (made_same (Takes hints) old t answer other a b k r x y (d ∙ ap Listed s.0 ∙ sym e) s.1).1
 
         both : is_active old.state.owners t ≡ true → (ps qs : List PlaceValue) → x.reply ≡ Listed ps → y.reply ≡ Listed qs → ListGrant old.state keeps number wants ps a.state → ListGrant old.state keeps number wants qs b.state → Alike
         both active ps qs d e g h =
             let many = list_long keeps number wants qs old.state b.state h ∙ map_long (λ n. fixed_want n start Below) lengths in
             inr (inr (
-              x.told ∙ ap (answer_of old.state k r) d ∙ sym (y.told ∙ ap (answer_of old.state k r) e),
-              x.told ∙ ap (answer_of old.state k r) d,
+              x.answer_is ∙ ap (answer_of old.state k r) d ∙ sym (y.answer_is ∙ ap (answer_of old.state k r) e),
+              x.answer_is ∙ ap (answer_of old.state k r) d,
               record {
                 places = qs;
                 are_at = subst (λ names. AreAt names areas qs) (sym (y.names ∙ ap (λ reply. all_set old.names areas (places_in reply)) e)) (all_at old.names areas qs apart (many ∙ long));
@@ -192,11 +192,11 @@ module _ (told : List ℕ) (old : JobValue) (t : Name) (answer other : Answer) (
         at : is_active old.state.owners t ≡ true → (ListShort old.state keeps number wants × Fails (is_conditional form) old.state t (short (family form)) x.reply a.state) ⊎ ((ps : List PlaceValue) × (x.reply ≡ Listed ps) × ListGrant old.state keeps number wants ps a.state)
             → (ListShort old.state keeps number wants × Fails (is_conditional form) old.state t (short (family form)) y.reply b.state) ⊎ ((ps : List PlaceValue) × (y.reply ≡ Listed ps) × ListGrant old.state keeps number wants ps b.state) → Alike
         at active (inl u) (inl v) = none (none_granted (is_conditional form) old.state t _ x.reply a.state u.1) (none_granted (is_conditional form) old.state t _ y.reply b.state v.1)
-        at active (inl u) (inr v) = inr (inl (inr (fails (is_conditional form) (family form) x.reply a.state answer u.1 x.told, y.told ∙ ap (answer_of old.state k r) v.1)))
-        at active (inr u) (inl v) = inr (inl (inl (x.told ∙ ap (answer_of old.state k r) u.1, fails (is_conditional form) (family form) y.reply b.state other v.1 y.told)))
+        at active (inl u) (inr v) = inr (inl (inr (fails (is_conditional form) (family form) x.reply a.state answer u.1 x.answer_is, y.answer_is ∙ ap (answer_of old.state k r) v.1)))
+        at active (inr u) (inl v) = inr (inl (inl (x.answer_is ∙ ap (answer_of old.state k r) u.1, fails (is_conditional form) (family form) y.reply b.state other v.1 y.answer_is)))
         at active (inr u) (inr v) = both active u.0 v.0 u.1 v.1 u.2 v.2
 
-  pub listed : Does (Takes told) old t (says.Request k) answer a → Does Any old t (says.Request k) other b → Alike
+  pub listed : Does (Takes hints) old t (says.Request k) answer a → Does Any old t (says.Request k) other b → Alike
   listed x y = by_two (not (is_active old.state.owners t)) x y (λ p q. inl (p.0 ∙ sym q.0, p.1 ∙ sym q.1)) obtains
 
 -- so a list is answered what it may be

@@ -119,7 +119,7 @@ module _ (P : Condition) (old : JobValue) (t : Name) (answer other : Answer) (a 
       let names : a.names ≡ b.names = x.names ∙ ap (λ reply. all_set old.names (names_set k) (places_in reply)) reply ∙ sym y.names in
       let abended : a.abended ≡ b.abended = x.abended ∙ ap (λ reply. old.abended || is_abend reply) reply ∙ sym y.abended in
       let former : a.former ≡ b.former = x.former ∙ sym y.former in
-      (x.told ∙ ap (answer_of old.state k r) reply ∙ sym y.told, λ i. record { state = state i; names = names i; abended = abended i; former = former i })
+      (x.answer_is ∙ ap (answer_of old.state k r) reply ∙ sym y.answer_is, λ i. record { state = state i; names = names i; abended = abended i; former = former i })
 
   asks_same : (k : SourceRequest) (o : Option Request) → ((r : Request) → o ≡ Some r → opens r ≡ false) → Asks P old t k o answer a → Asks Any old t k o other b → (answer ≡ other) × (a ≡ b)
   asks_same k None closed x y = (x.0 ∙ sym y.0, x.1 ∙ sym y.1)

@@ -271,13 +271,13 @@ one_done _ r q a b = refl
 
 module _ (one other : JobValue) (t : Name) (x y : Answer) (a b : JobValue) (like : AreAlike one other) where
   said_alike : (k : SourceRequest) (r q : Request) (m : Makes Any one t k r x a) (n : Makes Any other t k q y b) (c d : Option Code) → c ≡ d → PrintedAnswer one.names one.state t a.state m.reply c (done_in k) → PrintedAnswer other.names other.state t b.state n.reply d (done_in k) → x ≡ y
-  said_alike k r q m n None None e u v = m.told ∙ ap (answer_of one.state k r) u ∙ one_done k r q one.state other.state ∙ sym (n.told ∙ ap (answer_of other.state k q) v)
+  said_alike k r q m n None None e u v = m.answer_is ∙ ap (answer_of one.state k r) u ∙ one_done k r q one.state other.state ∙ sym (n.answer_is ∙ ap (answer_of other.state k q) v)
   said_alike k r q m n None (Some d) e u v = absurd cc
   said_alike k r q m n (Some c) None e u v = absurd cc
   said_alike k r q m n (Some c) (Some d) e u v =
       let code : c ≡ d = cc in
       let fallen = one_fallen one.state.owners t u.0 v.0 u.1 (subst (λ o. AreDescendants o t v.0) (sym like.owners) v.1) in
-      m.told ∙ ap (answer_of one.state k r) u.2 ∙ (λ i. Abended (code i) (fallen i)) ∙ sym (n.told ∙ ap (answer_of other.state k q) v.2)
+      m.answer_is ∙ ap (answer_of one.state k r) u.2 ∙ (λ i. Abended (code i) (fallen i)) ∙ sym (n.answer_is ∙ ap (answer_of other.state k q) v.2)
 
   asks_settled : is_active one.state.owners t ≡ true → (k : SourceRequest) (o p : Option Request) → resolved one.names k ≡ o → resolved other.names k ≡ p → is_some o ≡ is_some p → Asks Any one t k o x a → Asks Any other t k p y b → is_settled (statement.Request k) x ≡ true → x ≡ y
   asks_settled active k None None e f s m n w = m.0 ∙ sym n.0
@@ -286,7 +286,7 @@ module _ (one other : JobValue) (t : Name) (x y : Answer) (a b : JobValue) (like
   asks_settled active k (Some r) (Some q) e f s m n w =
       let u = acted one.state t r m.reply a.state active m.step in
       let v = acted other.state t q n.reply b.state (ap (λ o. is_active o t) (sym like.owners) ∙ active) n.step in
-      let here = shown_by one.names one.state t a.state m.reply k r e (settled_of k one.state r m.reply (request_runs one.names one.state t k r m.reply a.state e active m.step) (ap (is_settled (statement.Request k)) (sym m.told) ∙ w)) u in
+      let here = shown_by one.names one.state t a.state m.reply k r e (settled_of k one.state r m.reply (request_runs one.names one.state t k r m.reply a.state e active m.step) (ap (is_settled (statement.Request k)) (sym m.answer_is) ∙ w)) u in
       let there = sym (settled_alike k (pool_at one.state) (pool_at other.state) like.pools) ∙ here in
       said_alike k r q m n _ _ (code_alike k t one.state.owners (pool_at one.state) (pool_at other.state) like.pools ∙ ap (λ o. code_in k t o (pool_at other.state)) like.owners)
       (said_by one.names one.state t a.state m.reply k r e here u) (said_by other.names other.state t b.state n.reply k q f there v)

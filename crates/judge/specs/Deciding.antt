@@ -82,8 +82,8 @@ at_text number task (addr ∷ addrs) = reply_line number task (one_line_text (At
 
 -- The addresses are those that a text shows from the line with this number on, if it shows one for each of some names.
 abbrev pub ReadsEach : List ℕ → ℕ → Name → List Name → List ℕ → Type 0
-ReadsEach text number task areas told =
-    (addrs : List ℕ) (rest : List ℕ) → length addrs ≡ length areas → AllByRecursion (λ addr. addr < 2 ^ 31) addrs → text ≡ at_text number task addrs ++ rest → told ≡ addrs
+ReadsEach text number task areas hints =
+    (addrs : List ℕ) (rest : List ℕ) → length addrs ≡ length areas → AllByRecursion (λ addr. addr < 2 ^ 31) addrs → text ≡ at_text number task addrs ++ rest → hints ≡ addrs
 
 -- Whether a text begins with another one.
 abbrev pub BeginsBy : List ℕ → List ℕ → Bool → Type 0

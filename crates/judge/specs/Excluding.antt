@@ -27,7 +27,7 @@ use Rattle.judge.specs.Judging.{IsNoPrinting}
 use Rattle.judge.specs.Deciding.{IsServed, MayPrint}
 use Rattle.judge.specs.Outline.{AreAlike, BeginsOneOf, BeginsOpen, head, is_settled}
 
--- The same of two jobs between two lines.
+-- Two jobs, between two lines, of which a step is running in both or in neither, are alike where their steps are.
 abbrev pub Alike : Option JobValue → Option JobValue → Type 0
 Alike None None = Unit {0}
 Alike None (Some b) = ⊥

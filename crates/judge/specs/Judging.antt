@@ -121,7 +121,7 @@ IsOpenAt script output number =
     (events : List Event) × (step : Option JobValue) × (left : List (List ℕ)) × (rest : List ℕ)
     × (reached : Reaches (lines_of script) events number step left) × (output ≡ printing events ++ rest) × GrantsAreShownBefore reached.served left × IsOpen number step left rest
 
--- The same, and another text begins with what this run prints up to that line.
+-- A run prints what the output begins with, up to the line of this number, the first that is open; another text begins with it too.
 abbrev pub IsOpenIn : List ℕ → List ℕ → List ℕ → ℕ → Type 0
 IsOpenIn script output text number = (open_at : IsOpenAt script output number) × (more : List ℕ) × (text ≡ printing open_at.0 ++ more)
 

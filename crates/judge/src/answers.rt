@@ -15,14 +15,14 @@ pub enum PrintedAnswer {
 
 /// The first answer to each line, of those that are of use here.
 #[derive(Drop)]
-pub struct Answers {
+pub struct OutputAnswers {
     lines: HashMap<u32, PrintedAnswer>,
 }
 
-// What a printed line says, and the number of its line.
+// Returns what a printed line says, and the number of its line.
 fn read_answer(line: &str) -> Option<(u32, PrintedAnswer)> {
-    let (digits, behind) = line.split_once(' ')?;
-    let (_, text) = behind.split_once(' ')?;
+    let (digits, rest) = line.split_once(' ')?;
+    let (_, text) = rest.split_once(' ')?;
     let Ok(number) = digits.parse::<u32>() else {
         return None;
     };
@@ -35,9 +35,13 @@ fn read_answer(line: &str) -> Option<(u32, PrintedAnswer)> {
     }
 }
 
-impl Answers {
-    /// The addresses of an output for the line with this number and those after it.
-    pub fn read(alloc: Global, first_number: u32, output: &str) -> Result<Answers, OutOfMemory> {
+impl OutputAnswers {
+    /// Returns the addresses of an output for the line with this number and those after it.
+    pub fn read(
+        alloc: Global,
+        first_number: u32,
+        output: &str,
+    ) -> Result<OutputAnswers, OutOfMemory> {
         let mut lines = HashMap::new(alloc);
         for line in output.lines() {
             if let Some((number, said)) = read_answer(line) {
@@ -46,10 +50,10 @@ impl Answers {
                 }
             }
         }
-        Ok(Answers { lines })
+        Ok(OutputAnswers { lines })
     }
 
-    /// The answer to the line of a number.
+    /// Returns the answer to the line of a number.
     pub fn of(&self, line_number: u32) -> Option<PrintedAnswer> {
         self.lines.get(&line_number).copied()
     }

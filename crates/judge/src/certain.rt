@@ -12,7 +12,7 @@ use mvs_model::code::Code;
 use mvs_model::line::{SourceRequest, Statement};
 use mvs_model::subpool::SubNo;
 
-// Whether an answer is the abend with a user code.
+// Returns whether an answer is the abend with a user code.
 fn is_user(number: u16, answer: &Answer) -> bool
     ensures { (st : State) (fallen : List TaskName) (task : TaskName)
         → result ≡ is_user number (full_answer st fallen task answer.now) }
@@ -37,14 +37,14 @@ fn is_user(number: u16, answer: &Answer) -> bool
     }
 }
 
-// Whether a request may not name a subpool number.
+// Returns whether a request may not name a subpool number.
 fn is_invalid(number: u8) -> bool
     ensures { result ≡ is_invalid number }
 {
     SubNo::new(number).is_none()
 }
 
-// Whether places do not decide that a request has an answer.
+// Returns whether places do not decide that a request has an answer.
 fn request_settled(written: &SourceRequest, answer: &Answer) -> bool
     ensures { (st : State) (fallen : List TaskName) (task : TaskName)
         → result ≡ request_settled written.now (full_answer st fallen task answer.now) }

@@ -47,7 +47,7 @@ pub struct DecidedLines {
 }
 
 impl DecidedLines {
-    /// Whether it is decided that the job continues, and that a run can still print the output.
+    /// Returns whether it is decided that the job continues, and that a run can still print the output.
     pub fn follows(&self) -> bool
         ensures { result ≡ (self.now.served.passes && self.now.served.continues && not self.now.is_open) }
     {
@@ -65,7 +65,7 @@ struct Listed {
 // The events of a line, and the text printed so far.
 #[derive(Drop)]
 pub(crate) struct Printed {
-    pub(crate) told: LineEvent,
+    pub(crate) line_event: LineEvent,
     pub(crate) text: Vec<u8>,
 }
 
@@ -73,32 +73,32 @@ pub(crate) struct Printed {
 pub(crate) fn print_next(
     walk: &mut Walk,
     line: &[u8],
-    told: &[Addr],
+    hints: &[Addr],
     text: Vec<u8>,
 ) -> Result<Printed, OutOfMemory>
     requires { walk.old.number + 1 < 2 ^ 32 }
     ensures served { IfOk result
-        (λ p. ServesAsUnder (Takes told.now) walk.old line.now p.told walk.new) }
+        (λ p. ServesAsUnder (Takes hints.now) walk.old line.now p.line_event walk.new) }
     ensures printed { IfOk result
         (λ p. p.text.items
-        ≡ text.items ++ printing (events_of_line walk.old.number walk.new p.told)) }
+        ≡ text.items ++ printing (events_of_line walk.old.number walk.new p.line_event)) }
     ensures number { walk.new.number ≡ walk.old.number + 1 }
 {
     let line_number = walk.number();
-    let Ok(line_told) = walk.line(line, told) else {
+    let Ok(line_event) = walk.line(line, hints) else {
         return Err(OutOfMemory);
     };
     let mut writer = Watched::new(text);
-    match print_line(&mut writer, line_number, walk, &line_told) {
+    match print_line(&mut writer, line_number, walk, &line_event) {
         Ok(()) => Ok(Printed {
-            told: line_told,
+            line_event,
             text: writer.into_inner(),
         }),
         Err(_) => Err(OutOfMemory),
     }
 }
 
-// Whether a text begins so.
+// Returns whether a text begins so.
 pub(crate) fn begins(text: &[u8], front: &[u8]) -> bool
     ensures yes { result ≡ true → text.now ≡ front.now ++ drop (length front.now) text.now }
     ensures no { (rest : List ℕ) → text.now ≡ front.now ++ rest → result ≡ true }
@@ -126,7 +126,7 @@ fn decide_line(
 {
     let printed = print_next(walk, line, &[], Vec::new(alloc))?;
     let text = printed.text;
-    if let LineEvent::Faulted(_) = printed.told {
+    if let LineEvent::Faulted(_) = printed.line_event {
         let passes = left == text.as_slice();
         return Ok(ServedLines {
             text,
@@ -161,7 +161,7 @@ pub(crate) fn print_answer(
     }
 }
 
-// The answer to a granted request for an area of no bytes.
+// Returns the answer to a granted request for an area of no bytes.
 fn no_bytes(variable: bool) -> Answer
     ensures has_long_data { has_long_data result ≡ false }
     ensures answer { (st : State) (task : TaskName) → full_answer st [] task result ≡ no_bytes variable }
@@ -173,7 +173,7 @@ fn no_bytes(variable: bool) -> Answer
     }
 }
 
-// How many bytes are printed of a granted request for an area, whose line has this number, and of a question for it, up to the end.
+// Returns how many bytes are printed of a granted request for an area, whose line has this number, and of a question for it, up to the end.
 fn answered_len(
     alloc: Global,
     line_number: u32,
@@ -274,11 +274,11 @@ fn decide_shown(
         × (walk.new.number ≤ walk.old.number + d.taken))) }
     ensures bounds { IfOk result (λ o. InBounds walk.new.step) }
 {
-    let behind = text_after(script, end + 1);
-    let Some(second) = question_end(behind, asked) else {
+    let rest = text_after(script, end + 1);
+    let Some(second) = question_end(rest, asked) else {
         return Ok(None);
     };
-    let served = decide_pair(alloc, walk, &script[..end], &behind[..second], left, asked)?;
+    let served = decide_pair(alloc, walk, &script[..end], &rest[..second], left, asked)?;
     Ok(Some(DecidedLines {
         taken: end + 1 + (second + 1),
         served,
@@ -286,7 +286,7 @@ fn decide_shown(
     }))
 }
 
-// How many bytes are printed of a list that is granted, whose line has this number.
+// Returns how many bytes are printed of a list that is granted, whose line has this number.
 fn granted_len(alloc: Global, line_number: u32, task: &Name) -> Result<usize, OutOfMemory>
     ensures { IfOk result (λ n. n ≡ length (answer_text line_number task.now (no_bytes false))) }
 {
@@ -315,12 +315,12 @@ pub(crate) fn text_after(text: &[u8], front: usize) -> &[u8]
     }
 }
 
-// Some addresses, and another one after them.
-fn pushed(mut told: Vec<Addr>, addr: Addr) -> Result<Vec<Addr>, OutOfMemory>
-    ensures { IfOk result (λ all. all.items ≡ told.items ++ addr ∷ []) }
+// Appends an address.
+fn pushed(mut hints: Vec<Addr>, addr: Addr) -> Result<Vec<Addr>, OutOfMemory>
+    ensures { IfOk result (λ all. all.items ≡ hints.items ++ addr ∷ []) }
 {
-    match told.push(addr) {
-        Ok(()) => Ok(told),
+    match hints.push(addr) {
+        Ok(()) => Ok(hints),
         Err(_) => Err(OutOfMemory),
     }
 }
@@ -332,20 +332,20 @@ fn read_each(
     task: &Name,
     areas: &[Name],
     text: &[u8],
-    told: Vec<Addr>,
+    hints: Vec<Addr>,
 ) -> Result<Vec<Addr>, OutOfMemory>
     requires { line_number + length areas.now < 2 ^ 32 }
     ensures { (addrs : List ℕ) (rest : List ℕ) → length addrs ≡ length areas.now
         → AllByRecursion (λ addr. addr < 2 ^ 31) addrs
         → text.now ≡ at_text line_number task.now addrs ++ rest
-        → IfOk result (λ all. all.items ≡ told.items ++ addrs) }
+        → IfOk result (λ all. all.items ≡ hints.items ++ addrs) }
 {
     let Some((_, areas)) = areas.split_first() else {
-        return Ok(told);
+        return Ok(hints);
     };
     let len = located_len(alloc, line_number, task)?;
     let addr = address_after(text, len - 9);
-    let all = pushed(told, addr)?;
+    let all = pushed(hints, addr)?;
     read_each(
         alloc,
         line_number + 1,
@@ -364,9 +364,9 @@ fn read_areas(
     listed: &Listed,
 ) -> Result<Vec<Addr>, OutOfMemory>
     requires { line_number + 17 < 2 ^ 32 }
-    ensures { IfOk result (λ told. ReadsEach
+    ensures { IfOk result (λ hints. ReadsEach
         (drop (length (answer_text line_number listed.now.task (no_bytes false))) left.now)
-        (line_number + 1) listed.now.task listed.now.areas told.items) }
+        (line_number + 1) listed.now.task listed.now.areas hints.items) }
 {
     let front = granted_len(alloc, line_number, &listed.task)?;
     let text = text_after(left, front);
@@ -387,33 +387,33 @@ fn decide_list(
     alloc: Global,
     walk: &mut Walk,
     line: &[u8],
-    behind: &[u8],
+    rest: &[u8],
     left: &[u8],
     listed: &Listed,
 ) -> Result<ServedLines, OutOfMemory>
     requires number { walk.old.number + 18 < 2 ^ 32 }
     requires bounds { InBounds walk.old.step }
     requires list { IsList walk.old.step line.now listed.now.task listed.now.areas }
-    requires questions { AskEach (lines_of behind.now) listed.now.task listed.now.areas }
+    requires questions { AskEach (lines_of rest.now) listed.now.task listed.now.areas }
     ensures served { IfOk result
         (λ s. IsServed (line.now ∷ []) walk.old s.text.items true walk.new) }
     ensures continues { IfOk result (λ s. s.continues ≡ true) }
     ensures opens { IfOk result
         (λ s. s.passes ≡ false → BeginsAnswered walk.old.number listed.now.task left.now
-        → IsOpen walk.old.number walk.old.step (line.now ∷ lines_of behind.now) left.now) }
+        → IsOpen walk.old.number walk.old.step (line.now ∷ lines_of rest.now) left.now) }
     ensures refuses { IfOk result
         (λ s. s.passes ≡ false
         → (BeginsAnswered walk.old.number listed.now.task left.now → ⊥)
-        → DecidesBefore (line.now ∷ []) (lines_of behind.now) left.now walk.old s.text.items true
+        → DecidesBefore (line.now ∷ []) (lines_of rest.now) left.now walk.old s.text.items true
         false walk.new) }
     ensures decided { IfOk result
-        (λ s. s.passes ≡ true → DecidesBefore (line.now ∷ []) (lines_of behind.now) left.now
+        (λ s. s.passes ≡ true → DecidesBefore (line.now ∷ []) (lines_of rest.now) left.now
         walk.old s.text.items true true walk.new) }
     ensures number { IfOk result (λ s. walk.new.number ≡ walk.old.number + 1) }
     ensures bounds { IfOk result (λ s. InBounds walk.new.step) }
 {
-    let told = read_areas(alloc, walk.number(), left, listed)?;
-    let printed = print_next(walk, line, told.as_slice(), Vec::new(alloc))?;
+    let hints = read_areas(alloc, walk.number(), left, listed)?;
+    let printed = print_next(walk, line, hints.as_slice(), Vec::new(alloc))?;
     let passes = begins(left, printed.text.as_slice());
     Ok(ServedLines {
         text: printed.text,
@@ -447,12 +447,12 @@ fn decide_areas(
         × (walk.new.number ≤ walk.old.number + d.taken))) }
     ensures bounds { IfOk result (λ o. InBounds walk.new.step) }
 {
-    let behind = text_after(script, end + 1);
-    if !asks_each(behind, &listed.task, listed.areas.as_slice()) {
+    let rest = text_after(script, end + 1);
+    if !asks_each(rest, &listed.task, listed.areas.as_slice()) {
         return Ok(None);
     }
     let line_number = walk.number();
-    let mut served = decide_list(alloc, walk, &script[..end], behind, left, listed)?;
+    let mut served = decide_list(alloc, walk, &script[..end], rest, left, listed)?;
     let is_open = opens_list(alloc, line_number, &listed.task, left, served.passes)?;
     served.passes |= is_open;
     Ok(Some(DecidedLines {

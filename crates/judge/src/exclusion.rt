@@ -49,14 +49,14 @@ pub enum Ruling {
 }
 
 // Returns whether places do not decide what a line prints.
-fn is_certain(read: &Line, told: &LineEvent) -> bool
+fn is_certain(read: &Line, line_event: &LineEvent) -> bool
     ensures { (st : State) (fallen : List TaskName)
-        → result ≡ is_certain read.now (answer_in st fallen told.now) }
+        → result ≡ is_certain read.now (answer_in st fallen line_event.now) }
 {
     match read {
         Line::Nothing => true,
         Line::Statement(_, Statement::Region { .. }) => true,
-        Line::Statement(_, statement) => match told {
+        Line::Statement(_, statement) => match line_event {
             LineEvent::Answered { answer, .. } => is_settled(statement, answer),
             LineEvent::Nothing | LineEvent::StepBegan { .. } | LineEvent::Faulted(_) => true,
         },
@@ -123,7 +123,7 @@ fn undecided_if(is_possible: bool) -> LineVerdict
     }
 }
 
-// Whether both tests hold.
+// Returns whether both tests hold.
 fn both(one: bool, other: bool) -> bool
     ensures { result ≡ (one && other) }
 {
@@ -135,7 +135,7 @@ fn compare_read(
     alloc: Global,
     walk: &mut Walk,
     line: &[u8],
-    told: &[Addr],
+    hints: &[Addr],
     left: &[u8],
     read: &Line,
 ) -> Result<LineVerdict, OutOfMemory>
@@ -147,11 +147,11 @@ fn compare_read(
     ensures bounds { IfOk result (λ v. InBounds walk.new.step) }
 {
     let line_number = walk.number();
-    let printed = print_next(walk, line, told, Vec::new(alloc))?;
+    let printed = print_next(walk, line, hints, Vec::new(alloc))?;
     let passes = begins(left, printed.text.as_slice());
     let len = printed.text.as_slice().len();
     let is_shown = is_shown(read);
-    if is_certain(read, &printed.told) {
+    if is_certain(read, &printed.line_event) {
         return Ok(verdict_if(passes, len));
     }
     let agrees = both(passes, is_shown);
@@ -197,7 +197,7 @@ fn compare_line(
     alloc: Global,
     walk: &mut Walk,
     line: &[u8],
-    told: &[Addr],
+    hints: &[Addr],
     left: &[u8],
 ) -> Result<LineVerdict, OutOfMemory>
     requires number { walk.old.number + 1 < 2 ^ 32 }
@@ -208,7 +208,7 @@ fn compare_line(
 {
     let mut read = Line::Nothing;
     match read_line(line, is_first(walk), &mut read) {
-        Ok(()) => compare_read(alloc, walk, line, told, left, &read),
+        Ok(()) => compare_read(alloc, walk, line, hints, left, &read),
         Err(_) => compare_fault(alloc, walk, line, left),
     }
 }
@@ -229,7 +229,7 @@ pub fn rule(
     alloc: Global,
     script: &[u8],
     output: &[u8],
-    told: &AddressHints,
+    hints: &AddressHints,
 ) -> Result<Ruling, OutOfMemory>
     requires short { length script.now ≤ most_script_bytes }
     ensures { IfOk result (IsRuling script.now output.now) }
@@ -240,8 +240,8 @@ pub fn rule(
     'lines: while at < script.len() {
         let rest = &script[at..];
         let end = line_end(rest);
-        let hints = told.of(walk.number());
-        let verdict = compare_line(alloc, &mut walk, &rest[..end], hints, left)?;
+        let line_hints = hints.of(walk.number());
+        let verdict = compare_line(alloc, &mut walk, &rest[..end], line_hints, left)?;
         match verdict {
             LineVerdict::Agrees(len) => {
                 at += end + 1;

@@ -27,7 +27,7 @@ pub struct Followed {
     pub open_line: u32,
 }
 
-// A text, and another one after it.
+// Returns a text with another one after it.
 fn joined(alloc: Global, front: &[u8], back: &[u8]) -> Result<Vec<u8>, OutOfMemory>
     ensures { IfOk result (λ all. all.items ≡ front.now ++ back.now) }
 {
@@ -50,7 +50,7 @@ pub(crate) fn print_end(alloc: Global, walk: &Walk) -> Result<(Outcome, Vec<u8>)
     }
 }
 
-// A place in a script, or its end.
+// Returns a place in a script, or its end.
 fn within(script: &[u8], at: usize) -> usize
     ensures rest { drop result script.now ≡ drop at script.now }
     ensures most { result ≤ length script.now }
@@ -115,8 +115,8 @@ pub fn follow(
         let follows = decided.follows();
         let DecidedLines { taken, served, .. } = decided;
         if !follows {
-            let behind = within(script, at + taken);
-            let followed = split_once(alloc, behind, &output[..done], &served, line_number)?;
+            let rest = within(script, at + taken);
+            let followed = split_once(alloc, rest, &output[..done], &served, line_number)?;
             return Ok(followed);
         }
         at += taken;

@@ -1,8 +1,8 @@
 //! Matches the addresses in an output with the grants of the script, areas and cells: WHERE shows the place of the grant that set
 //! the name last.
 
-use crate::answers::{Answers, PrintedAnswer};
-use crate::parts::Parts;
+use crate::answers::{OutputAnswers, PrintedAnswer};
+use crate::parts::PoolParts;
 use job_script::read_line;
 use mvs_job::AddressHints;
 use mvs_model::error::OutOfMemory;
@@ -31,20 +31,20 @@ struct CellPlace {
 #[derive(Drop)]
 struct Hearing {
     names: HashMap<Name, ListMember>,
-    told: Vec<CellPlace>,
-    parts: Parts,
+    places: Vec<CellPlace>,
+    parts: PoolParts,
 }
 
 impl Hearing {
     fn new(alloc: Global) -> Hearing {
         Hearing {
             names: HashMap::new(alloc),
-            told: Vec::new(alloc),
-            parts: Parts::new(alloc),
+            places: Vec::new(alloc),
+            parts: PoolParts::new(alloc),
         }
     }
 
-    // A grant sets a name.
+    // Keeps the member of a list or the area to which a grant sets a name.
     fn set(&mut self, area: Name, member: ListMember) -> Result<(), OutOfMemory> {
         match self.names.insert(area, member) {
             Ok(_) => Ok(()),
@@ -88,7 +88,7 @@ impl Hearing {
         let Some(member) = self.names.get(name).copied() else {
             return Ok(());
         };
-        match self.told.push(CellPlace { member, addr }) {
+        match self.places.push(CellPlace { member, addr }) {
             Ok(()) => Ok(()),
             Err(_) => Err(OutOfMemory),
         }
@@ -124,14 +124,14 @@ impl Hearing {
 
 // Returns the addresses of each line, of its cell or in the order of its areas, up to the first that is not shown.
 fn by_lines(alloc: Global, spots: &[CellPlace]) -> Result<AddressHints, OutOfMemory> {
-    let mut told = AddressHints::nothing(alloc);
+    let mut hints = AddressHints::nothing(alloc);
     for spot in spots {
         let line = spot.member.line;
-        if told.of(line).len() == spot.member.place && spot.addr < 0x8000_0000 {
-            told.add(alloc, line, Addr::new(spot.addr))?;
+        if hints.of(line).len() == spot.member.place && spot.addr < 0x8000_0000 {
+            hints.add(alloc, line, Addr::new(spot.addr))?;
         }
     }
-    Ok(told)
+    Ok(hints)
 }
 
 // Returns what is known after the last line. The first has this number.
@@ -139,7 +139,7 @@ fn hear_lines(
     alloc: Global,
     first_number: u32,
     script: &str,
-    answers: &Answers,
+    answers: &OutputAnswers,
 ) -> Result<Hearing, OutOfMemory> {
     let mut hearing = Hearing::new(alloc);
     let mut read = Line::Nothing;
@@ -166,18 +166,18 @@ fn hear_text(
     if !output.contains(" AT ") {
         return Ok(AddressHints::nothing(alloc));
     }
-    let answers = Answers::read(alloc, first_number, output)?;
+    let answers = OutputAnswers::read(alloc, first_number, output)?;
     let mut hearing = hear_lines(alloc, first_number, script, &answers)?;
-    if hearing.told.sort().is_err() {
+    if hearing.places.sort().is_err() {
         return Err(OutOfMemory);
     }
-    let mut told = by_lines(alloc, &hearing.told)?;
+    let mut hints = by_lines(alloc, &hearing.places)?;
     if by_cells {
-        hearing.parts.add_hints(alloc, &mut told)?;
+        hearing.parts.add_hints(alloc, &mut hints)?;
     } else {
-        hearing.parts.leave(alloc, &mut told)?;
+        hearing.parts.leave(alloc, &mut hints)?;
     }
-    Ok(told)
+    Ok(hints)
 }
 
 /// Returns the addresses in an output for the rest of a script, which begins with the line with this number, after its first

@@ -33,7 +33,7 @@ pub struct GrantQuestion {
     pub variable: bool,
 }
 
-// Whether a request may be granted places.
+// Returns whether a request may be granted places.
 fn may_grant(written: &SourceRequest) -> bool
     ensures { result ≡ may_grant written.now }
 {
@@ -46,7 +46,7 @@ fn may_grant(written: &SourceRequest) -> bool
     )
 }
 
-// Whether a name is none of some names.
+// Returns whether a name is none of some names.
 fn is_none_of(name: &Name, others: &[Name]) -> bool
     ensures { IsTrue result ↔ AllByRecursion (λ other. name.now ≢ other) others.now }
 {
@@ -56,7 +56,7 @@ fn is_none_of(name: &Name, others: &[Name]) -> bool
     *name != *other && is_none_of(name, others)
 }
 
-// Whether no two of some names are the same.
+// Returns whether no two of some names are the same.
 fn are_apart(names: &[Name]) -> bool
     ensures { IsTrue result ↔ AreApart names.now }
 {
@@ -66,7 +66,7 @@ fn are_apart(names: &[Name]) -> bool
     is_none_of(name, names) && are_apart(names)
 }
 
-// Of what kind a line is that says this.
+// Returns the kind of a line.
 fn kind_of(read: &Line) -> GrantKind
     ensures { IsKindOf read.now result }
 {
@@ -102,14 +102,14 @@ fn kind_of(read: &Line) -> GrantKind
     }
 }
 
-// Whether no step has begun.
+// Returns whether no step has begun.
 pub(crate) fn is_first(walk: &Walk) -> bool
     ensures { result ≡ is_first walk.now.step }
 {
     walk.job().is_none()
 }
 
-/// Of what kind the next line of a job is.
+/// Returns the kind of the next line of a job.
 pub fn next_kind(walk: &Walk, line: &[u8]) -> GrantKind
     ensures { IsKind walk.now.step line.now result }
 {
@@ -175,10 +175,10 @@ pub fn asks_each(script: &[u8], task: &Name, areas: &[Name]) -> bool
     if !asks_where(&script[..end], task, area) {
         return false;
     }
-    let behind = if end < script.len() {
+    let rest = if end < script.len() {
         &script[end + 1..]
     } else {
         &[]
     };
-    asks_each(behind, task, areas)
+    asks_each(rest, task, areas)
 }

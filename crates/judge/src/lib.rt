@@ -70,7 +70,7 @@ fn hints_if(
     }
 }
 
-// What is found of an output from which the runs of a script part where the next line has this number.
+// Returns what is found of an output from which the runs of a script part where the next line has this number.
 fn finding_of(refused: bool, agrees: bool, line_number: u32) -> Finding
     ensures { result ≡ finding_of refused agrees line_number }
 {
@@ -116,7 +116,7 @@ fn judge_run(
     }
     let line_number = followed.open_line;
     let left = &script[followed.at..];
-    let Ok(told) = hints_if(
+    let Ok(hints) = hints_if(
         followed.passes,
         alloc,
         walk.number(),
@@ -126,7 +126,7 @@ fn judge_run(
     ) else {
         return Err(RunFault::Memory);
     };
-    let Ok(ran) = run_rest(walk, left, &told, followed.text) else {
+    let Ok(ran) = run_rest(walk, left, &hints, followed.text) else {
         return Err(RunFault::Memory);
     };
     let agrees = ran.text.as_slice() == output;
@@ -142,8 +142,8 @@ fn ruling_of(alloc: Global, script: &[u8], output: &[u8]) -> Result<Ruling, OutO
     requires { length script.now ≤ most_script_bytes }
     ensures { IfOk result (IsRuling script.now output.now) }
 {
-    let told = hear(alloc, 1, script, output, true)?;
-    let ruling = rule(alloc, script, output, &told)?;
+    let hints = hear(alloc, 1, script, output, true)?;
+    let ruling = rule(alloc, script, output, &hints)?;
     if ruling != Ruling::Undecided {
         return Ok(ruling);
     }

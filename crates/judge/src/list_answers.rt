@@ -17,7 +17,7 @@ use mvs_model::name::Name;
 use mvs_model::watched::Watched;
 use std::alloc::Global;
 
-// Whether a text begins with an answer to the line of this number.
+// Returns whether a text begins with an answer to the line of this number.
 fn begins_so(
     alloc: Global,
     line_number: u32,
@@ -55,7 +55,7 @@ pub(crate) fn begins_abend(
     }
 }
 
-// Whether a text begins with what a list may be answered.
+// Returns whether a text begins with what a list may be answered.
 fn begins_answered(
     alloc: Global,
     line_number: u32,
@@ -73,7 +73,7 @@ fn begins_answered(
     Ok(granted | refused | of_e | of_r | located)
 }
 
-/// Whether a list is open, whose line has this number and at which a run may print the text or not: none prints the answer of this run,
+/// Returns whether a list is open, whose line has this number and at which a run may print the text or not: none prints the answer of this run,
 /// and yet it begins with what a list may be answered.
 pub fn opens_list(
     alloc: Global,

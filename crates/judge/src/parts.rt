@@ -47,7 +47,7 @@ struct PartCells {
 
 /// The parts and the cells of the lines so far.
 #[derive(Drop)]
-pub struct Parts {
+pub struct PoolParts {
     pools: HashMap<Name, Pool>,
     parts: Vec<PoolPart>,
     taken: Vec<PartCells>,
@@ -86,14 +86,14 @@ impl PoolPart {
         }
     }
 
-    // Where the first cell is, if the highest one is the last.
+    // Returns where the first cell is, if the highest one is the last.
     fn below_highest(&self, cells: &Cells) -> Option<u32> {
         let before = self.count.saturating_sub(1).saturating_mul(self.cell_size);
         let first = cells.highest.checked_sub(before)?;
         if first % 8 == 0 { Some(first) } else { None }
     }
 
-    // Where the first cell is, if the lowest one is as near to it as it can be: the cells begin on a doubleword.
+    // Returns where the first cell is, if the lowest one is as near to it as it can be: the cells begin on a doubleword.
     fn from_lowest(&self, cells: &Cells) -> Option<u32> {
         let mut first = cells.lowest;
         for _ in 0..8 {
@@ -105,7 +105,7 @@ impl PoolPart {
         None
     }
 
-    // Where the first cell may be: cells are taken upwards, or downwards where several are, or where one is and so are those of
+    // Returns where the first cell may be: cells are taken upwards, or downwards where several are, or where one is and so are those of
     // other parts.
     fn first_cell(&self, others_go_down: bool) -> Option<u32> {
         let cells = self.cells?;
@@ -119,17 +119,17 @@ impl PoolPart {
     }
 }
 
-impl Parts {
-    /// No part.
-    pub fn new(alloc: Global) -> Parts {
-        Parts {
+impl PoolParts {
+    /// Makes the parts of a job in which there is no pool.
+    pub fn new(alloc: Global) -> PoolParts {
+        PoolParts {
             pools: HashMap::new(alloc),
             parts: Vec::new(alloc),
             taken: Vec::new(alloc),
         }
     }
 
-    /// A step begins, which has no pools.
+    /// Forgets all pools, since a step begins.
     pub fn clear(&mut self) {
         self.pools.clear();
     }
@@ -151,7 +151,7 @@ impl Parts {
         }
     }
 
-    // A pool is made.
+    // Keeps a pool that was built.
     fn build(
         &mut self,
         name: &Name,
@@ -177,7 +177,7 @@ impl Parts {
         self.keep(name, pool)
     }
 
-    // A cell is taken, of a further part where none was free.
+    // Takes a cell, of a further part if none is free.
     fn get(&mut self, name: &Name, line: u32) -> Result<(), OutOfMemory> {
         let Some(mut pool) = self.pools.get(name).copied() else {
             return Ok(());
@@ -203,7 +203,7 @@ impl Parts {
         self.keep(name, pool)
     }
 
-    // A cell is given back.
+    // Gives a cell back.
     fn free(&mut self, name: &Name) -> Result<(), OutOfMemory> {
         let Some(mut pool) = self.pools.get(name).copied() else {
             return Ok(());
@@ -269,11 +269,11 @@ impl Parts {
     }
 
     // Records each known cell.
-    fn see_each(&mut self, alloc: Global, told: &AddressHints) -> Result<(), OutOfMemory> {
+    fn see_each(&mut self, alloc: Global, hints: &AddressHints) -> Result<(), OutOfMemory> {
         let mut seen = HashMap::new(alloc);
         for number in 0..self.taken.len() {
             if let Some(taken) = self.taken.get(number).copied() {
-                if let Some(addr) = told.of(taken.line).first() {
+                if let Some(addr) = hints.of(taken.line).first() {
                     self.see(taken.part, addr.get(), &mut seen)?;
                 }
             }
@@ -281,7 +281,7 @@ impl Parts {
         Ok(())
     }
 
-    // Whether the cells of some part are taken downwards, and those of none upwards.
+    // Returns whether the cells of some part are taken downwards, and those of none upwards.
     fn go_down(&self) -> bool {
         let mut some_down = false;
         for part in &self.parts {
@@ -297,26 +297,30 @@ impl Parts {
 
     /// Returns the hint for the first cell of each part: of the first part of a pool for the line of its BUILD, and of a further
     /// one after the cell of the line that added it.
-    pub fn add_hints(&mut self, alloc: Global, told: &mut AddressHints) -> Result<(), OutOfMemory> {
-        self.see_each(alloc, told)?;
+    pub fn add_hints(
+        &mut self,
+        alloc: Global,
+        hints: &mut AddressHints,
+    ) -> Result<(), OutOfMemory> {
+        self.see_each(alloc, hints)?;
         let go_down = self.go_down();
         for part in &self.parts {
             let is_further = part.line != part.pool_line;
-            if is_further && told.of(part.line).is_empty() {
+            if is_further && hints.of(part.line).is_empty() {
                 continue;
             }
             if let Some(first) = part.first_cell(go_down) {
-                told.add(alloc, part.line, Addr::new(first.min(0x7FFF_FFFF)))?;
+                hints.add(alloc, part.line, Addr::new(first.min(0x7FFF_FFFF)))?;
             }
         }
         Ok(())
     }
 
     /// Leaves each part to the placement: the hint for a further one is an address where no cell begins.
-    pub fn leave(&self, alloc: Global, told: &mut AddressHints) -> Result<(), OutOfMemory> {
+    pub fn leave(&self, alloc: Global, hints: &mut AddressHints) -> Result<(), OutOfMemory> {
         for part in &self.parts {
-            if part.line != part.pool_line && !told.of(part.line).is_empty() {
-                told.add(alloc, part.line, Addr::new(0))?;
+            if part.line != part.pool_line && !hints.of(part.line).is_empty() {
+                hints.add(alloc, part.line, Addr::new(0))?;
             }
         }
         Ok(())

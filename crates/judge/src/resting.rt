@@ -20,7 +20,7 @@ pub struct RunResult {
 pub fn run_rest(
     mut walk: Walk,
     script: &[u8],
-    told: &AddressHints,
+    hints: &AddressHints,
     text: Vec<u8>,
 ) -> Result<RunResult, OutOfMemory>
     requires { walk.number + length script.now + 1 < 2 ^ 32 }
@@ -34,8 +34,8 @@ pub fn run_rest(
     'lines: while at < script.len() {
         let rest = &script[at..];
         let end = line_end(rest);
-        let line_told = told.of(walk.number());
-        match run_line(&mut walk, &rest[..end], line_told, &mut writer) {
+        let line_hints = hints.of(walk.number());
+        match run_line(&mut walk, &rest[..end], line_hints, &mut writer) {
             Ok(true) => at += end + 1,
             Ok(false) => {
                 return Ok(RunResult {

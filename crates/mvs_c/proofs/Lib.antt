@@ -1,5 +1,10 @@
 pub mod Handles
+pub mod Labels
 pub mod Mapped
 pub mod Scanning
-pub mod Told
+pub mod NumberTexts
+pub mod Outputs
+pub mod Pieces
+pub mod StatementRows
+pub mod Statements
 pub mod Unwritten

@@ -172,7 +172,7 @@ pub scans_on : (st : State) (from i a page to : ℕ) (run : MapRun) → a ≡ 40
 scans_on st from i a page to run is bounded scanned r end here =
     let low : 6 ≤ page = omega (arith, scanned.least) in
     let same : r.page + r.count ≡ to = omega (arith, end, r.addr, r.len) in
-    let at : page ≤ r.page = omega (arith, is, r.behind, r.addr) in
+    let at : page ≤ r.page = omega (arith, is, r.after, r.addr) in
     let more : r.page < r.page + r.count = (next_pages st a page run is bounded scanned.starts low r).some in
     record {
       least = omega (arith, scanned.least, at, more, same);

@@ -21,11 +21,11 @@ use Rattle.mvs_c.specs.declared.ask.RawRequest.{RawRequest}
 use Rattle.mvs_c.specs.declared.field.RequestField.{RequestField}
 use Rattle.mvs_c.specs.declared.field.RequestField.TheVariants as field
 use Rattle.mvs_c.specs.declared.ask.RequestKind.{RequestKind}
-use Rattle.mvs_c.specs.declared.ask.RequestKind.TheVariants.{Obtain, Release, ReleaseWhole, Build, Get, Free, Delete, Attach, Return, Abend, Show, Move}
+use Rattle.mvs_c.specs.declared.ask.RequestKind.TheVariants.{Obtain, Release, ReleaseWhole, Build, Get, Free, Delete, Attach, Return, Abend, Show, Move, SystemAbend}
 
 -- the kinds of requests and the forms, by their numbers from 1 on; 0 is none
 abbrev pub kinds : List (Option RequestKind)
-kinds = None ∷ Some Obtain ∷ Some Release ∷ Some ReleaseWhole ∷ Some Build ∷ Some Get ∷ Some Free ∷ Some Delete ∷ Some Attach ∷ Some Return ∷ Some Abend ∷ Some Show ∷ Some Move ∷ []
+kinds = None ∷ Some Obtain ∷ Some Release ∷ Some ReleaseWhole ∷ Some Build ∷ Some Get ∷ Some Free ∷ Some Delete ∷ Some Attach ∷ Some Return ∷ Some Abend ∷ Some Show ∷ Some Move ∷ Some SystemAbend ∷ []
 
 abbrev pub forms : List (Option Form)
 forms = None ∷ Some R ∷ Some Rc ∷ Some Ru ∷ Some Vrc ∷ Some Vru ∷ Some Ec ∷ Some Eu ∷ Some Vc ∷ Some Vu ∷ Some Storage ∷ Some StorageConditional ∷ Some Lc ∷ Some Lu ∷ []
@@ -229,6 +229,7 @@ Fits Delete a field.Name = IsNamed a.name
 Fits Attach a field.Name = IsNamed a.name
 Fits Attach a field.Subpools = IsGifts (gifts_value a)
 Fits Abend a field.Code = a.code < 4096
+Fits SystemAbend a field.Code = a.code < 4096
 Fits Show a field.Address = a.address < 2 ^ 31
 Fits Show a field.Length = (1 ≤ a.length) × (a.length ≤ most_shown)
 Fits Move a field.Address = a.address < 2 ^ 31
@@ -248,6 +249,7 @@ reads Delete = field.Name ∷ []
 reads Attach = field.Subpools ∷ field.Name ∷ []
 reads Return = []
 reads Abend = field.Code ∷ []
+reads SystemAbend = field.Code ∷ []
 reads Show = field.Length ∷ field.Address ∷ []
 reads Move = field.Length ∷ field.Address ∷ field.Source ∷ []
 
@@ -256,7 +258,8 @@ abbrev pub FitsOr : {X : Type 0} → (RequestField → Type 0) → List RequestF
 FitsOr fits [] wanted r = r ≡ Ok wanted
 FitsOr fits (f ∷ fs) wanted r = (fits f → FitsOr fits fs wanted r) × ((fits f → ⊥) → r ≡ Err f)
 
--- the request that a struct of a kind asks for, if its fields fit
+-- the request that a struct of a kind asks for, if its fields fit; an abend with a system code is one with the user code of the same
+-- number, since the state after an abend does not depend on its code
 abbrev pub request_value : RequestKind → RawRequest → Request
 request_value Obtain a = request.Obtain (form_value a.form) a.subpool (ask_value a)
 request_value Release a = request.Release (form_value a.form) a.subpool (place_at a.address a.length)
@@ -268,6 +271,7 @@ request_value Delete a = request.Delete (name_value a.name)
 request_value Attach a = request.Attach (name_value a.name) (gifts_value a) (residence_value a.above)
 request_value Return a = request.Return
 request_value Abend a = request.Abend a.code
+request_value SystemAbend a = request.Abend a.code
 request_value Show a = request.Show a.address a.length
 request_value Move a = request.Move a.address a.source a.length
 

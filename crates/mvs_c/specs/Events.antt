@@ -10,8 +10,10 @@ use Rattle.mvs_model.specs.declared.request.Reply.TheVariants as reply
 use Rattle.mvs_model.specs.Place.{PlaceValue}
 use Rattle.mvs_model.specs.Texts.{fault_number}
 use Rattle.mvs_job.specs.declared.walk.LineEvent.{LineEvent}
-use Rattle.mvs_job.specs.declared.walk.LineEvent.TheVariants as told
+use Rattle.mvs_job.specs.declared.walk.LineEvent.TheVariants as line_event
 use Rattle.mvs_job.specs.declared.walk.OutOfMemoryAt.{OutOfMemoryAt}
+use Rattle.mvs_c.specs.declared.ask.RequestKind.{RequestKind}
+use Rattle.mvs_c.specs.declared.ask.RequestKind.TheVariants.{SystemAbend}
 use Rattle.mvs_c.specs.declared.event.Event.{Event}
 use Rattle.mvs_c.specs.declared.field.RequestField.{RequestField}
 use Rattle.mvs_c.specs.Fields.{offset}
@@ -75,13 +77,28 @@ reply_event t reply.Ended = of_task 12 t
 reply_event t reply.Done = of_task 13 t
 reply_event t (reply.Abended code fallen) = record (of_task 15 t) { code = completion code }
 
+-- the system code with the number of a code
+abbrev pub system_of : Code → Code
+system_of (System n) = System n
+system_of (User n) = System n
+
+-- the reply to an abend with a system code, for which a user code of the same number was requested
+abbrev pub system_event : Name → Reply → Event
+system_event t (reply.Abended code fallen) = record (of_task 15 t) { code = completion (system_of code) }
+system_event t r = reply_event t r
+
+-- the reply to a request of a kind
+abbrev pub requested_event : Option RequestKind → Name → Reply → Event
+requested_event (Some SystemAbend) t r = system_event t r
+requested_event kind t r = reply_event t r
+
 -- the event of a line, or that memory is exhausted
-abbrev pub line_event : Result LineEvent OutOfMemoryAt → Event
-line_event (Ok told.Nothing) = of_kind 1
-line_event (Ok (told.StepBegan end card)) = record (of_task 2 card.name) { ended = step_number end }
-line_event (Ok (told.Answered t a)) = answer_event t a
-line_event (Ok (told.Faulted fault)) = record (of_kind 18) { code = fault_number fault }
-line_event (Err stopped) = record (of_kind 19) { ended = step_number stopped.ended }
+abbrev pub event_of_line : Result LineEvent OutOfMemoryAt → Event
+event_of_line (Ok line_event.Nothing) = of_kind 1
+event_of_line (Ok (line_event.StepBegan end card)) = record (of_task 2 card.name) { ended = step_number end }
+event_of_line (Ok (line_event.Answered t a)) = answer_event t a
+event_of_line (Ok (line_event.Faulted fault)) = record (of_kind 18) { code = fault_number fault }
+event_of_line (Err stopped) = record (of_kind 19) { ended = step_number stopped.ended }
 
 -- the end of a job
 abbrev pub end_event : Option Bool → Event

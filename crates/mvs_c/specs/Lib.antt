@@ -6,6 +6,11 @@ pub mod Fields
 pub mod Handle
 pub mod Held
 pub mod Lists
+pub mod Members
 pub mod Opens
+pub mod Pools
+pub mod Reasons
 pub mod Regions
+pub mod Statements
 pub mod Whole
+pub mod Why

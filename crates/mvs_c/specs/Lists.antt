@@ -6,12 +6,12 @@ use Rattle.mvs_model.specs.declared.code.Form.TheVariants.{R, Rc, Ru, Vrc, Vru, 
 use Rattle.mvs_model.specs.declared.request.Request.{Request}
 use Rattle.mvs_model.specs.declared.request.Request.TheVariants.{ObtainList, ReleaseList}
 use Rattle.mvs_model.specs.declared.request.Reply.{Reply}
-use Rattle.mvs_model.specs.declared.request.Reply.TheVariants.{Listed}
+use Rattle.mvs_model.specs.declared.request.Reply.TheVariants.{NotRun, Rc0, Rc4, Obtained, Listed, Cell, NoCell, Attached, Ended, Done, Abended}
 use Rattle.mvs_model.specs.Numbers.{most_items}
 use Rattle.mvs_model.specs.Place.{PlaceValue, place_at}
 use Rattle.mvs_c.specs.declared.ask.RawRequest.{RawRequest}
 use Rattle.mvs_c.specs.declared.ask.RequestKind.{RequestKind}
-use Rattle.mvs_c.specs.declared.ask.RequestKind.TheVariants.{Obtain, Release, ReleaseWhole, Build, Get, Free, Delete, Attach, Return, Abend, Show, Move}
+use Rattle.mvs_c.specs.declared.ask.RequestKind.TheVariants.{Obtain, Release, ReleaseWhole, Build, Get, Free, Delete, Attach, Return, Abend, Show, Move, SystemAbend}
 use Rattle.mvs_c.specs.declared.field.RequestField.{RequestField}
 use Rattle.mvs_c.specs.declared.field.RequestField.TheVariants as field
 use Rattle.mvs_c.specs.declared.list.ListArea.{ListArea}
@@ -70,7 +70,7 @@ pub record ReleasesList (a : RawRequest) (areas : List ListArea) (r : Result Req
   pub first : FitsOr (FitsRelease a areas) (field.Form ∷ field.Subpool ∷ field.Areas ∷ [])
       (ReleaseList (form_value a.form) a.subpool (map (λ x. place_at x.address x.length) areas)) r
 
--- The same of a struct of any kind; the other kinds have no lists.
+-- What a struct of any kind asks with a list of areas; kinds that have no lists are refused.
 abbrev pub AsksOfList : RawRequest → List ListArea → RequestKind → Result Request RequestField → Type 0
 AsksOfList a areas Obtain r = ObtainsList a areas r
 AsksOfList a areas Release r = ReleasesList a areas r
@@ -84,6 +84,7 @@ AsksOfList a areas Return r = r ≡ Err field.Kind
 AsksOfList a areas Abend r = r ≡ Err field.Kind
 AsksOfList a areas Show r = r ≡ Err field.Kind
 AsksOfList a areas Move r = r ≡ Err field.Kind
+AsksOfList a areas SystemAbend r = r ≡ Err field.Kind
 
 abbrev pub AsksList : RawRequest → List ListArea → Result Request RequestField → Type 0
 AsksList a areas r = AsksFor (λ k r. AsksOfList a areas k r) (kind_numbered a.kind) r
@@ -91,7 +92,16 @@ AsksList a areas r = AsksFor (λ k r. AsksOfList a areas k r) (kind_numbered a.k
 -- the places that a reply grants to a list
 abbrev pub listed : Reply → List PlaceValue
 listed (Listed ps) = ps
-listed _ = []
+listed NotRun = []
+listed Rc0 = []
+listed Rc4 = []
+listed (Obtained p) = []
+listed (Cell p) = []
+listed NoCell = []
+listed Attached = []
+listed Ended = []
+listed Done = []
+listed (Abended code fallen) = []
 
 -- the areas of a list, with these places in place of the first ones
 abbrev pub area_values : List PlaceValue → List ListArea → List ListArea

@@ -13,24 +13,26 @@ use Rattle.mvs_job.specs.LineEvents.{WalkValue, IsAvailable, events_of_line, end
 use Rattle.mvs_c.specs.declared.last.Last.{Last}
 use Rattle.mvs_c.specs.declared.last.Last.TheVariants as last
 use Rattle.mvs_c.specs.contracts.last.Last.{the_row}
+use Rattle.mvs_c.specs.Reasons.{WhyValue, why_code, no_why}
 
--- a session, and its last event
+-- a session, its last event, and why its last request was refused
 pub record OpenValue : Type 0 where
   pub session : SessionValue
   pub last : Last
+  pub why : WhyValue
 
 -- a code, for a model's value
 abbrev pub open_code : Coded OpenValue
-open_code = code_by (SessionValue × Last) (coded× session_code the_row.coded) (λ o. (o.session, o.last)) (λ p. record { session = p.0; last = p.1 }) (λ _. refl)
+open_code = code_by (SessionValue × (Last × WhyValue)) (coded× session_code (coded× the_row.coded why_code)) (λ o. (o.session, (o.last, o.why))) (λ p. record { session = p.0; last = p.1.0; why = p.1.1 }) (λ _. refl)
 
 -- a session before its first line
 abbrev pub new_open : OpenValue
-new_open = record { session = new_session; last = last.Nothing }
+new_open = record { session = new_session; last = last.Nothing; why = no_why }
 
 -- the last events
 abbrev pub events_of : WalkValue → Last → List Event
 events_of w last.Nothing = []
-events_of w (last.Line number told) = events_of_line number w told
+events_of w (last.Line number line_event) = events_of_line number w line_event
 events_of w (last.OutOfMemoryAt end) = ended end
 events_of w (last.Closed number end) = closing number end
 
@@ -38,18 +40,18 @@ events_of w (last.Closed number end) = closing number end
 abbrev pub text_of : OpenValue → List ℕ
 text_of o = printing (events_of o.session.walk o.last)
 
--- a session that continues, with its job in this state and no event of a line
-abbrev pub without_line : WalkValue → OpenValue
-without_line w = record { session = record { walk = w; continues = true }; last = last.Nothing }
+-- a session that continues, with its job in this state, no event of a line, and why a request was refused
+abbrev pub without_line : WalkValue → WhyValue → OpenValue
+without_line w why = record { session = record { walk = w; continues = true }; last = last.Nothing; why = why }
 
 -- The session has the long data of its last event.
 abbrev pub LastIsAvailable : WalkValue → Last → Type 0
-LastIsAvailable w (last.Line number told) = IsAvailable w told
+LastIsAvailable w (last.Line number line_event) = IsAvailable w line_event
 LastIsAvailable w _ = Unit {0}
 
 -- the events of the line with this number
 abbrev pub last_of : ℕ → Result LineEvent OutOfMemoryAt → Last
-last_of number (Ok told) = last.Line number told
+last_of number (Ok line_event) = last.Line number line_event
 last_of number (Err stopped) = last.OutOfMemoryAt stopped.ended
 
 -- the fault of a line, the next of a session, if it has one

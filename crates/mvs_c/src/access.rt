@@ -139,7 +139,7 @@ pub fn copy_ended_with(held: &Open, index: usize, name: &mut [u8; 8]) -> u32
     }
 }
 
-// The line of a task's first subpool number at or after one, or a status.
+// Returns the line of a task's first subpool number at or after one, or a status.
 fn find_subpool(held: &Open, name: &[u8; 8], from: u8) -> Result<SubpoolLine, u32>
     ensures { FindsSubpool held.now name.now from result }
 {
@@ -159,12 +159,12 @@ fn find_subpool(held: &Open, name: &[u8; 8], from: u8) -> Result<SubpoolLine, u3
 }
 
 /// Returns the first subpool number of a task at or after one.
-pub fn copy_subpool(held: &Open, name: &[u8; 8], from: u8, told: &mut Subpool) -> u32
-    ensures { AnswersSubpool held.now name.now from told.old told.new result }
+pub fn copy_subpool(held: &Open, name: &[u8; 8], from: u8, subpool: &mut Subpool) -> u32
+    ensures { AnswersSubpool held.now name.now from subpool.old subpool.new result }
 {
     match find_subpool(held, name, from) {
         Ok(line) => {
-            *told = Subpool {
+            *subpool = Subpool {
                 size: SUBPOOL_BYTES,
                 number: u32::from(line.number.get()),
                 owned: line.owned,
@@ -177,7 +177,7 @@ pub fn copy_subpool(held: &Open, name: &[u8; 8], from: u8, told: &mut Subpool) -
     }
 }
 
-// The first run of pages at or after an address.
+// Returns the first run of pages at or after an address.
 fn find_run(held: &Open, from: u32) -> Option<MapRun>
     ensures { FindsRun held.now from result }
 {
@@ -186,7 +186,7 @@ fn find_run(held: &Open, from: u32) -> Option<MapRun>
     job.step().map_run(from)
 }
 
-// A run of pages, for C.
+// Returns a run of pages, for C.
 fn run_value(run: &MapRun) -> RunFields
     ensures { result ≡ run_value run.now }
 {
@@ -205,13 +205,13 @@ fn run_value(run: &MapRun) -> RunFields
 }
 
 /// Returns the first run of pages at or after an address.
-pub fn copy_run(held: &Open, from: u32, told: &mut RunFields) -> u32
+pub fn copy_run(held: &Open, from: u32, fields: &mut RunFields) -> u32
     ensures { (found : Option MapRun) × FindsRun held.now from found
-        × ReturnsOne found run_value told.old told.new result }
+        × ReturnsOne found run_value fields.old fields.new result }
 {
     match find_run(held, from) {
         Some(run) => {
-            *told = run_value(&run);
+            *fields = run_value(&run);
             OK
         }
         None => NO_MORE,

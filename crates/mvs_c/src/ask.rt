@@ -41,10 +41,11 @@ pub enum RequestKind {
     Abend,
     Show,
     Move,
+    SystemAbend,
 }
 
 /// The kinds by their numbers, from 1 on.
-const KINDS: [Option<RequestKind>; 13] = [
+const KINDS: [Option<RequestKind>; 14] = [
     None,
     Some(RequestKind::Obtain),
     Some(RequestKind::Release),
@@ -58,6 +59,7 @@ const KINDS: [Option<RequestKind>; 13] = [
     Some(RequestKind::Abend),
     Some(RequestKind::Show),
     Some(RequestKind::Move),
+    Some(RequestKind::SystemAbend),
 ];
 
 /// The forms by their numbers, from 1 on.
@@ -105,7 +107,7 @@ pub struct RawRequest {
     /// How many cells the first part of a pool has, and each further one; 0: the same.
     pub primary: u32,
     pub secondary: u32,
-    /// A user completion code.
+    /// A completion code.
     pub code: u32,
     pub conditional: bool,
     /// A subtask does not share subpool 0.
@@ -122,7 +124,7 @@ pub struct RawRequest {
     pub name: [u8; 8],
 }
 
-// A kind of request.
+// Returns a kind of request.
 fn kind_of(number: u32) -> Option<RequestKind>
     ensures { result ≡ kind_numbered number }
 {
@@ -132,7 +134,7 @@ fn kind_of(number: u32) -> Option<RequestKind>
     }
 }
 
-// A form.
+/// Returns a form.
 pub fn form_of(number: u32) -> Option<Form>
     ensures { result ≡ form_numbered number }
 {
@@ -142,7 +144,7 @@ pub fn form_of(number: u32) -> Option<Form>
     }
 }
 
-// Whether an obtain of this form can have a least length.
+// Returns whether an obtain of this form can have a least length.
 fn takes_least(form: Form) -> bool
     ensures { result ≡ asks.takes_least form }
 {
@@ -153,7 +155,7 @@ fn takes_least(form: Form) -> bool
     }
 }
 
-// Whether an obtain of this form needs a least length.
+// Returns whether an obtain of this form needs a least length.
 fn needs_least(form: Form) -> bool
     ensures { result ≡ asks.needs_least form }
 {
@@ -171,8 +173,8 @@ fn needs_least(form: Form) -> bool
     }
 }
 
-// Whether an obtain of this form takes a location, and boundaries other than a doubleword and a page.
-fn is_located(form: Form) -> bool
+/// Returns whether an obtain of this form takes a location, and boundaries other than a doubleword and a page.
+pub fn is_located(form: Form) -> bool
     ensures { result ≡ asks.is_located form }
 {
     match form {
@@ -182,7 +184,7 @@ fn is_located(form: Form) -> bool
     }
 }
 
-// The form of an obtain.
+// Returns the form of an obtain.
 fn obtaining(number: u32) -> Option<Form>
     ensures { SomeIff result (TakesForm asks.obtains_one number) (form_value number) }
 {
@@ -192,7 +194,7 @@ fn obtaining(number: u32) -> Option<Form>
     }
 }
 
-// The form of a release of one area.
+// Returns the form of a release of one area.
 fn releasing(number: u32) -> Option<Form>
     ensures { SomeIff result (TakesForm asks.releases_one number) (form_value number) }
 {
@@ -202,7 +204,7 @@ fn releasing(number: u32) -> Option<Form>
     }
 }
 
-// The form of a release of a whole subpool.
+// Returns the form of a release of a whole subpool.
 fn releasing_whole(number: u32) -> Option<Form>
     ensures { SomeIff result (TakesForm asks.releases_whole number) (form_value number) }
 {
@@ -215,14 +217,24 @@ fn releasing_whole(number: u32) -> Option<Form>
     }
 }
 
-// A location.
+// Returns a location.
 fn location_of(number: u32) -> Option<Loc>
     ensures { SomeIff result (number < 3) (location_value number) }
 {
     LOCATIONS.get(number as usize).copied()
 }
 
-// The location of an obtain of a form.
+/// Returns a location, or that of a statement without one if the number is that of none.
+pub fn location_or_res(number: u32) -> Loc
+    ensures { result ≡ location_value number }
+{
+    match LOCATIONS.get(number as usize) {
+        Some(loc) => *loc,
+        None => Loc::Res,
+    }
+}
+
+// Returns the location of an obtain of a form.
 fn location_in(form: Form, number: u32) -> Option<Loc>
     ensures { SomeIff result (IsLocation form number) (location_value number) }
 {
@@ -232,28 +244,28 @@ fn location_in(form: Form, number: u32) -> Option<Loc>
     location_of(number)
 }
 
-// A subpool number.
+// Returns a subpool number.
 pub fn subpool_of(number: u32) -> Option<u8>
     ensures { SomeIff result (number < 256) number }
 {
     u8::try_from(number).ok()
 }
 
-// A number, or another one in the place of 0.
+// Returns a number, or another one in the place of 0.
 pub fn or_else(number: u32, other: u32) -> u32
     ensures { result ≡ or_else number other }
 {
     if number == 0 { other } else { number }
 }
 
-// A length of an area.
+// Returns a length of an area.
 pub fn length_of(number: u32) -> Option<Length>
     ensures { SomeIff result (IsLength number) number }
 {
     Length::checked(number)
 }
 
-// The least length of an obtain of a form.
+// Returns the least length of an obtain of a form.
 fn least_in(form: Form, number: u32, most: Length) -> Option<Length>
     ensures { SomeIff result (IsLeast form most number) (or_else number most) }
 {
@@ -270,14 +282,14 @@ fn least_in(form: Form, number: u32, most: Length) -> Option<Length>
     length_of(least)
 }
 
-// The power of two of a boundary.
+// Returns the power of two of a boundary.
 pub fn exponent_of(number: u32) -> Option<Exponent>
     ensures { SomeIff result (IsExponent number) number }
 {
     Exponent::checked(number)
 }
 
-// The power of two of the boundary that an obtain of a form begins on.
+// Returns the power of two of the boundary that an obtain of a form begins on.
 fn start_in(form: Form, number: u32) -> Option<Exponent>
     ensures { SomeIff result (IsStart form number) (or_else number 3) }
 {
@@ -289,7 +301,7 @@ fn start_in(form: Form, number: u32) -> Option<Exponent>
     }
 }
 
-// The power of two of the boundary that an obtain of a form does not cross, if there is one.
+// Returns the power of two of the boundary that an obtain of a form does not cross, if there is one.
 fn within_in(form: Form, number: u32) -> Option<Option<Exponent>>
     ensures { SomeIff result (IsWithin form number) (within_value number) }
 {
@@ -302,7 +314,7 @@ fn within_in(form: Form, number: u32) -> Option<Option<Exponent>>
     Some(Some(exponent_of(number)?))
 }
 
-// An address.
+// Returns an address.
 fn address_of(number: u32) -> Option<Addr>
     ensures { SomeIff result (number < 2 ^ 31) number }
 {
@@ -322,21 +334,21 @@ pub fn place_of(addr: u32, len: u32) -> Option<Place>
     Some(Place::new(addr, len.get()))
 }
 
-// How many cells a part of a pool has.
+// Returns how many cells a part of a pool has.
 fn count_of(number: u32) -> Option<CellCount>
     ensures { SomeIff result (IsCount number) number }
 {
     CellCount::checked(number)
 }
 
-// The bytes of a cell.
+// Returns the bytes of a cell.
 fn cell_size(number: u32) -> Option<CellSize>
     ensures { SomeIff result ((least_cell_bytes ≤ number) × (number ≤ most_cell_bytes)) number }
 {
     CellSize::checked(number)
 }
 
-// Whether a byte ends a name.
+// Returns whether a byte ends a name.
 fn ends_name(byte: u8) -> bool
     ensures { result ≡ ends_name byte }
 {
@@ -356,7 +368,7 @@ pub fn text_len(bytes: &[u8]) -> usize
     bytes.len()
 }
 
-// A name of eight bytes, which ends before the first blank or zero byte.
+// Returns a name of eight bytes, which ends before the first blank or zero byte.
 pub fn name_of(bytes: &[u8; 8]) -> Option<Name>
     ensures { SomeIff result (IsNamed bytes.now) (name_value bytes.now) }
 {
@@ -368,15 +380,15 @@ pub fn name_of(bytes: &[u8; 8]) -> Option<Name>
     }
 }
 
-// The two halves of a set of subpool numbers.
-fn set_of(low: u64, high: u64) -> u128
+/// Returns a set of subpool numbers from its two halves.
+pub fn set_of(low: u64, high: u64) -> u128
     ensures { result ≡ low + 2 ^ 64 * high }
 {
     u128::from(low) + (u128::from(high) << 64)
 }
 
 impl RawRequest {
-    // What an attaching task gives and shares.
+    // Returns what an attaching task gives and shares.
     fn gifts(&self) -> Option<Gifts>
         ensures { SomeIff result (IsGifts (gifts_value self.now)) (gifts_value self.now) }
     {
@@ -535,8 +547,10 @@ impl RawRequest {
         })
     }
 
+    // An abend with a system code is one with the user code of the same number.
     fn abend(&self) -> Result<Request, RequestField>
-        ensures { AsksOf kind.Abend self.now result }
+        ensures user { AsksOf kind.Abend self.now result }
+        ensures system { AsksOf kind.SystemAbend self.now result }
     {
         if self.code >= 4_096 {
             return Err(RequestField::Code);
@@ -585,7 +599,7 @@ impl RawRequest {
             RequestKind::Delete => self.delete(),
             RequestKind::Attach => self.attach(),
             RequestKind::Return => Ok(Request::Return),
-            RequestKind::Abend => self.abend(),
+            RequestKind::Abend | RequestKind::SystemAbend => self.abend(),
             RequestKind::Show => self.show(),
             RequestKind::Move => self.copy(),
         }

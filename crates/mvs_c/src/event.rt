@@ -2,9 +2,10 @@
 
 ghost use Rattle.std.specs.Prelude.{◌≡◌, ◌≢◌, MatchBool, Ok};
 ghost use Rattle.mvs_model.specs.Texts.{fault_number};
-ghost use Rattle.mvs_job.specs.declared.walk.LineEvent.TheVariants as told;
-ghost use Rattle.mvs_c.specs.Events.{answer_event, completion, end_event, event_bytes, line_event, of_kind, of_place, of_task, refused_event, reply_event, step_number};
+ghost use Rattle.mvs_job.specs.declared.walk.LineEvent.TheVariants as line_event;
+ghost use Rattle.mvs_c.specs.Events.{answer_event, requested_event, completion, end_event, event_bytes, event_of_line, of_kind, of_place, of_task, refused_event, reply_event, step_number, system_event};
 
+use crate::ask::RequestKind;
 use crate::field::RequestField;
 use mvs_job::{LineEvent, OutOfMemoryAt};
 use mvs_model::answer::Answer;
@@ -42,7 +43,7 @@ impl Event {
     }
 }
 
-// An event of a kind, and no more.
+// Makes an event of a kind, with no other field.
 fn of_kind(kind: u32) -> Event
     ensures { result ≡ of_kind kind }
 {
@@ -57,7 +58,7 @@ fn of_kind(kind: u32) -> Event
     }
 }
 
-// An event of a task.
+// Makes an event of a task.
 fn of_task(kind: u32, task: &Name) -> Event
     ensures { result ≡ of_task kind task.now }
 {
@@ -67,7 +68,7 @@ fn of_task(kind: u32, task: &Name) -> Event
     }
 }
 
-// An event of a task that has a place.
+// Makes an event of a task that has a place.
 fn of_place(kind: u32, task: &Name, place: &Place) -> Event
     ensures { result ≡ of_place kind task.now place.now }
 {
@@ -78,7 +79,7 @@ fn of_place(kind: u32, task: &Name, place: &Place) -> Event
     }
 }
 
-// How a step ended.
+// Returns how a step ended.
 fn step_number(ended: Option<bool>) -> u32
     ensures { result ≡ step_number ended }
 {
@@ -89,7 +90,7 @@ fn step_number(ended: Option<bool>) -> u32
     }
 }
 
-// A completion code in 24 bits.
+// Returns a completion code in 24 bits.
 fn completion(code: Code) -> u32
     ensures { result ≡ completion code }
 {
@@ -99,7 +100,7 @@ fn completion(code: Code) -> u32
     }
 }
 
-// The number of a fault.
+// Returns the number of a fault.
 fn fault_number(fault: Fault) -> u32
     ensures { result ≡ fault_number fault }
 {
@@ -116,7 +117,7 @@ fn fault_number(fault: Fault) -> u32
     }
 }
 
-/// The answer to a statement of a task.
+/// Returns the answer to a statement of a task.
 pub fn answer_event(task: &Name, answer: &Answer) -> Event
     ensures { result ≡ answer_event task.now answer.now }
 {
@@ -148,8 +149,8 @@ pub fn answer_event(task: &Name, answer: &Answer) -> Event
     }
 }
 
-/// The reply to a request of a task that was given by values.
-pub fn reply_event(task: &Name, reply: &Reply) -> Event
+// Returns the reply to a request of a task that was given by values.
+fn reply_event(task: &Name, reply: &Reply) -> Event
     ensures { result ≡ reply_event task.now reply.now }
 {
     match reply {
@@ -169,9 +170,55 @@ pub fn reply_event(task: &Name, reply: &Reply) -> Event
     }
 }
 
-/// The event of a line with a fault.
+// Returns the same of an abend with a system code, for which a user code of the same number was requested.
+fn system_event(task: &Name, reply: &Reply) -> Event
+    ensures { result ≡ system_event task.now reply.now }
+{
+    match reply {
+        Reply::Abended(Code::User(number) | Code::System(number), _) => Event {
+            code: completion(Code::System(*number)),
+            ..of_task(15, task)
+        },
+        Reply::NotRun
+        | Reply::Rc0
+        | Reply::Rc4
+        | Reply::Obtained(_)
+        | Reply::Listed(_)
+        | Reply::Cell(_)
+        | Reply::NoCell
+        | Reply::Attached
+        | Reply::Ended
+        | Reply::Done => reply_event(task, reply),
+    }
+}
+
+/// Returns the reply to a request of this kind of a task.
+pub fn requested_event(kind: Option<RequestKind>, task: &Name, reply: &Reply) -> Event
+    ensures { result ≡ requested_event kind task.now reply.now }
+{
+    match kind {
+        Some(RequestKind::SystemAbend) => system_event(task, reply),
+        Some(
+            RequestKind::Obtain
+            | RequestKind::Release
+            | RequestKind::ReleaseWhole
+            | RequestKind::Build
+            | RequestKind::Get
+            | RequestKind::Free
+            | RequestKind::Delete
+            | RequestKind::Attach
+            | RequestKind::Return
+            | RequestKind::Abend
+            | RequestKind::Show
+            | RequestKind::Move,
+        )
+        | None => reply_event(task, reply),
+    }
+}
+
+/// Returns the event of a line with a fault.
 pub fn fault_event(fault: Fault) -> Event
-    ensures { result ≡ line_event (Ok (told.Faulted fault)) }
+    ensures { result ≡ event_of_line (Ok (line_event.Faulted fault)) }
 {
     Event {
         code: fault_number(fault),
@@ -179,11 +226,11 @@ pub fn fault_event(fault: Fault) -> Event
     }
 }
 
-/// The event of a line, or that memory is exhausted.
-pub fn line_event(told: &Result<LineEvent, OutOfMemoryAt>) -> Event
-    ensures { result ≡ line_event told.now }
+/// Returns the event of a line, or that memory is exhausted.
+pub fn event_of_line(line_event: &Result<LineEvent, OutOfMemoryAt>) -> Event
+    ensures { result ≡ event_of_line line_event.now }
 {
-    match told {
+    match line_event {
         Ok(LineEvent::Nothing) => of_kind(1),
         Ok(LineEvent::StepBegan { ended, card }) => Event {
             ended: step_number(*ended),
@@ -198,7 +245,7 @@ pub fn line_event(told: &Result<LineEvent, OutOfMemoryAt>) -> Event
     }
 }
 
-/// The end of a job.
+/// Returns the end of a job.
 pub fn end_event(ended: Option<bool>) -> Event
     ensures { result ≡ end_event ended }
 {
@@ -208,7 +255,7 @@ pub fn end_event(ended: Option<bool>) -> Event
     }
 }
 
-/// The event of a request that is refused because of a field.
+/// Returns the event of a request that is refused because of a field.
 pub fn refused_event(field: RequestField) -> Event
     ensures { result ≡ refused_event field }
 {

@@ -10,21 +10,33 @@ ghost use Rattle.mvs_c.specs.Events.{event_bytes};
 ghost use Rattle.mvs_c.specs.Held.{FindsHeld, held_bytes, held_value};
 ghost use Rattle.mvs_c.specs.declared.held.HeldRun.{HeldRun};
 ghost use Rattle.mvs_c.specs.Regions.{region_bytes, region_line};
+ghost use Rattle.mvs_c.specs.Pools.{FindsPool, pool_bytes};
+ghost use Rattle.mvs_c.specs.declared.pool.PoolFields.{PoolFields};
+ghost use Rattle.mvs_c.specs.Members.{FindsPoolName, FindsTask, task_bytes};
+ghost use Rattle.mvs_c.specs.declared.member.TaskFields.{TaskFields};
+ghost use Rattle.mvs_model.specs.declared.name.Name.{Name as TheName};
+ghost use Rattle.mvs_c.specs.Reasons.{reason_bytes};
+ghost use Rattle.mvs_c.specs.Statements.{States};
 ghost use Rattle.mvs_c.specs.Lists.{AsksList, area_values, listed};
 ghost use Rattle.mvs_c.specs.Exports.{AnswersValues, AnswersEnd, AnswersLine, AnswersList, AnswersRequest, HandsOver, IsPlaceNumber, TriesLine, WithSession, line_status, outcome_status};
 
 use crate::access::{self, RunFields, Subpool};
-use crate::ask::RawRequest;
+use crate::ask::{RawRequest, RequestKind, name_of};
 use crate::buffer::hand_over;
-use crate::event::{Event, end_event, fault_event, line_event, refused_event, reply_event};
+use crate::event::{Event, end_event, event_of_line, fault_event, refused_event, requested_event};
 use crate::field::RequestField;
 use crate::handle::Handle;
 use crate::held::{HeldFields, copy_held};
 use crate::list::{ListArea, write_listed};
+use crate::member::{TaskFields, copy_pool_name, copy_task};
 use crate::open::Open;
+use crate::pool::{PoolFields, copy_pool};
+use crate::reason::ReasonFields;
 use crate::region::RegionFields;
+use crate::statement::statement;
 use crate::status::{
-    NO_MEMORY, NO_PLACE, NO_REQUEST, NO_SESSION, NO_STEP, OK, OVER, SCRIPT_FAULT, WRONG_SIZE,
+    NO_MEMORY, NO_MORE, NO_PLACE, NO_REQUEST, NO_SESSION, NO_STEP, OK, OVER, SCRIPT_FAULT,
+    TOO_LONG, WRONG_SIZE,
 };
 use mvs_job::{LineEvent, OutOfMemoryAt};
 use mvs_model::name::Name;
@@ -36,9 +48,9 @@ use std::alloc::Global;
 use std::mem;
 
 /// The version of these calls.
-const VERSION: u32 = 2_001;
+const VERSION: u32 = 2_003;
 
-/// The status of an outcome.
+/// Returns the status of an outcome.
 pub fn outcome_status(outcome: Outcome) -> u32
     ensures status { result ≡ outcome_status outcome }
     ensures low { result < 16 }
@@ -50,11 +62,11 @@ pub fn outcome_status(outcome: Outcome) -> u32
     }
 }
 
-// The status of a line.
-fn line_status(told: &Result<LineEvent, OutOfMemoryAt>) -> u32
-    ensures { result ≡ line_status told.now }
+// Returns the status of a line.
+fn line_status(line_event: &Result<LineEvent, OutOfMemoryAt>) -> u32
+    ensures { result ≡ line_status line_event.now }
 {
-    match told {
+    match line_event {
         Ok(LineEvent::Faulted(_)) => SCRIPT_FAULT,
         Ok(_) => OK,
         Err(_) => NO_MEMORY,
@@ -95,9 +107,9 @@ fn execute_line(held: &mut Open, line: &[u8], event: &mut Event) -> u32
     if !held.takes_line() {
         return OVER;
     }
-    let told = held.line(line);
-    *event = line_event(&told);
-    line_status(&told)
+    let line_event = held.line(line);
+    *event = event_of_line(&line_event);
+    line_status(&line_event)
 }
 
 // Passes a line to a session, if it accepts one and the line has no fault.
@@ -116,10 +128,15 @@ fn try_line(held: &mut Open, line: &[u8], event: &mut Event) -> u32
     }
 }
 
-// Passes a request to a session that continues, if there is a request and a step is running.
-fn serve(held: &mut Open, asked: Result<(Name, Request), RequestField>, event: &mut Event) -> u32
+// Passes a request of a kind to a session that continues, if there is a request and a step is running.
+fn serve(
+    held: &mut Open,
+    kind: Option<RequestKind>,
+    asked: Result<(Name, Request), RequestField>,
+    event: &mut Event,
+) -> u32
     requires { held.old.session.continues ≡ true }
-    ensures { AnswersValues held.old asked held.new event.old event.new result }
+    ensures { AnswersValues held.old kind asked held.new event.old event.new result }
 {
     let (task, request) = match asked {
         Ok(asked) => asked,
@@ -131,7 +148,7 @@ fn serve(held: &mut Open, asked: Result<(Name, Request), RequestField>, event: &
     if !held.request(&task, &request) {
         return NO_STEP;
     }
-    *event = reply_event(&task, held.reply());
+    *event = requested_event(kind, &task, held.reply());
     OK
 }
 
@@ -142,7 +159,7 @@ fn execute_request(held: &mut Open, ask: &RawRequest, event: &mut Event) -> u32
     if !held.continues() {
         return OVER;
     }
-    serve(held, ask.task_request(), event)
+    serve(held, ask.kind(), ask.task_request(), event)
 }
 
 // Passes a list request to a session, if it continues and a step is running.
@@ -157,7 +174,7 @@ fn execute_list(held: &mut Open, ask: &RawRequest, areas: &mut [ListArea], event
     if !held.continues() {
         return OVER;
     }
-    let status = serve(held, ask.task_list_request(areas), event);
+    let status = serve(held, ask.kind(), ask.task_list_request(areas), event);
     if status == OK {
         write_listed(held.reply(), areas);
     }
@@ -174,6 +191,19 @@ fn end_job(held: &mut Open, event: &mut Event) -> u32
     let closing = held.close();
     *event = end_event(closing.ended);
     outcome_status(closing.outcome)
+}
+
+// Returns why the last request of a session was refused.
+fn copy_reason(held: &Open, reason: &mut ReasonFields) -> u32
+    ensures { ReturnsOne held.now.why.fields (λ f. f) reason.old reason.new result }
+{
+    match held.reason() {
+        Some(fields) => {
+            *reason = fields;
+            OK
+        }
+        None => NO_MORE,
+    }
 }
 
 // Returns the text of the last events of a session.
@@ -195,7 +225,7 @@ fn show(alloc: Global, held: &Open, out: &mut [u8], wanted: &mut usize) -> u32
 /// Returns the version of these calls.
 #[unsafe(no_mangle)]
 pub extern "C" fn mvs_version() -> u32
-    ensures { result ≡ 2001 }
+    ensures { result ≡ 2003 }
 {
     VERSION
 }
@@ -399,6 +429,54 @@ pub extern "C" fn mvs_text_into(
     status
 }
 
+/// Copies the line that says why the last request was refused to the front of a buffer: nothing if it was granted.
+#[unsafe(no_mangle)]
+pub extern "C" fn mvs_why_into(
+    alloc: Global,
+    session: &mut Handle,
+    out: &mut [u8],
+    wanted: &mut usize,
+) -> u32
+    ensures session { session.new.open ≡ session.old.open }
+    ensures none { session.old.open ≡ None
+        → (result ≡ 20) × (out.new ≡ out.old) × (wanted.new ≡ wanted.old) }
+    ensures text { IfSome session.old.open
+        (λ old. HandsOver old.why.text out.old out.new wanted.new 0 result) }
+{
+    let Some(held) = take_out(alloc, session) else {
+        return NO_SESSION;
+    };
+    let status = hand_over(held.why(), out, wanted, OK);
+    put(alloc, session, held);
+    status
+}
+
+/// Returns why the last request was refused.
+#[unsafe(no_mangle)]
+pub extern "C" fn mvs_why_fields(
+    alloc: Global,
+    session: &mut Handle,
+    reason: &mut ReasonFields,
+) -> u32
+    ensures session { session.new.open ≡ session.old.open }
+    ensures size { reason.old.size ≢ reason_bytes → (result ≡ 64) × (reason.new ≡ reason.old) }
+    ensures none { reason.old.size ≡ reason_bytes → session.old.open ≡ None
+        → (result ≡ 20) × (reason.new ≡ reason.old) }
+    ensures fields { reason.old.size ≡ reason_bytes
+        → IfSome session.old.open
+        (λ old. ReturnsOne old.why.fields (λ f. f) reason.old reason.new result) }
+{
+    if !reason.is_sized() {
+        return WRONG_SIZE;
+    }
+    let Some(held) = take_out(alloc, session) else {
+        return NO_SESSION;
+    };
+    let status = copy_reason(&held, reason);
+    put(alloc, session, held);
+    status
+}
+
 /// Frees a session, where the handle holds one.
 #[unsafe(no_mangle)]
 pub extern "C" fn mvs_free_session(alloc: Global, session: &mut Handle)
@@ -446,7 +524,7 @@ pub extern "C" fn mvs_fallen(
 ) -> u32
     ensures session { session.new.open ≡ session.old.open }
     ensures none { session.old.open ≡ None → (result ≡ 20) × (name.new ≡ name.old) }
-    ensures told { IfSome session.old.open
+    ensures returned { IfSome session.old.open
         (λ old. ReturnsOne (slice_get (ended_with_in old.session.walk.reply) index) (λ t. t) name.old name.new
         result) }
 {
@@ -465,22 +543,22 @@ pub extern "C" fn mvs_subpool(
     session: &mut Handle,
     task: &[u8; 8],
     from: u8,
-    told: &mut Subpool,
+    subpool: &mut Subpool,
 ) -> u32
     ensures session { session.new.open ≡ session.old.open }
-    ensures size { told.old.size ≢ subpool_bytes → (result ≡ 64) × (told.new ≡ told.old) }
-    ensures none { told.old.size ≡ subpool_bytes → session.old.open ≡ None
-        → (result ≡ 20) × (told.new ≡ told.old) }
-    ensures told { told.old.size ≡ subpool_bytes
-        → IfSome session.old.open (λ old. AnswersSubpool old task.now from told.old told.new result) }
+    ensures size { subpool.old.size ≢ subpool_bytes → (result ≡ 64) × (subpool.new ≡ subpool.old) }
+    ensures none { subpool.old.size ≡ subpool_bytes → session.old.open ≡ None
+        → (result ≡ 20) × (subpool.new ≡ subpool.old) }
+    ensures returned { subpool.old.size ≡ subpool_bytes
+        → IfSome session.old.open (λ old. AnswersSubpool old task.now from subpool.old subpool.new result) }
 {
-    if !told.is_sized() {
+    if !subpool.is_sized() {
         return WRONG_SIZE;
     }
     let Some(held) = take_out(alloc, session) else {
         return NO_SESSION;
     };
-    let status = access::copy_subpool(&held, task, from, told);
+    let status = access::copy_subpool(&held, task, from, subpool);
     put(alloc, session, held);
     status
 }
@@ -491,24 +569,24 @@ pub extern "C" fn mvs_map(
     alloc: Global,
     session: &mut Handle,
     from: u32,
-    told: &mut RunFields,
+    fields: &mut RunFields,
 ) -> u32
     ensures session { session.new.open ≡ session.old.open }
-    ensures size { told.old.size ≢ run_bytes → (result ≡ 64) × (told.new ≡ told.old) }
-    ensures none { told.old.size ≡ run_bytes → session.old.open ≡ None
-        → (result ≡ 20) × (told.new ≡ told.old) }
-    ensures told { told.old.size ≡ run_bytes
+    ensures size { fields.old.size ≢ run_bytes → (result ≡ 64) × (fields.new ≡ fields.old) }
+    ensures none { fields.old.size ≡ run_bytes → session.old.open ≡ None
+        → (result ≡ 20) × (fields.new ≡ fields.old) }
+    ensures returned { fields.old.size ≡ run_bytes
         → IfSome session.old.open
         (λ old. (found : Option MapRun) × FindsRun old from found
-        × ReturnsOne found run_value told.old told.new result) }
+        × ReturnsOne found run_value fields.old fields.new result) }
 {
-    if !told.is_sized() {
+    if !fields.is_sized() {
         return WRONG_SIZE;
     }
     let Some(held) = take_out(alloc, session) else {
         return NO_SESSION;
     };
-    let status = access::copy_run(&held, from, told);
+    let status = access::copy_run(&held, from, fields);
     put(alloc, session, held);
     status
 }
@@ -539,4 +617,107 @@ pub extern "C" fn mvs_held(
     let status = copy_held(&held, from, run);
     put(alloc, session, held);
     status
+}
+
+/// Returns the cell pool of a name.
+#[unsafe(no_mangle)]
+pub extern "C" fn mvs_pool(
+    alloc: Global,
+    session: &mut Handle,
+    name: &[u8; 8],
+    pool: &mut PoolFields,
+) -> u32
+    ensures session { session.new.open ≡ session.old.open }
+    ensures size { pool.old.size ≢ pool_bytes → (result ≡ 64) × (pool.new ≡ pool.old) }
+    ensures none { pool.old.size ≡ pool_bytes → session.old.open ≡ None
+        → (result ≡ 20) × (pool.new ≡ pool.old) }
+    ensures pool { pool.old.size ≡ pool_bytes
+        → IfSome session.old.open
+        (λ old. (found : Option PoolFields) × FindsPool old name.now found
+        × ReturnsOne found (λ p. p) pool.old pool.new result) }
+{
+    if !pool.is_sized() {
+        return WRONG_SIZE;
+    }
+    let Some(held) = take_out(alloc, session) else {
+        return NO_SESSION;
+    };
+    let status = copy_pool(&held, name, pool);
+    put(alloc, session, held);
+    status
+}
+
+/// Returns the first active task whose name is after these eight bytes in byte order; the first of all if they are no name.
+#[unsafe(no_mangle)]
+pub extern "C" fn mvs_next_task(
+    alloc: Global,
+    session: &mut Handle,
+    after: &[u8; 8],
+    task: &mut TaskFields,
+) -> u32
+    ensures session { session.new.open ≡ session.old.open }
+    ensures size { task.old.size ≢ task_bytes → (result ≡ 64) × (task.new ≡ task.old) }
+    ensures none { task.old.size ≡ task_bytes → session.old.open ≡ None
+        → (result ≡ 20) × (task.new ≡ task.old) }
+    ensures task { task.old.size ≡ task_bytes
+        → IfSome session.old.open
+        (λ old. (found : Option TaskFields) × FindsTask old after.now found
+        × ReturnsOne found (λ t. t) task.old task.new result) }
+{
+    if !task.is_sized() {
+        return WRONG_SIZE;
+    }
+    let Some(held) = take_out(alloc, session) else {
+        return NO_SESSION;
+    };
+    let status = copy_task(&held, after, task);
+    put(alloc, session, held);
+    status
+}
+
+/// Returns the name of the first cell pool after these eight bytes in byte order; of the first of all if they are no name.
+#[unsafe(no_mangle)]
+pub extern "C" fn mvs_next_pool(
+    alloc: Global,
+    session: &mut Handle,
+    after: &[u8; 8],
+    name: &mut [u8; 8],
+) -> u32
+    ensures session { session.new.open ≡ session.old.open }
+    ensures none { session.old.open ≡ None → (result ≡ 20) × (name.new ≡ name.old) }
+    ensures name { IfSome session.old.open
+        (λ old. (found : Option TheName) × FindsPoolName old after.now found
+        × ReturnsOne found (λ n. n) name.old name.new result) }
+{
+    let Some(held) = take_out(alloc, session) else {
+        return NO_SESSION;
+    };
+    let status = copy_pool_name(&held, after, name);
+    put(alloc, session, held);
+    status
+}
+
+/// Writes the statement of a request by values to the front of a buffer. An area or a cell gets this name.
+#[unsafe(no_mangle)]
+pub extern "C" fn mvs_statement_into(
+    ask: &RawRequest,
+    area: &[u8; 8],
+    out: &mut [u8],
+    wanted: &mut usize,
+) -> u32
+    ensures { States ask.now area.now out.old out.new wanted.old wanted.new result }
+{
+    let Ok(_) = ask.task_request() else {
+        return NO_REQUEST;
+    };
+    if name_of(area).is_none() {
+        return NO_REQUEST;
+    }
+    let Some(kind) = ask.kind() else {
+        return NO_REQUEST;
+    };
+    match statement(kind, ask, area) {
+        Some(text) => hand_over(text.as_slice(), out, wanted, OK),
+        None => TOO_LONG,
+    }
 }

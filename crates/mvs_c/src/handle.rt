@@ -25,7 +25,7 @@ impl Model for Handle {
 }
 
 impl Handle {
-    /// No session.
+    /// Makes a handle without a session.
     pub fn none() -> Handle
         ensures { result.open ≡ None }
     {
@@ -34,7 +34,7 @@ impl Handle {
         }
     }
 
-    // The session of a box that was taken apart.
+    // Returns the session of a box that was taken apart.
     fn of_parts(parts: BoxParts<Open, Global>) -> Handle
         ensures { result.open ≡ Some parts.value }
     {
@@ -42,7 +42,7 @@ impl Handle {
         Handle { at: ptr as *mut u8 }
     }
 
-    // The parts of the box, if there is a session.
+    // Returns the parts of the box, if there is a session.
     fn into_parts(self, alloc: Global) -> Option<BoxParts<Open, Global>>
         ensures { MatchOption result (self.open ≡ None) (λ parts. self.open ≡ Some parts.value) }
     {
@@ -56,14 +56,14 @@ impl Handle {
         })
     }
 
-    /// The session of a box.
+    /// Returns the session of a box.
     pub fn of(boxed: Box<Open>) -> Handle
         ensures { result.open ≡ Some boxed.value }
     {
         Handle::of_parts(BoxParts::of(boxed))
     }
 
-    /// The box again, if there is one.
+    /// Returns the box again, if there is one.
     pub fn into_box(self, alloc: Global) -> Option<Box<Open>>
         ensures { MatchOption result (self.open ≡ None) (λ boxed. self.open ≡ Some boxed.value) }
     {

@@ -4,7 +4,7 @@ ghost use Rattle.std.specs.Prelude.{◌≡◌, ◌≢◌, ◌<◌, ◌≤◌, �
 ghost use Rattle.mvs_model.specs.Reasons.{Holds};
 ghost use Rattle.mvs_model.specs.View.{IsBounded};
 ghost use Rattle.mvs_c.specs.Access.{ReturnsOne};
-ghost use Rattle.mvs_c.specs.Held.{BeginsNoRun, BeginsRun, EndsRun, FindsHeld, IsHeldEnd, IsHeldRun, IsMapped, NoRunBetween, held_bytes, held_value};
+ghost use Rattle.mvs_c.specs.Held.{BeginsNoRun, BeginsRun, EndsRun, FindsHeld, IsHeldEnd, IsHeldRun, IsMapped, NoRunBetween, held_bytes, held_value, is_nothing};
 
 use crate::access::addr_of;
 use crate::open::Open;
@@ -19,7 +19,7 @@ use request_forms::Machine;
 const DOUBLEWORDS: u32 = 1 << 28;
 
 /// The first page after the greatest region above.
-const END_PAGE: u32 = FIRST_PAGE_ABOVE + MOST_PAGES_ABOVE;
+pub const END_PAGE: u32 = FIRST_PAGE_ABOVE + MOST_PAGES_ABOVE;
 
 /// The number of bytes of a run for C.
 const HELD_BYTES: u32 = 36;
@@ -32,7 +32,7 @@ pub struct HeldRun {
     pub holder: Holder,
 }
 
-/// The same for C.
+/// A run of held storage, as the C header lays it out: addresses and lengths in bytes.
 #[repr(C)]
 #[derive(Clone, Copy)]
 pub struct HeldFields {
@@ -65,6 +65,16 @@ fn is_same(one: &Holder, other: &Holder) -> bool
     one == other
 }
 
+// Returns whether nothing holds a doubleword.
+fn is_nothing(holder: &Holder) -> bool
+    ensures { result ≡ is_nothing holder.now }
+{
+    match holder {
+        Holder::Nobody | Holder::Outside => true,
+        Holder::Subpool(..) | Holder::Unowned | Holder::Part(_) => false,
+    }
+}
+
 // Returns what holds a doubleword.
 fn holder_at(machine: &Machine, d: u32) -> Holder
     requires { d < 2 ^ 28 }
@@ -80,7 +90,7 @@ fn begins(machine: &Machine, d: u32) -> Option<Holder>
     ensures { MatchOption result (BeginsNoRun machine.now.state d) (BeginsRun machine.now.state d) }
 {
     let holder = holder_at(machine, d);
-    if matches!(&holder, Holder::Nobody) {
+    if is_nothing(&holder) {
         return None;
     }
     if holder_at(machine, d - 1) == holder {
@@ -200,7 +210,7 @@ fn held_value(run: &HeldRun) -> HeldFields
     let (pooled, number, owner, pool) = match &run.holder {
         Holder::Subpool(number, owner) => (false, u32::from(number.get()), owner.bytes(), blank),
         Holder::Part(pool) => (true, 0, blank, pool.bytes()),
-        Holder::Unowned | Holder::Nobody => (false, 0, blank, blank),
+        Holder::Unowned | Holder::Nobody | Holder::Outside => (false, 0, blank, blank),
     };
     HeldFields {
         size: HELD_BYTES,

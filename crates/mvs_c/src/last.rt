@@ -8,7 +8,7 @@ pub enum Last {
     /// There was no event yet.
     Nothing,
     /// The line of this number.
-    Line { number: u32, told: LineEvent },
+    Line { number: u32, line_event: LineEvent },
     /// A line for which memory was exhausted: the running step, if there was one, has ended, and whether a task of it had abended.
     OutOfMemoryAt(Option<bool>),
     /// The end of the job, at the number of a next line.

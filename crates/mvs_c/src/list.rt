@@ -24,7 +24,7 @@ pub struct ListArea {
     pub length: u32,
 }
 
-// The form of a list.
+// Returns the form of a list.
 fn list_form(number: u32) -> Option<Form>
     ensures { SomeIff result (TakesForm is_list_form number) (form_value number) }
 {
@@ -44,7 +44,7 @@ fn list_form(number: u32) -> Option<Form>
     }
 }
 
-// The power of two of the boundary that each area begins on.
+// Returns the power of two of the boundary that each area begins on.
 fn list_start(number: u32) -> Option<Exponent>
     ensures { SomeIff result (IsListStart number) (or_else number 3) }
 {
@@ -71,7 +71,7 @@ fn push_lengths(lengths: &mut Lengths, areas: &[ListArea]) -> bool
     push_lengths(lengths, areas)
 }
 
-// The lengths of areas.
+// Returns the lengths of areas.
 fn lengths_of(areas: &[ListArea]) -> Option<Lengths>
     ensures { SomeIff result (IsListLength (length areas.now) × AreLengths areas.now) (map (λ a. a.length) areas.now) }
 {
@@ -104,7 +104,7 @@ fn push_places(places: &mut Places, areas: &[ListArea]) -> bool
     push_places(places, areas)
 }
 
-// The places of areas.
+// Returns the places of areas.
 fn places_of(areas: &[ListArea]) -> Option<Places>
     ensures { SomeIff result (IsListLength (length areas.now) × ArePlaces areas.now)
         (map (λ a. place_at a.address a.length) areas.now) }
@@ -181,6 +181,7 @@ impl RawRequest {
             | RequestKind::Attach
             | RequestKind::Return
             | RequestKind::Abend
+            | RequestKind::SystemAbend
             | RequestKind::Show
             | RequestKind::Move => Err(RequestField::Kind),
         }

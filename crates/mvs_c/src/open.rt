@@ -1,6 +1,6 @@
-//! A session, and its last event.
+//! A session, its last event, and why its last request was refused.
 
-ghost use Rattle.std.specs.Prelude.{◌≡◌, ◌≢◌, ◌+◌, ◌^◌, ◌<◌, ◌∷◌, [], true, false, None, length, IfOk, MatchBool, MatchOption, MatchResult};
+ghost use Rattle.std.specs.Prelude.{◌≡◌, ◌≢◌, ◌+◌, ◌^◌, ◌<◌, ◌∷◌, [], true, false, None, length, IfOk, MatchBool, MatchOption, MatchResult, OnErr};
 ghost use Rattle.mvs_model.specs.FullAnswers.{ended_with_in};
 ghost use Rattle.mvs_model.specs.Memory.{StopsForMemory};
 ghost use Rattle.mvs_model.specs.Runs.{machine};
@@ -9,9 +9,13 @@ ghost use Rattle.job_script.specs.Writing.{Prints};
 ghost use Rattle.mvs_job.specs.LineEvents.{ServesAs, KeepsReplyOf, closing, ended, continues};
 ghost use Rattle.mvs_job.specs.Valued.{RequestsOf, WritesOf};
 ghost use Rattle.mvs_c.specs.declared.last.Last.TheVariants as last;
+ghost use Rattle.mvs_c.specs.Reasons.{no_why};
+ghost use Rattle.mvs_c.specs.Why.{IsWhyOfLine, IsWhyOfValues};
 ghost use Rattle.mvs_c.specs.Opens.{TakesLine, events_of, fault_of, last_of, new_open, text_of, without_line};
 
 use crate::last::Last;
+use crate::last_reason::LastReason;
+use crate::reason::ReasonFields;
 use job_script::read_line;
 use mvs_job::{Job, JobEnd, LineEvent, OutOfMemoryAt, Session, print_closing, print_line};
 use mvs_model::line::{Fault, Line};
@@ -24,11 +28,12 @@ use std::alloc::Global;
 use std::io::Write;
 use std::marker::Model;
 
-/// A session, and its last event.
+/// A session, its last event, and why its last request was refused.
 #[derive(Drop)]
 pub struct Open {
     session: Session,
     last: Last,
+    why: LastReason,
 }
 
 impl Model for Open {
@@ -38,7 +43,7 @@ impl Model for Open {
 
     ghost coded = { open_code };
 
-    ghost view = { λ o. record { session = o.session; last = o.last } };
+    ghost view = { λ o. record { session = o.session; last = o.last; why = o.why } };
 
     ghost invariant = { λ o. LastIsAvailable o.session.walk o.last };
 }
@@ -51,10 +56,11 @@ impl Open {
         Open {
             session: Session::new(alloc, placement),
             last: Last::Nothing,
+            why: LastReason::new(),
         }
     }
 
-    /// Whether the job takes a line.
+    /// Returns whether the job takes a line.
     pub fn takes_line(&self) -> bool
         ensures { MatchBool result (TakesLine self.now.session) (TakesLine self.now.session → ⊥) }
     {
@@ -68,7 +74,7 @@ impl Open {
         self.session.continues()
     }
 
-    /// The step that runs; None before the first.
+    /// Returns the step that runs; None before the first.
     pub fn job(&self) -> Option<&Job>
         ensures { MatchOption result (self.now.session.walk.step ≡ None)
             (λ job. self.now.session.walk.step ≡ Some job.now) }
@@ -76,7 +82,7 @@ impl Open {
         self.session.walk().job()
     }
 
-    /// The tasks that ended with the one that abended, where the last request that was made abended.
+    /// Returns the tasks that ended with the one that abended, where the last request that was made abended.
     pub fn fallen(&self) -> &[Name]
         ensures { result.now ≡ ended_with_in self.now.session.walk.reply }
     {
@@ -97,26 +103,31 @@ impl Open {
     /// Serves a line, as a session does.
     pub fn line(&mut self, line: &[u8]) -> Result<LineEvent, OutOfMemoryAt>
         requires { TakesLine self.old.session }
-        ensures told { MatchResult result
-            (λ told. ServesAs self.old.session.walk line.now told self.new.session.walk)
+        ensures executed { MatchResult result
+            (λ line_event. ServesAs self.old.session.walk line.now line_event self.new.session.walk)
             (λ stopped. StopsForMemory self.old.session.walk.number self.old.session.walk.step
             (line.now ∷ []) (ended stopped.ended)) }
         ensures reply { IfOk result
-            (λ told. KeepsReplyOf self.old.session.walk line.now told self.new.session.walk) }
+            (λ line_event. KeepsReplyOf self.old.session.walk line.now line_event self.new.session.walk) }
         ensures number { self.new.session.walk.number ≡ self.old.session.walk.number + 1 }
         ensures continues { self.new.session.continues ≡ continues result }
         ensures last { self.new.last ≡ last_of self.old.session.walk.number result }
+        ensures why { IfOk result
+            (λ line_event. IsWhyOfLine self.old.session.walk.step line.now line_event self.new.session.walk
+            self.new.why) }
+        ensures silent { OnErr result (self.new.why ≡ no_why) }
     {
         let number = self.session.walk().number();
-        let told = self.session.line(line);
-        self.last = match &told {
-            Ok(told) => Last::Line {
+        self.why.clear();
+        let line_event = self.session.observed_line(line, &mut self.why);
+        self.last = match &line_event {
+            Ok(line_event) => Last::Line {
                 number,
-                told: *told,
+                line_event: *line_event,
             },
             Err(stopped) => Last::OutOfMemoryAt(stopped.ended),
         };
-        told
+        line_event
     }
 
     /// Executes a request given by values, as a session does; there is then no event of a line. Returns false if no step is
@@ -126,12 +137,14 @@ impl Open {
         ensures no_step { result ≡ false → (self.old.session.walk.step ≡ None) × (self.new ≡ self.old) }
         ensures served { result ≡ true
             → RequestsOf self.old.session.walk task.now request.now true self.new.session.walk
-            × (self.new ≡ without_line self.new.session.walk) }
+            × IsWhyOfValues self.old.session.walk.step task.now request.now self.new.session.walk self.new.why
+            × (self.new ≡ without_line self.new.session.walk self.new.why) }
     {
         if self.job().is_none() {
             return false;
         }
-        let served = self.session.request(task, request);
+        self.why.clear();
+        let served = self.session.request(task, request, &mut self.why);
         self.last = Last::Nothing;
         served
     }
@@ -141,21 +154,36 @@ impl Open {
         requires continues { self.old.session.continues ≡ true }
         requires len { length bytes.now ≡ place.len }
         ensures walk { WritesOf self.old.session.walk place bytes.now result self.new.session.walk }
-        ensures written { result ≡ true → self.new ≡ without_line self.new.session.walk }
+        ensures written { result ≡ true → self.new ≡ without_line self.new.session.walk no_why }
         ensures refused { result ≡ false → self.new ≡ self.old }
     {
         let written = self.session.write(place, bytes);
         if written {
             self.last = Last::Nothing;
+            self.why.clear();
         }
         written
     }
 
-    /// The reply to the last request that was made.
+    /// Returns the reply to the last request that was made.
     pub fn reply(&self) -> &Reply
         ensures { result.now ≡ self.now.session.walk.reply }
     {
         self.session.walk().reply()
+    }
+
+    /// Returns the line that says why the last request was refused. It is empty if that was granted.
+    pub fn why(&self) -> &[u8]
+        ensures { result.now ≡ self.now.why.text }
+    {
+        self.why.as_slice()
+    }
+
+    /// Returns why the last request was refused; None if that was granted.
+    pub fn reason(&self) -> Option<ReasonFields>
+        ensures { result ≡ self.now.why.fields }
+    {
+        self.why.fields()
     }
 
     /// Ends the job, as a session does.
@@ -166,6 +194,7 @@ impl Open {
         ensures walk { self.new.session.walk ≡ self.old.session.walk }
         ensures over { self.new.session.continues ≡ false }
         ensures last { self.new.last ≡ last.Closed self.old.session.walk.number result.ended }
+        ensures why { self.new.why ≡ no_why }
     {
         let number = self.session.walk().number();
         let closing = self.session.close();
@@ -173,6 +202,7 @@ impl Open {
             number,
             ended: closing.ended,
         };
+        self.why.clear();
         closing
     }
 
@@ -183,7 +213,7 @@ impl Open {
     {
         match &self.last {
             Last::Nothing => true,
-            Last::Line { told, .. } => matches!(told, LineEvent::Nothing),
+            Last::Line { line_event, .. } => matches!(line_event, LineEvent::Nothing),
             Last::OutOfMemoryAt(ended) => ended.is_none(),
             Last::Closed { .. } => false,
         }
@@ -195,7 +225,12 @@ impl Open {
     {
         match &self.last {
             Last::Nothing => Ok(()),
-            Last::Line { number, told } => print_line(writer, *number, self.session.walk(), told),
+            Last::Line { number, line_event } => print_line(
+                writer,
+                *number,
+                self.session.walk(),
+                line_event,
+            ),
             Last::OutOfMemoryAt(None) => Ok(()),
             Last::OutOfMemoryAt(ended) => print_closing(writer, 1, *ended),
             Last::Closed { number, ended } => print_closing(writer, *number, *ended),

@@ -7,7 +7,7 @@ use Rattle.mvs_model.specs.Memory.{StopsForMemory}
 use Rattle.mvs_model.specs.Runs.{machine}
 use Rattle.mvs_model.specs.Walk.{Closes}
 use Rattle.mvs_job.specs.declared.walk.LineEvent.{LineEvent}
-use Rattle.mvs_job.specs.declared.walk.LineEvent.TheVariants as told
+use Rattle.mvs_job.specs.declared.walk.LineEvent.TheVariants as line_event
 use Rattle.mvs_job.specs.LineEvents.{WalkValue, ServesAs, closing, ended}
 use Rattle.mvs_job.specs.declared.consumer.End.TheVariants as end
 use Rattle.mvs_job.specs.Trace.{Entry, IsClosed, IsExecuted, IsExhausted, IsFaulty}
@@ -18,22 +18,22 @@ module _ (w w' : WalkValue) (line : List ℕ) where
   abbrev pub OfExecuted : ℕ → LineEvent → Type 0
   OfExecuted n t = (e : Entry) × (IsExecuted w.number w.step line e × (e.after ≡ w'.step)) × IsEntry n line w' t e
 
-  pub entry_executed : (n : ℕ) (t : LineEvent) → n ≡ w.number → ((fault : Fault) → t ≡ told.Faulted fault → ⊥) → ServesAs w line t w' → OfExecuted n t
-  entry_executed n (told.Faulted fault) at other h = absurd (other fault refl)
-  entry_executed n told.Nothing at other (said, of, serves) = subst (λ n. OfExecuted n told.Nothing) (sym at) (_, ((said, _, _, of, serves, refl), refl), record { of_line = (said, _, _, of, serves, refl); events = refl; after = refl })
-  entry_executed n (told.StepBegan ended card) at other (said, of, serves) =
-      subst (λ n. OfExecuted n (told.StepBegan ended card)) (sym at) (_, ((said, _, _, of, serves, refl), refl), record { of_line = (said, _, _, of, serves, refl); events = refl; after = refl })
-  entry_executed n (told.Answered t a) at other (said, of, serves) =
-      subst (λ n. OfExecuted n (told.Answered t a)) (sym at) (_, ((said, _, _, of, serves, refl), refl), record { of_line = (said, _, _, of, serves, refl); events = refl; after = refl })
+  pub entry_executed : (n : ℕ) (t : LineEvent) → n ≡ w.number → ((fault : Fault) → t ≡ line_event.Faulted fault → ⊥) → ServesAs w line t w' → OfExecuted n t
+  entry_executed n (line_event.Faulted fault) at other h = absurd (other fault refl)
+  entry_executed n line_event.Nothing at other (said, of, serves) = subst (λ n. OfExecuted n line_event.Nothing) (sym at) (_, ((said, _, _, of, serves, refl), refl), record { of_line = (said, _, _, of, serves, refl); events = refl; after = refl })
+  entry_executed n (line_event.StepBegan ended card) at other (said, of, serves) =
+      subst (λ n. OfExecuted n (line_event.StepBegan ended card)) (sym at) (_, ((said, _, _, of, serves, refl), refl), record { of_line = (said, _, _, of, serves, refl); events = refl; after = refl })
+  entry_executed n (line_event.Answered t a) at other (said, of, serves) =
+      subst (λ n. OfExecuted n (line_event.Answered t a)) (sym at) (_, ((said, _, _, of, serves, refl), refl), record { of_line = (said, _, _, of, serves, refl); events = refl; after = refl })
 
   -- one with a fault
   abbrev pub OfFaulty : ℕ → LineEvent → Type 0
   OfFaulty n t = (e : Entry) × IsFaulty w.number w.step line e × IsEntry n line w' t e
 
-  faulty_at : (n : ℕ) (fault : Fault) → n ≡ w.number → ServesAs w line (told.Faulted fault) w' → OfFaulty n (told.Faulted fault)
-  faulty_at n fault at (of, same) = subst (λ n. OfFaulty n (told.Faulted fault)) (sym at) (_, (fault, of, refl), record { of_line = (fault, of, refl); events = refl; after = sym same })
+  faulty_at : (n : ℕ) (fault : Fault) → n ≡ w.number → ServesAs w line (line_event.Faulted fault) w' → OfFaulty n (line_event.Faulted fault)
+  faulty_at n fault at (of, same) = subst (λ n. OfFaulty n (line_event.Faulted fault)) (sym at) (_, (fault, of, refl), record { of_line = (fault, of, refl); events = refl; after = sym same })
 
-  pub entry_faulty : (n : ℕ) (t : LineEvent) (fault : Fault) → n ≡ w.number → t ≡ told.Faulted fault → ServesAs w line t w' → OfFaulty n t
+  pub entry_faulty : (n : ℕ) (t : LineEvent) (fault : Fault) → n ≡ w.number → t ≡ line_event.Faulted fault → ServesAs w line t w' → OfFaulty n t
   entry_faulty n t fault at is h = subst (OfFaulty n) (sym is) (faulty_at n fault at (subst (λ t. ServesAs w line t w') is h))
 
   -- any line
@@ -44,10 +44,10 @@ module _ (w w' : WalkValue) (line : List ℕ) where
   executed_any n t (e, is, entry) = (e, inl is.0, entry)
 
   pub entry_any : (n : ℕ) (t : LineEvent) → n ≡ w.number → ServesAs w line t w' → OfAny n t
-  entry_any n (told.Faulted fault) at h = let r = faulty_at n fault at h in (r.0, inr (inl r.1), r.2)
-  entry_any n told.Nothing at h = executed_any n told.Nothing (entry_executed n told.Nothing at (λ fault e. let f : told.Nothing ≡ told.Faulted fault = e in cc) h)
-  entry_any n (told.StepBegan ended card) at h = executed_any n (told.StepBegan ended card) (entry_executed n (told.StepBegan ended card) at (λ fault e. let f : told.StepBegan ended card ≡ told.Faulted fault = e in cc) h)
-  entry_any n (told.Answered t a) at h = executed_any n (told.Answered t a) (entry_executed n (told.Answered t a) at (λ fault e. let f : told.Answered t a ≡ told.Faulted fault = e in cc) h)
+  entry_any n (line_event.Faulted fault) at h = let r = faulty_at n fault at h in (r.0, inr (inl r.1), r.2)
+  entry_any n line_event.Nothing at h = executed_any n line_event.Nothing (entry_executed n line_event.Nothing at (λ fault e. let f : line_event.Nothing ≡ line_event.Faulted fault = e in cc) h)
+  entry_any n (line_event.StepBegan ended card) at h = executed_any n (line_event.StepBegan ended card) (entry_executed n (line_event.StepBegan ended card) at (λ fault e. let f : line_event.StepBegan ended card ≡ line_event.Faulted fault = e in cc) h)
+  entry_any n (line_event.Answered t a) at h = executed_any n (line_event.Answered t a) (entry_executed n (line_event.Answered t a) at (λ fault e. let f : line_event.Answered t a ≡ line_event.Faulted fault = e in cc) h)
 
 -- a line at which memory is exhausted
 pub entry_exhausted : (w : WalkValue) (line : List ℕ) (n : ℕ) (o : Option Bool) → n ≡ w.number → StopsForMemory w.number w.step (line ∷ []) (ended o) → (e : Entry) × IsExhausted w.number w.step line e × IsEnd n (end.Exhausted o) e

@@ -19,7 +19,7 @@ use Rattle.mvs_job.specs.declared.consumer.End.{End}
 use Rattle.mvs_job.specs.declared.consumer.End.TheVariants as end
 use Rattle.mvs_job.specs.declared.explained.Explained.{Explained}
 use Rattle.mvs_job.specs.declared.walk.LineEvent.{LineEvent}
-use Rattle.mvs_job.specs.declared.walk.LineEvent.TheVariants as told
+use Rattle.mvs_job.specs.declared.walk.LineEvent.TheVariants as line_event
 use Rattle.mvs_job.specs.Consuming.{AcceptsLast, IsEnd, IsEntry, IsOfLine}
 use Rattle.mvs_job.specs.Explained.{ExplainedArePrintings, IsExplained, IsExplainedAs, SetsNames, explained, set_after, set_by_entries, set_from}
 use Rattle.mvs_job.specs.Explaining.{IsExplanationText, explanation_text, text_of_event, without_starred}
@@ -30,7 +30,7 @@ use Rattle.mvs_job.specs.Observing.{ObservesLine}
 use Rattle.mvs_job.specs.LineEvents.{ServesAs, WalkValue, events_of_line}
 use Rattle.mvs_job.specs.Trace.{Closed, Entry, Executed, Exhausted, Faulty, Kind}
 use Rattle.mvs_job.specs.Why.{line_reason}
-use Rattle.mvs_job.proofs.Behind.{keeps, kept_behind, kept_same, kept_with}
+use Rattle.mvs_job.proofs.AfterLines.{keeps, kept_behind, kept_same, kept_with}
 use Rattle.mvs_job.proofs.Kept.{stops_naming}
 
 -- ---- the names that are set
@@ -43,7 +43,7 @@ set_then set (x ∷ history) e = set_then (set_after x.before set x x.kind) hist
 
 -- what was executed, or the fault
 abbrev Said : ℕ → List ℕ → LineEvent → WalkValue → Entry → Type 0
-Said n line (told.Faulted fault) w e = FaultOf (is_first e.before) line fault × (e.kind ≡ Faulty fault) × (w.step ≡ e.before)
+Said n line (line_event.Faulted fault) w e = FaultOf (is_first e.before) line fault × (e.kind ≡ Faulty fault) × (w.step ≡ e.before)
 Said n line t w e =
     (said : Line) × LineOf (is_first e.before) line said × Serves machine n e.before said (events_of_line n w t) w.step × (e.kind ≡ Executed said) × (e.number ≡ n) × (e.bytes ≡ line)
 
@@ -64,24 +64,24 @@ module _ (n : ℕ) (line : List ℕ) (w : WalkValue) (e : Entry) where
   )
 
   said_by : (t : LineEvent) → IsEntry n line w t e → Said n line t w e
-  said_by (told.Faulted fault) entry = at entry.of_line where
-    at : IsOfLine (told.Faulted fault) n line e → Said n line (told.Faulted fault) w e
+  said_by (line_event.Faulted fault) entry = at entry.of_line where
+    at : IsOfLine (line_event.Faulted fault) n line e → Said n line (line_event.Faulted fault) w e
     at (other, of, is) =
         let same : other ≡ fault = one_fault n other fault (sym (ap (λ (e : Entry). e.events) is) ∙ entry.events) in
         (subst (FaultOf (is_first e.before) line) same of, ap (λ (e : Entry). e.kind) is ∙ ap Faulty same, sym entry.after ∙ ap (λ (e : Entry). e.after) is)
-  said_by told.Nothing entry = executed_said told.Nothing entry.events entry.after entry.of_line
-  said_by (told.StepBegan end card) entry = executed_said (told.StepBegan end card) entry.events entry.after entry.of_line
-  said_by (told.Answered t a) entry = executed_said (told.Answered t a) entry.events entry.after entry.of_line
+  said_by line_event.Nothing entry = executed_said line_event.Nothing entry.events entry.after entry.of_line
+  said_by (line_event.StepBegan end card) entry = executed_said (line_event.StepBegan end card) entry.events entry.after entry.of_line
+  said_by (line_event.Answered t a) entry = executed_said (line_event.Answered t a) entry.events entry.after entry.of_line
 
   -- the job before the line
   abbrev pub before_it : WalkValue
   before_it = record { step = e.before; number = n; reply = w.reply }
 
   told_so : (t : LineEvent) → Said n line t w e → ServesAs before_it line t w
-  told_so (told.Faulted fault) (of, kind, same) = (of, same)
-  told_so told.Nothing (said, of, serves, kind, number, bytes) = (said, of, serves)
-  told_so (told.StepBegan end card) (said, of, serves, kind, number, bytes) = (said, of, serves)
-  told_so (told.Answered t a) (said, of, serves, kind, number, bytes) = (said, of, serves)
+  told_so (line_event.Faulted fault) (of, kind, same) = (of, same)
+  told_so line_event.Nothing (said, of, serves, kind, number, bytes) = (said, of, serves)
+  told_so (line_event.StepBegan end card) (said, of, serves, kind, number, bytes) = (said, of, serves)
+  told_so (line_event.Answered t a) (said, of, serves, kind, number, bytes) = (said, of, serves)
 
   -- it is executed so
   pub entry_serves : (t : LineEvent) → IsEntry n line w t e → ServesAs before_it line t w
@@ -105,10 +105,10 @@ module _ (n : ℕ) (line : List ℕ) (w : WalkValue) (e : Entry) where
         subst (λ k. IsExplainedAs set e k (printing events ++ explanation_text x events w.step)) (sym kind) (explanation_text x events w.step, at, ap (λ v. printing v ++ explanation_text x events w.step) (sym entry.events))
 
     text_of : (t : LineEvent) → x.reason ≡ line_reason w.step after.why.read after.why.reason t → IsEntry n line w t e → Said n line t w e → ObservesLine keeps mid e.before line t w after → IsExplainedAs set e e.kind (text_of_event x n w t)
-    text_of (told.Faulted fault) reason entry (of, kind, same) observed = subst (λ k. IsExplainedAs set e k (printing (events_of_line n w (told.Faulted fault)))) (sym kind) (ap printing (sym entry.events))
-    text_of told.Nothing reason entry (said, of, serves, kind, number, bytes) observed = executed_text told.Nothing reason entry said kind bytes (said, of, serves) observed
-    text_of (told.StepBegan end card) reason entry (said, of, serves, kind, number, bytes) observed = executed_text (told.StepBegan end card) reason entry said kind bytes (said, of, serves) observed
-    text_of (told.Answered t a) reason entry (said, of, serves, kind, number, bytes) observed = executed_text (told.Answered t a) reason entry said kind bytes (said, of, serves) observed
+    text_of (line_event.Faulted fault) reason entry (of, kind, same) observed = subst (λ k. IsExplainedAs set e k (printing (events_of_line n w (line_event.Faulted fault)))) (sym kind) (ap printing (sym entry.events))
+    text_of line_event.Nothing reason entry (said, of, serves, kind, number, bytes) observed = executed_text line_event.Nothing reason entry said kind bytes (said, of, serves) observed
+    text_of (line_event.StepBegan end card) reason entry (said, of, serves, kind, number, bytes) observed = executed_text (line_event.StepBegan end card) reason entry said kind bytes (said, of, serves) observed
+    text_of (line_event.Answered t a) reason entry (said, of, serves, kind, number, bytes) observed = executed_text (line_event.Answered t a) reason entry said kind bytes (said, of, serves) observed
 
     pub explained_text : (t : LineEvent) → x.reason ≡ line_reason w.step after.why.read after.why.reason t → IsEntry n line w t e → ObservesLine keeps mid e.before line t w after → IsExplainedAs set e e.kind (text_of_event x n w t)
     explained_text t reason entry observed = text_of t reason entry (said_by t entry) observed
@@ -136,10 +136,10 @@ module _ (n : ℕ) (line : List ℕ) (w : WalkValue) (e : Entry) where
       at (Some job) (inr (other, said, none)) here = nothing_set events none ∙ ap (λ k. set_after (Some job) set e k) (sym kind)
 
     set_so : (t : LineEvent) → IsEntry n line w t e → Said n line t w e → names_after n set read (events_of_line n w t) ≡ set_after e.before set e e.kind
-    set_so (told.Faulted fault) entry (of, kind, same) = set_faulty fault (events_of_line n w (told.Faulted fault)) of kind
-    set_so told.Nothing entry (said, of, serves, kind, number, bytes) = set_executed told.Nothing entry.events said of kind number
-    set_so (told.StepBegan end card) entry (said, of, serves, kind, number, bytes) = set_executed (told.StepBegan end card) entry.events said of kind number
-    set_so (told.Answered t a) entry (said, of, serves, kind, number, bytes) = set_executed (told.Answered t a) entry.events said of kind number
+    set_so (line_event.Faulted fault) entry (of, kind, same) = set_faulty fault (events_of_line n w (line_event.Faulted fault)) of kind
+    set_so line_event.Nothing entry (said, of, serves, kind, number, bytes) = set_executed line_event.Nothing entry.events said of kind number
+    set_so (line_event.StepBegan end card) entry (said, of, serves, kind, number, bytes) = set_executed (line_event.StepBegan end card) entry.events said of kind number
+    set_so (line_event.Answered t a) entry (said, of, serves, kind, number, bytes) = set_executed (line_event.Answered t a) entry.events said of kind number
 
   pub set_next : (history : List Entry) (read : Line) → IsReadIn e.before line read → (t : LineEvent) → IsEntry n line w t e → names_after n (set_by_entries history) read (events_of_line n w t) ≡ set_by_entries (history ++ e ∷ [])
   set_next history read is t entry = set_so (set_by_entries history) read is t entry (said_by t entry) ∙ sym (set_then no_lines history e)
@@ -153,10 +153,10 @@ module _ (n : ℕ) (line : List ℕ) (w : WalkValue) (e : Entry) where
         subst (SetsNames e) (sym kind) (subst (λ l. TakesMemory e.before l []) (one_reading.one_line (is_first e.before) line stops.0 said stops.1 of) stops.2)
 
     needs_of : (t : LineEvent) → reports_grant (events_of_line n w t) ≡ true → Said n line t w e → SetsNames e e.kind
-    needs_of (told.Faulted fault) grant said = absurd (let f : false ≡ true = grant in cc)
-    needs_of told.Nothing grant (said, of, serves, kind, number, bytes) = needs_so told.Nothing grant (said, of, serves) said of kind
-    needs_of (told.StepBegan end card) grant (said, of, serves, kind, number, bytes) = needs_so (told.StepBegan end card) grant (said, of, serves) said of kind
-    needs_of (told.Answered t a) grant (said, of, serves, kind, number, bytes) = needs_so (told.Answered t a) grant (said, of, serves) said of kind
+    needs_of (line_event.Faulted fault) grant said = absurd (let f : false ≡ true = grant in cc)
+    needs_of line_event.Nothing grant (said, of, serves, kind, number, bytes) = needs_so line_event.Nothing grant (said, of, serves) said of kind
+    needs_of (line_event.StepBegan end card) grant (said, of, serves, kind, number, bytes) = needs_so (line_event.StepBegan end card) grant (said, of, serves) said of kind
+    needs_of (line_event.Answered t a) grant (said, of, serves, kind, number, bytes) = needs_so (line_event.Answered t a) grant (said, of, serves) said of kind
 
     pub needs_names : (t : LineEvent) → reports_grant (events_of_line n w t) ≡ true → IsEntry n line w t e → SetsNames e e.kind
     needs_names t grant entry = needs_of t grant (said_by t entry)
@@ -164,19 +164,19 @@ module _ (n : ℕ) (line : List ℕ) (w : WalkValue) (e : Entry) where
 -- ---- the text of a line
 
 pub told_more : (x : Explained) (n : ℕ) (w : WalkValue) (t : LineEvent) → (more : List ℕ) × (text_of_event x n w t ≡ printing (events_of_line n w t) ++ more)
-told_more x n w (told.Faulted fault) = ([], sym (append-nil (printing (events_of_line n w (told.Faulted fault)))))
-told_more x n w told.Nothing = (explanation_text x (events_of_line n w told.Nothing) w.step, refl)
-told_more x n w (told.StepBegan end card) = (explanation_text x (events_of_line n w (told.StepBegan end card)) w.step, refl)
-told_more x n w (told.Answered t a) = (explanation_text x (events_of_line n w (told.Answered t a)) w.step, refl)
+told_more x n w (line_event.Faulted fault) = ([], sym (append-nil (printing (events_of_line n w (line_event.Faulted fault)))))
+told_more x n w line_event.Nothing = (explanation_text x (events_of_line n w line_event.Nothing) w.step, refl)
+told_more x n w (line_event.StepBegan end card) = (explanation_text x (events_of_line n w (line_event.StepBegan end card)) w.step, refl)
+told_more x n w (line_event.Answered t a) = (explanation_text x (events_of_line n w (line_event.Answered t a)) w.step, refl)
 
-pub told_faulted : (x : Explained) (n : ℕ) (w : WalkValue) (t : LineEvent) (fault : Fault) → t ≡ told.Faulted fault → text_of_event x n w t ≡ printing (events_of_line n w t)
+pub told_faulted : (x : Explained) (n : ℕ) (w : WalkValue) (t : LineEvent) (fault : Fault) → t ≡ line_event.Faulted fault → text_of_event x n w t ≡ printing (events_of_line n w t)
 told_faulted x n w t fault is = subst (λ t. text_of_event x n w t ≡ printing (events_of_line n w t)) (sym is) refl
 
-pub told_behind : (x : Explained) (n : ℕ) (w : WalkValue) (t : LineEvent) → ((fault : Fault) → t ≡ told.Faulted fault → ⊥) → text_of_event x n w t ≡ printing (events_of_line n w t) ++ explanation_text x (events_of_line n w t) w.step
-told_behind x n w (told.Faulted fault) other = absurd (other fault refl)
-told_behind x n w told.Nothing other = refl
-told_behind x n w (told.StepBegan end card) other = refl
-told_behind x n w (told.Answered t a) other = refl
+pub told_behind : (x : Explained) (n : ℕ) (w : WalkValue) (t : LineEvent) → ((fault : Fault) → t ≡ line_event.Faulted fault → ⊥) → text_of_event x n w t ≡ printing (events_of_line n w t) ++ explanation_text x (events_of_line n w t) w.step
+told_behind x n w (line_event.Faulted fault) other = absurd (other fault refl)
+told_behind x n w line_event.Nothing other = refl
+told_behind x n w (line_event.StepBegan end card) other = refl
+told_behind x n w (line_event.Answered t a) other = refl
 
 -- ---- the last entry
 

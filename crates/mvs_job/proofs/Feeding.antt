@@ -90,7 +90,7 @@ long_any number old line rest e size (inl is) = absurd (not_long (is_first old) 
 long_any number old line rest e size (inr (inl is)) = inr (inl (long_faulty number old line rest e size is))
 long_any number old line rest e size (inr (inr is)) = absurd (not_long (is_first old) line is.0 (omega (arith, size)) is.2)
 
--- the lines of what was told, however it goes on
+-- the lines of what was read, however it goes on
 pub lines_cut : (lines : List (List ℕ)) (rest : List ℕ) → AllByRecursion IsUnended lines → lines_of (ended_text lines ++ rest) ≡ lines ++ lines_of rest
 lines_cut [] rest each = refl
 lines_cut (l ∷ lines) rest each =
@@ -121,8 +121,8 @@ module _ (piece : Piece) {S : Type 0} (knows : Known S) where
   stands_start start s known = record { lines = []; cut = refl; each = tt; unended = tt; run = run_start piece knows start new_walk s refl known }
 
   -- bytes of one line
-  pub stands_many : (start now : Option (List ℕ)) (told : List ℕ) (w : WalkValue) (kept line : List ℕ) (s : S) → HasConsumed piece knows start now told w kept s → AllByRecursion (λ b. b ≢ 10) line → HasConsumed piece knows start now (told ++ line) w (kept ++ line) s
-  stands_many start now told w kept line s st none = record {
+  pub stands_many : (start now : Option (List ℕ)) (consumed : List ℕ) (w : WalkValue) (kept line : List ℕ) (s : S) → HasConsumed piece knows start now consumed w kept s → AllByRecursion (λ b. b ≢ 10) line → HasConsumed piece knows start now (consumed ++ line) w (kept ++ line) s
+  stands_many start now consumed w kept line s st none = record {
     lines = st.lines;
     cut = ap (λ x. x ++ line) st.cut ∙ append_assoc (ended_text st.lines) kept line;
     each = st.each;
@@ -131,12 +131,12 @@ module _ (piece : Piece) {S : Type 0} (knows : Known S) where
   }
 
   -- the lines of a script that goes on with some bytes
-  script_cut : (start now : Option (List ℕ)) (told : List ℕ) (w : WalkValue) (kept : List ℕ) (s : S) (st : HasConsumed piece knows start now told w kept s) (more : List ℕ) → lines_of (told ++ more) ≡ st.lines ++ lines_of (kept ++ more)
-  script_cut start now told w kept s st more = ap (λ x. lines_of (x ++ more)) st.cut ∙ ap lines_of (append_assoc (ended_text st.lines) kept more) ∙ lines_cut st.lines (kept ++ more) st.each
+  script_cut : (start now : Option (List ℕ)) (consumed : List ℕ) (w : WalkValue) (kept : List ℕ) (s : S) (st : HasConsumed piece knows start now consumed w kept s) (more : List ℕ) → lines_of (consumed ++ more) ≡ st.lines ++ lines_of (kept ++ more)
+  script_cut start now consumed w kept s st more = ap (λ x. lines_of (x ++ more)) st.cut ∙ ap lines_of (append_assoc (ended_text st.lines) kept more) ∙ lines_cut st.lines (kept ++ more) st.each
 
   -- one more line
-  module _ (start now later : Option (List ℕ)) (told : List ℕ) (w w' : WalkValue) (kept : List ℕ) (s s' : S) (st : HasConsumed piece knows start now told w kept s) where
-    pub stands_next : w'.number ≡ w.number + 1 → RunsNext piece knows now later w kept w' s s' (Ok true) → HasConsumed piece knows start later (told ++ 10 ∷ []) w' [] s'
+  module _ (start now later : Option (List ℕ)) (consumed : List ℕ) (w w' : WalkValue) (kept : List ℕ) (s s' : S) (st : HasConsumed piece knows start now consumed w kept s) where
+    pub stands_next : w'.number ≡ w.number + 1 → RunsNext piece knows now later w kept w' s s' (Ok true) → HasConsumed piece knows start later (consumed ++ 10 ∷ []) w' [] s'
     stands_next next r = record {
       lines = st.lines ++ kept ∷ [];
       cut = ap (λ x. x ++ 10 ∷ []) st.cut ∙ append_assoc (ended_text st.lines) kept (10 ∷ []) ∙ sym (ended_more st.lines kept) ∙ sym (append-nil (ended_text (st.lines ++ kept ∷ [])));
@@ -147,36 +147,36 @@ module _ (piece : Piece) {S : Type 0} (knows : Known S) where
 
     -- the next line of the script
     module _ (more line : List ℕ) (left : List (List ℕ)) (cut : lines_of (kept ++ more) ≡ line ∷ left) where
-      at_line : lines_of (told ++ more) ≡ st.lines ++ line ∷ left
-      at_line = script_cut start now told w kept s st more ∙ ap (λ x. st.lines ++ x) cut
+      at_line : lines_of (consumed ++ more) ≡ st.lines ++ line ∷ left
+      at_line = script_cut start now consumed w kept s st more ∙ ap (λ x. st.lines ++ x) cut
 
-      pub stands_fault : RunsEntry piece knows now later w line w' st.run.entries s' (Ok false) → Leaves piece knows start later (told ++ more) s' (Ok ScriptFault)
-      stands_fault r = run_fault piece knows start now later st.lines w s st.run (told ++ more) line left at_line w' s' r
+      pub stands_fault : RunsEntry piece knows now later w line w' st.run.entries s' (Ok false) → Leaves piece knows start later (consumed ++ more) s' (Ok ScriptFault)
+      stands_fault r = run_fault piece knows start now later st.lines w s st.run (consumed ++ more) line left at_line w' s' r
 
-      pub stands_stopped : (stop : Stop) → RunsEntry piece knows now later w line w' st.run.entries s' (Err stop) → Leaves piece knows start later (told ++ more) s' (Err stop)
-      stands_stopped stop r = run_stopped piece knows start now later st.lines w s st.run (told ++ more) line left at_line w' s' stop r
+      pub stands_stopped : (stop : Stop) → RunsEntry piece knows now later w line w' st.run.entries s' (Err stop) → Leaves piece knows start later (consumed ++ more) s' (Err stop)
+      stands_stopped stop r = run_stopped piece knows start now later st.lines w s st.run (consumed ++ more) line left at_line w' s' stop r
 
   -- a line feed ends the line that is kept
   pub feeds_line : (before after : Option (List ℕ)) (w w' : WalkValue) (k : List ℕ) (s s' : S) (r : Result Bool Stop) → w'.number ≡ w.number + 1 → RunsNext piece knows before after w k w' s s' r → Feeds piece knows before after (10 ∷ []) w k s w' [] s' r
-  feeds_line before after w w' k s s' (Ok true) next h = λ start told st. stands_next start before after told w w' k s s' st next h
-  feeds_line before after w w' k s s' (Ok false) next h = λ start told st more.
-      stands_fault start before after told w w' k s s' st (10 ∷ more) k (lines_of more) (lines_ended k more st.unended) (h st.run.entries st.run.known)
-  feeds_line before after w w' k s s' (Err stop) next h = λ start told st more.
-      stands_stopped start before after told w w' k s s' st (10 ∷ more) k (lines_of more) (lines_ended k more st.unended) stop (h st.run.entries st.run.known)
+  feeds_line before after w w' k s s' (Ok true) next h = λ start consumed st. stands_next start before after consumed w w' k s s' st next h
+  feeds_line before after w w' k s s' (Ok false) next h = λ start consumed st more.
+      stands_fault start before after consumed w w' k s s' st (10 ∷ more) k (lines_of more) (lines_ended k more st.unended) (h st.run.entries st.run.known)
+  feeds_line before after w w' k s s' (Err stop) next h = λ start consumed st more.
+      stands_stopped start before after consumed w w' k s s' st (10 ∷ more) k (lines_of more) (lines_ended k more st.unended) stop (h st.run.entries st.run.known)
 
   -- the 256th byte of a line
   pub feeds_full : (before after : Option (List ℕ)) (w w' : WalkValue) (b : ℕ) (k : List ℕ) (s s' : S) (r : Result Bool Stop) → RunsNext piece knows before after w (k ++ b ∷ []) w' s s' r → length (k ++ b ∷ []) ≡ 256 → b ≢ 10
       → Feeds piece knows before after (b ∷ []) w k s w' [] s' r
-  feeds_full before after w w' b k s s' (Ok true) h size ne = λ start told st.
+  feeds_full before after w w' b k s s' (Ok true) h size ne = λ start consumed st.
       absurd (let is = (h st.run.entries st.run.known).1 in not_long (is_first w.step) (k ++ b ∷ []) is.0 (omega (arith, size)) is.3)
-  feeds_full before after w w' b k s s' (Ok false) h size ne = λ start told st more.
+  feeds_full before after w w' b k s s' (Ok false) h size ne = λ start consumed st more.
       let line = k ++ b ∷ [] in
       let x = begins line more (omega (arith, size)) (all_both k (b ∷ []) st.unended (ne, tt)) in
-      stands_fault start before after told w w' k s s' st (b ∷ more) (line ++ x.0) x.1 (ap lines_of (sym (append_assoc k (b ∷ []) more)) ∙ x.2) (long_ran before after w w' line x.0 st.run.entries s' (Ok false) size (h st.run.entries st.run.known))
-  feeds_full before after w w' b k s s' (Err stop) h size ne = λ start told st more.
+      stands_fault start before after consumed w w' k s s' st (b ∷ more) (line ++ x.0) x.1 (ap lines_of (sym (append_assoc k (b ∷ []) more)) ∙ x.2) (long_ran before after w w' line x.0 st.run.entries s' (Ok false) size (h st.run.entries st.run.known))
+  feeds_full before after w w' b k s s' (Err stop) h size ne = λ start consumed st more.
       let line = k ++ b ∷ [] in
       let x = begins line more (omega (arith, size)) (all_both k (b ∷ []) st.unended (ne, tt)) in
-      stands_stopped start before after told w w' k s s' st (b ∷ more) (line ++ x.0) x.1 (ap lines_of (sym (append_assoc k (b ∷ []) more)) ∙ x.2) stop (long_ran before after w w' line x.0 st.run.entries s' (Err stop) size (h st.run.entries st.run.known))
+      stands_stopped start before after consumed w w' k s s' st (b ∷ more) (line ++ x.0) x.1 (ap lines_of (sym (append_assoc k (b ∷ []) more)) ∙ x.2) stop (long_ran before after w w' line x.0 st.run.entries s' (Err stop) size (h st.run.entries st.run.known))
 
   -- the same two, as a call of end_line leaves the job
   pub fed_line : (before after : Option (List ℕ)) (w w' : WalkValue) (b : ℕ) (k line k' : List ℕ) (s s' : S) (r : Result Bool Stop) → RunsNext piece knows before after w line w' s s' r → (b ≡ 10) × (line ≡ k) → w'.number ≡ w.number + 1 → k' ≡ []
@@ -193,7 +193,7 @@ module _ (piece : Piece) {S : Type 0} (knows : Known S) where
 
   -- a byte that is kept
   pub fed_more : (before : Option (List ℕ)) (w : WalkValue) (b : ℕ) (k k' : List ℕ) (s : S) → (b ≢ 10) × (k' ≡ k ++ b ∷ []) × (length k' < 256) → Feeds piece knows before before (b ∷ []) w k s w k' s (Ok true)
-  fed_more before w b k k' s pushed = λ start told st. rw (pushed.1) (stands_many start before told w k (b ∷ []) s st (pushed.0, tt))
+  fed_more before w b k k' s pushed = λ start consumed st. rw (pushed.1) (stands_many start before consumed w k (b ∷ []) s st (pushed.0, tt))
 
 -- ---- the first of some bytes
 
@@ -201,81 +201,81 @@ first_and_rest : (bytes : List ℕ) → 0 < length bytes → bytes ≡ get_or by
 first_and_rest [] some = absurd (omega arith)
 first_and_rest (b ∷ bytes) some = refl
 
--- the bytes behind the first of them
-rest_split : (told bytes more : List ℕ) (at : ℕ) → (told ++ take at bytes) ++ (drop at bytes ++ more) ≡ told ++ (bytes ++ more)
-rest_split told bytes more at = append_assoc told (take at bytes) (drop at bytes ++ more) ∙ ap (λ x. told ++ x) (sym (append_assoc (take at bytes) (drop at bytes) more) ∙ ap (λ x. x ++ more) (take-append-drop at bytes))
+-- the bytes after the first of them
+rest_split : (consumed bytes more : List ℕ) (at : ℕ) → (consumed ++ take at bytes) ++ (drop at bytes ++ more) ≡ consumed ++ (bytes ++ more)
+rest_split consumed bytes more at = append_assoc consumed (take at bytes) (drop at bytes ++ more) ∙ ap (λ x. consumed ++ x) (sym (append_assoc (take at bytes) (drop at bytes) more) ∙ ap (λ x. x ++ more) (take-append-drop at bytes))
 
 -- the bytes round the one at an index
-at_split : (told bytes more : List ℕ) (i : ℕ) → i < length bytes → (told ++ take i bytes) ++ (get_or bytes i 0 ∷ (drop (i + 1) bytes ++ more)) ≡ told ++ (bytes ++ more)
-at_split told bytes more i h =
+at_split : (consumed bytes more : List ℕ) (i : ℕ) → i < length bytes → (consumed ++ take i bytes) ++ (get_or bytes i 0 ∷ (drop (i + 1) bytes ++ more)) ≡ consumed ++ (bytes ++ more)
+at_split consumed bytes more i h =
     let whole : take i bytes ++ (get_or bytes i 0 ∷ drop (i + 1) bytes) ≡ bytes = rw (add-one, ← drop-cons bytes i 0 h) (take-append-drop i bytes) in
-    append_assoc told (take i bytes) _ ∙ ap (λ x. told ++ x) (sym (append_assoc (take i bytes) (get_or bytes i 0 ∷ drop (i + 1) bytes) more) ∙ ap (λ x. x ++ more) whole)
+    append_assoc consumed (take i bytes) _ ∙ ap (λ x. consumed ++ x) (sym (append_assoc (take i bytes) (get_or bytes i 0 ∷ drop (i + 1) bytes) more) ∙ ap (λ x. x ++ more) whole)
 
-feed_split : (told bytes more : List ℕ) (end : ℕ) → end < length bytes → get_or bytes end 0 ≡ 10 → (told ++ take end bytes) ++ (10 ∷ (drop (end + 1) bytes ++ more)) ≡ told ++ (bytes ++ more)
-feed_split told bytes more end h e = subst (λ b. (told ++ take end bytes) ++ (b ∷ (drop (end + 1) bytes ++ more)) ≡ told ++ (bytes ++ more)) e (at_split told bytes more end h)
+feed_split : (consumed bytes more : List ℕ) (end : ℕ) → end < length bytes → get_or bytes end 0 ≡ 10 → (consumed ++ take end bytes) ++ (10 ∷ (drop (end + 1) bytes ++ more)) ≡ consumed ++ (bytes ++ more)
+feed_split consumed bytes more end h e = subst (λ b. (consumed ++ take end bytes) ++ (b ∷ (drop (end + 1) bytes ++ more)) ≡ consumed ++ (bytes ++ more)) e (at_split consumed bytes more end h)
 
 module _ (piece : Piece) {S : Type 0} (knows : Known S) (before after : Option (List ℕ)) (bytes : List ℕ) (w w' : WalkValue) (s s' : S) where
   -- a line that is whole, where none is kept
   module _ (end : ℕ) (fits : end < length bytes) (found : get_or bytes end 0 ≡ 10) (none : (k : ℕ) → k < end → get_or bytes k 0 ≢ 10)
-      (next : w'.number ≡ w.number + 1) (start : Option (List ℕ)) (told : List ℕ) (st : HasConsumed piece knows start before told w [] s) where
-    line_stands : HasConsumed piece knows start before (told ++ take end bytes) w (take end bytes) s
-    line_stands = stands_many piece knows start before told w [] (take end bytes) s st (all_before bytes end none (omega arith))
+      (next : w'.number ≡ w.number + 1) (start : Option (List ℕ)) (consumed : List ℕ) (st : HasConsumed piece knows start before consumed w [] s) where
+    line_stands : HasConsumed piece knows start before (consumed ++ take end bytes) w (take end bytes) s
+    line_stands = stands_many piece knows start before consumed w [] (take end bytes) s st (all_before bytes end none (omega arith))
 
     fed : (r : Result Bool Stop) → RunsNext piece knows before after w (take end bytes) w' s s' r → Feeds piece knows before after (10 ∷ []) w (take end bytes) s w' [] s' r
     fed r h = feeds_line piece knows before after w w' (take end bytes) s s' r next h
 
-    pub whole_on : RunsNext piece knows before after w (take end bytes) w' s s' (Ok true) → HasConsumed piece knows start after (told ++ take (end + 1) bytes) w' [] s'
+    pub whole_on : RunsNext piece knows before after w (take end bytes) w' s s' (Ok true) → HasConsumed piece knows start after (consumed ++ take (end + 1) bytes) w' [] s'
     whole_on h =
-        let taken : (told ++ take end bytes) ++ 10 ∷ [] ≡ told ++ take (end + 1) bytes = append_assoc told (take end bytes) (10 ∷ []) ∙ ap (λ x. told ++ x) (ap (λ b. take end bytes ++ b ∷ []) (sym found) ∙ sym (take_more bytes end 0 fits)) in
-        subst (λ x. HasConsumed piece knows start after x w' [] s') taken (fed (Ok true) h start (told ++ take end bytes) line_stands)
+        let taken : (consumed ++ take end bytes) ++ 10 ∷ [] ≡ consumed ++ take (end + 1) bytes = append_assoc consumed (take end bytes) (10 ∷ []) ∙ ap (λ x. consumed ++ x) (ap (λ b. take end bytes ++ b ∷ []) (sym found) ∙ sym (take_more bytes end 0 fits)) in
+        subst (λ x. HasConsumed piece knows start after x w' [] s') taken (fed (Ok true) h start (consumed ++ take end bytes) line_stands)
 
-    pub whole_fault : RunsNext piece knows before after w (take end bytes) w' s s' (Ok false) → (more : List ℕ) → Leaves piece knows start after (told ++ (bytes ++ more)) s' (Ok ScriptFault)
+    pub whole_fault : RunsNext piece knows before after w (take end bytes) w' s s' (Ok false) → (more : List ℕ) → Leaves piece knows start after (consumed ++ (bytes ++ more)) s' (Ok ScriptFault)
     whole_fault h more =
-        subst (λ x. Leaves piece knows start after x s' (Ok ScriptFault)) (feed_split told bytes more end fits found) (fed (Ok false) h start (told ++ take end bytes) line_stands (drop (end + 1) bytes ++ more))
+        subst (λ x. Leaves piece knows start after x s' (Ok ScriptFault)) (feed_split consumed bytes more end fits found) (fed (Ok false) h start (consumed ++ take end bytes) line_stands (drop (end + 1) bytes ++ more))
 
-    pub whole_stopped : (stop : Stop) → RunsNext piece knows before after w (take end bytes) w' s s' (Err stop) → (more : List ℕ) → Leaves piece knows start after (told ++ (bytes ++ more)) s' (Err stop)
+    pub whole_stopped : (stop : Stop) → RunsNext piece knows before after w (take end bytes) w' s s' (Err stop) → (more : List ℕ) → Leaves piece knows start after (consumed ++ (bytes ++ more)) s' (Err stop)
     whole_stopped stop h more =
-        subst (λ x. Leaves piece knows start after x s' (Err stop)) (feed_split told bytes more end fits found) (fed (Err stop) h start (told ++ take end bytes) line_stands (drop (end + 1) bytes ++ more))
+        subst (λ x. Leaves piece knows start after x s' (Err stop)) (feed_split consumed bytes more end fits found) (fed (Err stop) h start (consumed ++ take end bytes) line_stands (drop (end + 1) bytes ++ more))
 
   -- the same, as a call leaves the job
   module _ (end : ℕ) (k k' : List ℕ) (at : (end < length bytes) × (get_or bytes end 0 ≡ 10) × ((j : ℕ) → j < end → get_or bytes j 0 ≢ 10)) (empty : k ≡ []) (next : w'.number ≡ w.number + 1) (cleared : k' ≡ []) where
     pub fed_whole_on : (b : Bool) → b ≡ true → RunsNext piece knows before after w (take end bytes) w' s s' (Ok b) → FeedsSome piece knows before after bytes w k s w' k' s' (Ok (Some (end + 1)))
-    fed_whole_on b is h = λ start told st. rw (cleared) (whole_on end at.0 at.1 at.2 next start told (rw empty at st) (subst (λ b. RunsNext piece knows before after w (take end bytes) w' s s' (Ok b)) is h))
+    fed_whole_on b is h = λ start consumed st. rw (cleared) (whole_on end at.0 at.1 at.2 next start consumed (rw empty at st) (subst (λ b. RunsNext piece knows before after w (take end bytes) w' s s' (Ok b)) is h))
 
     pub fed_whole_fault : (b : Bool) → b ≡ false → RunsNext piece knows before after w (take end bytes) w' s s' (Ok b) → FeedsSome piece knows before after bytes w k s w' k' s' (Ok None)
-    fed_whole_fault b is h = λ start told st. whole_fault end at.0 at.1 at.2 next start told (rw empty at st) (subst (λ b. RunsNext piece knows before after w (take end bytes) w' s s' (Ok b)) is h)
+    fed_whole_fault b is h = λ start consumed st. whole_fault end at.0 at.1 at.2 next start consumed (rw empty at st) (subst (λ b. RunsNext piece knows before after w (take end bytes) w' s s' (Ok b)) is h)
 
     pub fed_whole_stopped : (stop : Stop) → RunsNext piece knows before after w (take end bytes) w' s s' (Err stop) → FeedsSome piece knows before after bytes w k s w' k' s' (Err stop)
-    fed_whole_stopped stop h = λ start told st. whole_stopped end at.0 at.1 at.2 next start told (rw empty at st) stop h
+    fed_whole_stopped stop h = λ start consumed st. whole_stopped end at.0 at.1 at.2 next start consumed (rw empty at st) stop h
 
   -- the first byte
   module _ (k k' : List ℕ) (some : 0 < length bytes) where
     pub fed_first_on : (b : Bool) → b ≡ true → Feeds piece knows before after (get_or bytes 0 0 ∷ []) w k s w' k' s' (Ok b) → FeedsSome piece knows before after bytes w k s w' k' s' (Ok (Some 1))
-    fed_first_on b is f = λ start told st.
-        subst (λ x. HasConsumed piece knows start after (told ++ x) w' k' s') (ap (take 1) (sym (first_and_rest bytes some))) ((subst (λ b. Feeds piece knows before after (get_or bytes 0 0 ∷ []) w k s w' k' s' (Ok b)) is f) start told st)
+    fed_first_on b is f = λ start consumed st.
+        subst (λ x. HasConsumed piece knows start after (consumed ++ x) w' k' s') (ap (take 1) (sym (first_and_rest bytes some))) ((subst (λ b. Feeds piece knows before after (get_or bytes 0 0 ∷ []) w k s w' k' s' (Ok b)) is f) start consumed st)
 
     pub fed_first_fault : (b : Bool) → b ≡ false → Feeds piece knows before after (get_or bytes 0 0 ∷ []) w k s w' k' s' (Ok b) → FeedsSome piece knows before after bytes w k s w' k' s' (Ok None)
-    fed_first_fault b is f = λ start told st more.
-        subst (λ x. Leaves piece knows start after (told ++ (x ++ more)) s' (Ok ScriptFault)) (sym (first_and_rest bytes some)) ((subst (λ b. Feeds piece knows before after (get_or bytes 0 0 ∷ []) w k s w' k' s' (Ok b)) is f) start told st (drop 1 bytes ++ more))
+    fed_first_fault b is f = λ start consumed st more.
+        subst (λ x. Leaves piece knows start after (consumed ++ (x ++ more)) s' (Ok ScriptFault)) (sym (first_and_rest bytes some)) ((subst (λ b. Feeds piece knows before after (get_or bytes 0 0 ∷ []) w k s w' k' s' (Ok b)) is f) start consumed st (drop 1 bytes ++ more))
 
     pub fed_first_stopped : (stop : Stop) → Feeds piece knows before after (get_or bytes 0 0 ∷ []) w k s w' k' s' (Err stop) → FeedsSome piece knows before after bytes w k s w' k' s' (Err stop)
-    fed_first_stopped stop f = λ start told st more. subst (λ x. Leaves piece knows start after (told ++ (x ++ more)) s' (Err stop)) (sym (first_and_rest bytes some)) (f start told st (drop 1 bytes ++ more))
+    fed_first_stopped stop f = λ start consumed st more. subst (λ x. Leaves piece knows start after (consumed ++ (x ++ more)) s' (Err stop)) (sym (first_and_rest bytes some)) (f start consumed st (drop 1 bytes ++ more))
 
   -- the step of a loop over some bytes
-  module _ (rest : List ℕ) (at : ℕ) (k k' : List ℕ) (is : rest ≡ drop at bytes) (start : Option (List ℕ)) (told : List ℕ) (st : HasConsumed piece knows start before (told ++ take at bytes) w k s) where
-    pub some_on : (taken : ℕ) → FeedsSome piece knows before after rest w k s w' k' s' (Ok (Some taken)) → HasConsumed piece knows start after (told ++ take (at + taken) bytes) w' k' s'
+  module _ (rest : List ℕ) (at : ℕ) (k k' : List ℕ) (is : rest ≡ drop at bytes) (start : Option (List ℕ)) (consumed : List ℕ) (st : HasConsumed piece knows start before (consumed ++ take at bytes) w k s) where
+    pub some_on : (taken : ℕ) → FeedsSome piece knows before after rest w k s w' k' s' (Ok (Some taken)) → HasConsumed piece knows start after (consumed ++ take (at + taken) bytes) w' k' s'
     some_on taken f =
-        let whole : (told ++ take at bytes) ++ take taken rest ≡ told ++ take (at + taken) bytes = append_assoc told (take at bytes) (take taken rest) ∙ ap (λ x. told ++ x) (ap (λ x. take at bytes ++ take taken x) is ∙ sym (take-add at taken bytes)) in
-        subst (λ x. HasConsumed piece knows start after x w' k' s') whole (f start (told ++ take at bytes) st)
+        let whole : (consumed ++ take at bytes) ++ take taken rest ≡ consumed ++ take (at + taken) bytes = append_assoc consumed (take at bytes) (take taken rest) ∙ ap (λ x. consumed ++ x) (ap (λ x. take at bytes ++ take taken x) is ∙ sym (take-add at taken bytes)) in
+        subst (λ x. HasConsumed piece knows start after x w' k' s') whole (f start (consumed ++ take at bytes) st)
 
-    whole_rest : (more : List ℕ) → (told ++ take at bytes) ++ (rest ++ more) ≡ told ++ (bytes ++ more)
-    whole_rest more = ap (λ x. (told ++ take at bytes) ++ (x ++ more)) is ∙ rest_split told bytes more at
+    whole_rest : (more : List ℕ) → (consumed ++ take at bytes) ++ (rest ++ more) ≡ consumed ++ (bytes ++ more)
+    whole_rest more = ap (λ x. (consumed ++ take at bytes) ++ (x ++ more)) is ∙ rest_split consumed bytes more at
 
-    pub some_fault : FeedsSome piece knows before after rest w k s w' k' s' (Ok None) → (more : List ℕ) → Leaves piece knows start after (told ++ (bytes ++ more)) s' (Ok ScriptFault)
-    some_fault f more = subst (λ x. Leaves piece knows start after x s' (Ok ScriptFault)) (whole_rest more) (f start (told ++ take at bytes) st more)
+    pub some_fault : FeedsSome piece knows before after rest w k s w' k' s' (Ok None) → (more : List ℕ) → Leaves piece knows start after (consumed ++ (bytes ++ more)) s' (Ok ScriptFault)
+    some_fault f more = subst (λ x. Leaves piece knows start after x s' (Ok ScriptFault)) (whole_rest more) (f start (consumed ++ take at bytes) st more)
 
-    pub some_stopped : (stop : Stop) → FeedsSome piece knows before after rest w k s w' k' s' (Err stop) → (more : List ℕ) → Leaves piece knows start after (told ++ (bytes ++ more)) s' (Err stop)
-    some_stopped stop f more = subst (λ x. Leaves piece knows start after x s' (Err stop)) (whole_rest more) (f start (told ++ take at bytes) st more)
+    pub some_stopped : (stop : Stop) → FeedsSome piece knows before after rest w k s w' k' s' (Err stop) → (more : List ℕ) → Leaves piece knows start after (consumed ++ (bytes ++ more)) s' (Err stop)
+    some_stopped stop f more = subst (λ x. Leaves piece knows start after x s' (Err stop)) (whole_rest more) (f start (consumed ++ take at bytes) st more)
 
 -- ---- the end
 
@@ -287,28 +287,28 @@ no_lines : (k : List ℕ) → length k ≡ 0 → lines_of (k ++ []) ≡ []
 no_lines [] e = refl
 no_lines (b ∷ k) e = absurd (omega arith)
 
-module _ (piece : Piece) {S : Type 0} (knows : Known S) (start now : Option (List ℕ)) (told : List ℕ) (w : WalkValue) (k : List ℕ) (s : S) (st : HasConsumed piece knows start now told w k s) where
+module _ (piece : Piece) {S : Type 0} (knows : Known S) (start now : Option (List ℕ)) (consumed : List ℕ) (w : WalkValue) (k : List ℕ) (s : S) (st : HasConsumed piece knows start now consumed w k s) where
   -- nothing is kept
-  pub last_none : (later : Option (List ℕ)) (s' : S) (r : Result Outcome Stop) → length k ≡ 0 → RunsLast piece knows now later w s s' r → Leaves piece knows start later told s' r
+  pub last_none : (later : Option (List ℕ)) (s' : S) (r : Result Outcome Stop) → length k ≡ 0 → RunsLast piece knows now later w s s' r → Leaves piece knows start later consumed s' r
   last_none later s' r none h =
-      let all : lines_of told ≡ st.lines = ap lines_of (sym (append-nil told)) ∙ script_cut piece knows start now told w k s st [] ∙ ap (λ x. st.lines ++ x) (no_lines k none) ∙ append-nil st.lines in
-      run_ended piece knows start now later st.lines w s st.run told all s' r (h st.run.entries st.run.known)
+      let all : lines_of consumed ≡ st.lines = ap lines_of (sym (append-nil consumed)) ∙ script_cut piece knows start now consumed w k s st [] ∙ ap (λ x. st.lines ++ x) (no_lines k none) ∙ append-nil st.lines in
+      run_ended piece knows start now later st.lines w s st.run consumed all s' r (h st.run.entries st.run.known)
 
   -- the last line
   module _ (later : Option (List ℕ)) (w' : WalkValue) (s' : S) (some : length k ≡ 0 → ⊥) where
-    at_last : lines_of told ≡ st.lines ++ k ∷ []
-    at_last = ap lines_of (sym (append-nil told)) ∙ script_cut piece knows start now told w k s st [] ∙ ap (λ x. st.lines ++ lines_of x) (append-nil k) ∙ ap (λ x. st.lines ++ x) (kept_lines k st.unended some)
+    at_last : lines_of consumed ≡ st.lines ++ k ∷ []
+    at_last = ap lines_of (sym (append-nil consumed)) ∙ script_cut piece knows start now consumed w k s st [] ∙ ap (λ x. st.lines ++ lines_of x) (append-nil k) ∙ ap (λ x. st.lines ++ x) (kept_lines k st.unended some)
 
-    pub last_line : (b : Bool) → b ≡ true → w'.number ≡ w.number + 1 → RunsNext piece knows now later w k w' s s' (Ok b) → (last : Option (List ℕ)) (s2 : S) (r : Result Outcome Stop) → RunsLast piece knows later last w' s' s2 r → Leaves piece knows start last told s2 r
+    pub last_line : (b : Bool) → b ≡ true → w'.number ≡ w.number + 1 → RunsNext piece knows now later w k w' s s' (Ok b) → (last : Option (List ℕ)) (s2 : S) (r : Result Outcome Stop) → RunsLast piece knows later last w' s' s2 r → Leaves piece knows start last consumed s2 r
     last_line b is next h last s2 r e =
         let run = run_next piece knows start now later st.lines w s st.run k w' s' next (subst (λ b. RunsNext piece knows now later w k w' s s' (Ok b)) is h st.run.entries st.run.known) in
-        run_ended piece knows start later last (st.lines ++ k ∷ []) w' s' run told at_last s2 r (e run.entries run.known)
+        run_ended piece knows start later last (st.lines ++ k ∷ []) w' s' run consumed at_last s2 r (e run.entries run.known)
 
-    pub last_fault : (b : Bool) → b ≡ false → RunsNext piece knows now later w k w' s s' (Ok b) → Leaves piece knows start later told s' (Ok ScriptFault)
-    last_fault b is h = run_fault piece knows start now later st.lines w s st.run told k [] at_last w' s' (subst (λ b. RunsNext piece knows now later w k w' s s' (Ok b)) is h st.run.entries st.run.known)
+    pub last_fault : (b : Bool) → b ≡ false → RunsNext piece knows now later w k w' s s' (Ok b) → Leaves piece knows start later consumed s' (Ok ScriptFault)
+    last_fault b is h = run_fault piece knows start now later st.lines w s st.run consumed k [] at_last w' s' (subst (λ b. RunsNext piece knows now later w k w' s s' (Ok b)) is h st.run.entries st.run.known)
 
-    pub last_stopped : (stop : Stop) → RunsNext piece knows now later w k w' s s' (Err stop) → Leaves piece knows start later told s' (Err stop)
-    last_stopped stop h = run_stopped piece knows start now later st.lines w s st.run told k [] at_last w' s' stop (h st.run.entries st.run.known)
+    pub last_stopped : (stop : Stop) → RunsNext piece knows now later w k w' s s' (Err stop) → Leaves piece knows start later consumed s' (Err stop)
+    last_stopped stop h = run_stopped piece knows start now later st.lines w s st.run consumed k [] at_last w' s' stop (h st.run.entries st.run.known)
 
 -- ---- a read
 
@@ -322,8 +322,8 @@ none_left None e = tt
 none_left (Some xs) e = e
 
 module _ (piece : Piece) {S : Type 0} (knows : Known S) where
-  stands_kept : (start now later : Option (List ℕ)) (told : List ℕ) (w : WalkValue) (k : List ℕ) (s : S) → HasConsumed piece knows start now told w k s → Keeps now later → HasConsumed piece knows start later told w k s
-  stands_kept start now later told w k s st kept = record {
+  stands_kept : (start now later : Option (List ℕ)) (consumed : List ℕ) (w : WalkValue) (k : List ℕ) (s : S) → HasConsumed piece knows start now consumed w k s → Keeps now later → HasConsumed piece knows start later consumed w k s
+  stands_kept start now later consumed w k s st kept = record {
     lines = st.lines;
     cut = st.cut;
     each = st.each;
@@ -331,24 +331,24 @@ module _ (piece : Piece) {S : Type 0} (knows : Known S) where
     run = record { entries = st.run.entries; trace = st.run.trace; counted = st.run.counted; text = st.run.text; is = st.run.is; appended = Appends-kept start now later st.run.text st.run.appended kept; known = st.run.known };
   }
 
-  has_answered : (start now : Option (List ℕ)) (told : List ℕ) (w : WalkValue) (k : List ℕ) (s : S) (st : HasConsumed piece knows start now told w k s) → length k < 256 → HasAnswered piece knows told st.run.text s
-  has_answered start now told w k s st short = record { lines = st.lines; kept = k; cut = st.cut; each = st.each; unended = st.unended; short = short; entries = st.run.entries; step = w.step; trace = st.run.trace; known = st.run.known; is = st.run.is }
+  has_answered : (start now : Option (List ℕ)) (consumed : List ℕ) (w : WalkValue) (k : List ℕ) (s : S) (st : HasConsumed piece knows start now consumed w k s) → length k < 256 → HasAnswered piece knows consumed st.run.text s
+  has_answered start now consumed w k s st short = record { lines = st.lines; pending = k; cut = st.cut; each = st.each; unended = st.unended; short = short; entries = st.run.entries; step = w.step; trace = st.run.trace; known = st.run.known; is = st.run.is }
 
   -- what was written is a front, however the script goes on
-  stands_front : (start now : Option (List ℕ)) (told : List ℕ) (w : WalkValue) (k : List ℕ) (s : S) (st : HasConsumed piece knows start now told w k s) (more : List ℕ) → IsFront piece knows (told ++ more) st.run.text s
-  stands_front start now told w k s st more = run_front piece knows start now now st.lines w s st.run (told ++ more) (lines_of (k ++ more)) (script_cut piece knows start now told w k s st more)
+  stands_front : (start now : Option (List ℕ)) (consumed : List ℕ) (w : WalkValue) (k : List ℕ) (s : S) (st : HasConsumed piece knows start now consumed w k s) (more : List ℕ) → IsFront piece knows (consumed ++ more) st.run.text s
+  stands_front start now consumed w k s st more = run_front piece knows start now now st.lines w s st.run (consumed ++ more) (lines_of (k ++ more)) (script_cut piece knows start now consumed w k s st more)
 
   pub under_way_start : (unread start : Option (List ℕ)) (w : WalkValue) (k : List ℕ) (s : S) → w ≡ new_walk → k ≡ [] → knows.has s [] → IsUnderWay piece knows unread unread start start 0 w k s
   under_way_start unread start w k s e h known = rw (e, h) ([], Consumes-nil unread, refl, stands_start piece knows start s known, omega arith)
 
   -- what a run leaves that ended, or stopped
-  ended_so : (unread left start now : Option (List ℕ)) (most : ℕ) (told rest : List ℕ) (s : S) (outcome : Outcome) → Consumes unread left told → IsRest left rest → length told ≤ most → Leaves piece knows start now (told ++ rest) s (Ok outcome) → HasEnded piece knows unread left start now most s outcome
-  ended_so unread left start now most told rest s outcome c r enough p = (told, rest, p.0, c, r, p.1, (enough, p.2))
+  ended_so : (unread left start now : Option (List ℕ)) (most : ℕ) (consumed rest : List ℕ) (s : S) (outcome : Outcome) → Consumes unread left consumed → IsRest left rest → length consumed ≤ most → Leaves piece knows start now (consumed ++ rest) s (Ok outcome) → HasEnded piece knows unread left start now most s outcome
+  ended_so unread left start now most consumed rest s outcome c r enough p = (consumed, rest, p.0, c, r, p.1, (enough, p.2))
 
-  stopped_so : (unread left start now : Option (List ℕ)) (most : ℕ) (told rest : List ℕ) (s : S) (stop : Stop) (fault : RunFault) → fault ≡ fault_of stop → Consumes unread left told → IsRest left rest → length told ≤ most → Leaves piece knows start now (told ++ rest) s (Err stop)
+  stopped_so : (unread left start now : Option (List ℕ)) (most : ℕ) (consumed rest : List ℕ) (s : S) (stop : Stop) (fault : RunFault) → fault ≡ fault_of stop → Consumes unread left consumed → IsRest left rest → length consumed ≤ most → Leaves piece knows start now (consumed ++ rest) s (Err stop)
       → HasGivenUp piece knows unread left start now most s fault
-  stopped_so unread left start now most told rest s why.Write fault is c r enough p = subst (HasGivenUp piece knows unread left start now most s) (sym is) (told, rest, p.0, c, r, p.1, (enough, p.2))
-  stopped_so unread left start now most told rest s why.Memory fault is c r enough p = subst (HasGivenUp piece knows unread left start now most s) (sym is) (told, rest, p.0, c, r, p.1, (enough, p.2))
+  stopped_so unread left start now most consumed rest s why.Write fault is c r enough p = subst (HasGivenUp piece knows unread left start now most s) (sym is) (consumed, rest, p.0, c, r, p.1, (enough, p.2))
+  stopped_so unread left start now most consumed rest s why.Memory fault is c r enough p = subst (HasGivenUp piece knows unread left start now most s) (sym is) (consumed, rest, p.0, c, r, p.1, (enough, p.2))
 
   -- a job under way, before a read: the writer is flushed, and the read consumed some bytes or failed
   module _ (unread left left' start now flushed : Option (List ℕ)) (count : ℕ) (w : WalkValue) (k : List ℕ) (s : S) (u : IsUnderWay piece knows unread left start now count w k s) (kept : Keeps now flushed) where
@@ -367,14 +367,14 @@ module _ (piece : Piece) {S : Type 0} (knows : Known S) where
 
     -- the end of the script
     module _ (after : Option (List ℕ)) (most m : ℕ) (s' : S) (chunk : List ℕ) (enough : count ≤ most) (none : m ≡ 0) (ended : IsAtEnd left') (c : Consumes left left' (take m chunk)) where
-      all_told : Consumes unread left' u.0
-      all_told = rw (append-nil u.0) at (Consumes-trans unread left left' u.0 [] u.1 (rw none at c))
+      all_consumed : Consumes unread left' u.0
+      all_consumed = rw (append-nil u.0) at (Consumes-trans unread left left' u.0 [] u.1 (rw none at c))
 
       pub read_end : (outcome : Outcome) → Finishes piece knows flushed after w k s s' (Ok outcome) → HasEnded piece knows unread left' start after most s' outcome
-      read_end outcome f = ended_so unread left' start after most u.0 [] s' outcome all_told (none_left left' ended) (rw (u.2) enough) (subst (λ x. Leaves piece knows start after x s' (Ok outcome)) (sym (append-nil u.0)) (f start u.0 here))
+      read_end outcome f = ended_so unread left' start after most u.0 [] s' outcome all_consumed (none_left left' ended) (rw (u.2) enough) (subst (λ x. Leaves piece knows start after x s' (Ok outcome)) (sym (append-nil u.0)) (f start u.0 here))
 
       pub read_end_stopped : (stop : Stop) (fault : RunFault) → fault ≡ fault_of stop → Finishes piece knows flushed after w k s s' (Err stop) → HasGivenUp piece knows unread left' start after most s' fault
-      read_end_stopped stop fault is f = stopped_so unread left' start after most u.0 [] s' stop fault is all_told (none_left left' ended) (rw (u.2) enough) (subst (λ x. Leaves piece knows start after x s' (Err stop)) (sym (append-nil u.0)) (f start u.0 here))
+      read_end_stopped stop fault is f = stopped_so unread left' start after most u.0 [] s' stop fault is all_consumed (none_left left' ended) (rw (u.2) enough) (subst (λ x. Leaves piece knows start after x s' (Err stop)) (sym (append-nil u.0)) (f start u.0 here))
 
     -- some bytes
     module _ (after : Option (List ℕ)) (room m : ℕ) (w' : WalkValue) (k' : List ℕ) (s' : S) (chunk : List ℕ) (c : Consumes left left' (take m chunk)) (fits : m ≤ length chunk) (least : length chunk ≤ room) where
@@ -407,8 +407,8 @@ module _ (piece : Piece) {S : Type 0} (knows : Known S) where
           let r = rest_of left' in
           let p : IsFront piece knows ((u.0 ++ take m chunk) ++ r.0) here.run.text s = rw (append_assoc u.0 (take m chunk) r.0) (stands_front start flushed u.0 w k s here (take m chunk ++ r.0)) in
           let first : take count (u.0 ++ take m chunk) ≡ u.0 = take_at u.0 (take m chunk) count u.2 in
-          let told : length (u.0 ++ take m chunk) ≡ count + m = length-append u.0 (take m chunk) ∙ rw (u.2, length-take-le m chunk fits) refl in
-          (u.0 ++ take m chunk, r.0, here.run.text, Consumes-trans unread left left' u.0 _ u.1 c, r.1, here.run.appended, (told ∙ ap (λ m. count + m) (let one : m ≡ 1 = omega arith in one), p, rw first (has_answered start flushed u.0 w k s here u.4)))
+          let consumed : length (u.0 ++ take m chunk) ≡ count + m = length-append u.0 (take m chunk) ∙ rw (u.2, length-take-le m chunk fits) refl in
+          (u.0 ++ take m chunk, r.0, here.run.text, Consumes-trans unread left left' u.0 _ u.1 c, r.1, here.run.appended, (consumed ∙ ap (λ m. count + m) (let one : m ≡ 1 = omega arith in one), p, rw first (has_answered start flushed u.0 w k s here u.4)))
 
   -- ---- the end of a job in the terms of its contract
 

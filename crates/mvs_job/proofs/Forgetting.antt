@@ -33,7 +33,7 @@ module _ {S : Type 0} (piece : Piece) (knows : Known S) where
   -- ---- a script that is read
 
   answered : (consumed text : List ℕ) (s : S) → HasAnswered piece knows consumed text s → HasAnswered piece (keeps_nothing {S = Unit {0}} tt) consumed text tt
-  answered consumed text s h = record { lines = h.lines; kept = h.kept; cut = h.cut; each = h.each; unended = h.unended; short = h.short; entries = h.entries; step = h.step; trace = h.trace; known = tt; is = h.is }
+  answered consumed text s h = record { lines = h.lines; pending = h.pending; cut = h.cut; each = h.each; unended = h.unended; short = h.short; entries = h.entries; step = h.step; trace = h.trace; known = tt; is = h.is }
 
   gives_up : (consumed script text : List ℕ) (s : S) (fault : RunFault) → GivesUp piece knows 16777215 consumed script text s fault → StopsText piece consumed script text fault
   gives_up consumed script text s Memory (few, inl w) = (few, inl (written script text s Exhausts w))

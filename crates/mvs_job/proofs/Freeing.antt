@@ -1,32 +1,19 @@
 -- The subpools that tasks own, one after another, and the names of tasks.
 use Rattle.std.proofs.Common.{◌≡◌, ℕ, ◌+◌, ◌<◌, ◌≤◌, ◌++◌, List, [], ◌∷◌, length, length-append, append-nil, Bool, true, false, Some, None, refl, sym, ap, subst, ◌∙◌, arith}
-use Rattle.std.specs.Prelude.{nat_eq}
 use Rattle.std.specs.FinMap.{get}
 use Rattle.std.specs.Option.{option_and_then, option_map}
-use Rattle.std.specs.Cmp.Lexicographic.{pointwise}
-use Rattle.std.proofs.lemmas.Bool.Decides.{Decides-eqb}
-use Rattle.std.proofs.lemmas.Slice.Eq.{slice_eq-Decides}
-use Rattle.mvs_model.specs.Name.{same_name}
 use Rattle.mvs_model.specs.Reports.{each_below, label_of, number_of}
 use Rattle.mvs_model.specs.State.{State}
-use Rattle.mvs_model.proofs.Orders.{same_name_self, told_apart}
 use Rattle.request_forms.specs.Facts.{bytes_of, has_subpool, listed, owned_at, pages_of}
 use Rattle.request_forms.specs.declared.facts.OwnedSubpool.{OwnedSubpool}
 use Rattle.mvs_model.specs.declared.name.Name.{Name}
 use Rattle.mvs_model.specs.declared.answer.Answer.{Answer as Short}
 use Rattle.mvs_model.specs.FullAnswers.{full_answer, ended_with_in}
 use Rattle.mvs_job.specs.declared.walk.LineEvent.{LineEvent}
-use Rattle.mvs_job.specs.declared.walk.LineEvent.TheVariants as told
-use Rattle.mvs_job.specs.Facts.{end_of, ended_by, freed_lines}
+use Rattle.mvs_job.specs.declared.walk.LineEvent.TheVariants as line_event
+use Rattle.mvs_job.specs.Facts.{end_of, ended_by}
 use Rattle.mvs_job.specs.LineEvents.{WalkValue, IsAvailable, events_of_line, full_answer_in}
 use Rattle.mvs_job.proofs.Numbers.{each_next, each_skip}
-
--- two names that are told to be the same
-pub same_is : (a b : List ℕ) → pointwise nat_eq a b ≡ same_name a b
-same_is a b = at (pointwise nat_eq a b) refl where
-  at : (v : Bool) → pointwise nat_eq a b ≡ v → v ≡ same_name a b
-  at true e = let s : a ≡ b = (slice_eq-Decides Decides-eqb a b _ refl).0 e in sym (ap (same_name a) (sym s) ∙ same_name_self a)
-  at false e = sym (told_apart a b (λ same. let f : false ≡ true = sym e ∙ (slice_eq-Decides Decides-eqb a b _ refl).1 same in cc))
 
 abbrev found : State → Name → ℕ → ℕ × Name → OwnedSubpool
 found st t s l = record { number = l.0; owner = l.1; bytes = bytes_of st s; pages = pages_of st s; had = has_subpool st.owners t s }
@@ -58,13 +45,13 @@ module _ (st : State) (t : Name) (s : ℕ) (subpools : List OwnedSubpool) (few :
     e ∙ each ∙ sym (append-nil (each_below s row)) ∙ ap (λ v. each_below s row ++ listed v) (sym is) ∙ sym (each_next row s),
   )
 
--- what goes where a statement was answered
-pub answered_frees : (w : WalkValue) (t : LineEvent) (task : Name) (a : Short) (subpools : List OwnedSubpool) (fallen : List Name) → t ≡ told.Answered task a → IsAvailable w t → fallen ≡ ended_with_in w.reply → (number : ℕ)
-    → (st : State) × (freed_lines subpools (end_of task (full_answer st fallen task a)) ≡ freed_lines subpools (ended_by (events_of_line number w t)))
-answered_frees w t task a subpools fallen is has_long_data falls number =
-    let l = subst (IsAvailable w) is has_long_data in (
+-- the tasks that end with a statement that was answered
+pub answered_ends : (w : WalkValue) (t : LineEvent) (task : Name) (a : Short) (fallen : List Name) → t ≡ line_event.Answered task a → IsAvailable w t → fallen ≡ ended_with_in w.reply → (number : ℕ)
+    → (st : State) × (end_of task (full_answer st fallen task a) ≡ ended_by (events_of_line number w t))
+answered_ends w t task a fallen is available falls number =
+    let l = subst (IsAvailable w) is available in (
       l.0.state,
-      ap (λ names. freed_lines subpools (end_of task (full_answer l.0.state names task a))) falls
-          ∙ ap (λ step. freed_lines subpools (end_of task (full_answer_in step (ended_with_in w.reply) task a))) (sym l.1)
-          ∙ ap (λ x. freed_lines subpools (ended_by (events_of_line number w x))) (sym is),
+      ap (λ names. end_of task (full_answer l.0.state names task a)) falls
+          ∙ ap (λ step. end_of task (full_answer_in step (ended_with_in w.reply) task a)) (sym l.1)
+          ∙ ap (λ x. ended_by (events_of_line number w x)) (sym is),
     )

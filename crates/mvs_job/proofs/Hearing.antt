@@ -14,7 +14,7 @@ use Rattle.mvs_model.specs.FullAnswers.{ended_with_in, full_answer}
 use Rattle.mvs_model.specs.Owners.{is_active}
 use Rattle.mvs_model.specs.Resolving.{resolved}
 use Rattle.mvs_job.specs.declared.walk.LineEvent.{LineEvent}
-use Rattle.mvs_job.specs.declared.walk.LineEvent.TheVariants as told
+use Rattle.mvs_job.specs.declared.walk.LineEvent.TheVariants as line_event
 use Rattle.mvs_job.specs.Observing.{Fails, Hearing, Observes, ObservesLine, Passes}
 use Rattle.mvs_job.specs.LineEvents.{WalkValue}
 
@@ -40,10 +40,10 @@ module _ {O P : Type 0} (before after : O) (part : O → P) (heard : Hearing O) 
 
   -- a part of an observer hears what the observer hears
   pub line_part : (step : Option JobValue) (line : List ℕ) (t : LineEvent) (w : WalkValue) → ObservesLine heard before step line t w after → ObservesLine heard' (part before) step line t w (part after)
-  line_part step line told.Nothing w (of, same) = (of, ap part same)
-  line_part step line (told.StepBegan end card) w (t, s, of, is, same) = (t, s, of, is, ap part same)
-  line_part step line (told.Faulted fault) w same = ap part same
-  line_part step line (told.Answered t a) w (s, job, later, of, is, new, h) = (s, job, later, of, is, new, statement_part job t s (full_answer later.state (ended_with_in w.reply) t a) h)
+  line_part step line line_event.Nothing w (of, same) = (of, ap part same)
+  line_part step line (line_event.StepBegan end card) w (t, s, of, is, same) = (t, s, of, is, ap part same)
+  line_part step line (line_event.Faulted fault) w same = ap part same
+  line_part step line (line_event.Answered t a) w (s, job, later, of, is, new, h) = (s, job, later, of, is, new, statement_part job t s (full_answer later.state (ended_with_in w.reply) t a) h)
 
 module _ {O P : Type 0} (before after : O) (part : O → P) (heard : Hearing O) (stays : (job : JobValue) (t : Name) (request : Request) (refusal : Refusal) (left : Shortfall) → heard before job t request refusal left after → part after ≡ part before) where
   asked_stays : (job : JobValue) (t : Name) (y : Answer) (v : Option Request) → MatchOption v (after ≡ before) (λ r. Passes before job t r y after ⊎ Fails heard before job t r y after) → part after ≡ part before
@@ -64,7 +64,7 @@ module _ {O P : Type 0} (before after : O) (part : O → P) (heard : Hearing O) 
 
   -- what no refusal changes stays
   pub line_stays : (step : Option JobValue) (line : List ℕ) (t : LineEvent) (w : WalkValue) → ObservesLine heard before step line t w after → part after ≡ part before
-  line_stays step line told.Nothing w (of, same) = ap part same
-  line_stays step line (told.StepBegan end card) w (t, s, of, is, same) = ap part same
-  line_stays step line (told.Faulted fault) w same = ap part same
-  line_stays step line (told.Answered t a) w (s, job, later, of, is, new, h) = statement_stays job t s (full_answer later.state (ended_with_in w.reply) t a) h
+  line_stays step line line_event.Nothing w (of, same) = ap part same
+  line_stays step line (line_event.StepBegan end card) w (t, s, of, is, same) = ap part same
+  line_stays step line (line_event.Faulted fault) w same = ap part same
+  line_stays step line (line_event.Answered t a) w (s, job, later, of, is, new, h) = statement_stays job t s (full_answer later.state (ended_with_in w.reply) t a) h

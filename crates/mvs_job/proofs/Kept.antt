@@ -1,4 +1,4 @@
--- The lines that set names, kept behind a line that was served.
+-- The lines that set names, kept after a line that was served.
 use Rattle.std.proofs.Common.{◌≡◌, ◌≢◌, ℕ, Bool, true, false, not, List, [], ◌∷◌, map, Option, Some, None, inl, inr, refl, sym, ap, subst, ◌∙◌}
 use Rattle.std.specs.FinMap.{FinMap, get}
 use Rattle.mvs_model.proofs.StepCases.{step_cases}
@@ -38,7 +38,7 @@ use Rattle.mvs_model.specs.declared.want.Side.TheVariants.{Below}
 use Rattle.mvs_model.proofs.Reading.{one_reading}
 use Rattle.mvs_model.proofs.Tests.{by_test}
 use Rattle.mvs_job.specs.declared.walk.LineEvent.{LineEvent}
-use Rattle.mvs_job.specs.declared.walk.LineEvent.TheVariants as told
+use Rattle.mvs_job.specs.declared.walk.LineEvent.TheVariants as line_event
 use Rattle.mvs_job.specs.Granting.{IsReadIn, is_grant, reports_grant}
 use Rattle.mvs_job.specs.NamedAddress.{HasLengths, AreNamesAfter, RecordsOrigins, NameOrigins, SetsSome, lines_before, names_after}
 use Rattle.mvs_job.specs.LineEvents.{ServesAs, WalkValue, events_of_line}
@@ -125,7 +125,7 @@ module _ (job : JobValue) (t : Name) (a : SourceRequest) (some : names_set a ≢
     resolves = is;
     step = m.step;
     names = some;
-    places = gives job.names a r job.state t m.reply new.state is some long m.step (ap is_grant (sym m.told) ∙ grant);
+    places = gives job.names a r job.state t m.reply new.state is some long m.step (ap is_grant (sym m.answer_is) ∙ grant);
   }
 
   sets_name : Does Any job t (says.Request a) ans new → SetsName job t a
@@ -143,7 +143,7 @@ module _ (number : ℕ) (l : List ℕ) (events : List Event) (new : Option JobVa
       (line.Statement t (says.Request a), of, (refl, sets_name job t a some long here.0 here.1 (ap reports_grant (sym here.3) ∙ g) here.2))
   stops (Some job) read (inl of) sets h g = absurd sets
 
-  -- the lines that set names behind it
+  -- the lines that set names after it
   set_at : (step : Option JobValue) (set mid later : NameOrigins) (read : Line) → mid ≡ lines_before step set → IsReadIn step l read → ServesLine machine number step l events new → later ≡ names_after number mid read events → AreNamesAfter number step set l events later
   set_at None set mid later read before is h e = e ∙ ap (λ x. names_after number mid x events) is ∙ before
   set_at (Some job) set mid later read before (inl of) h e = (read, of, e ∙ ap (λ m. names_after number m read events) before)
@@ -151,14 +151,14 @@ module _ (number : ℕ) (l : List ℕ) (events : List Event) (new : Option JobVa
 
 module _ (w w' : WalkValue) (l : List ℕ) (read : Line) (is : IsReadIn w.step l read) where
   pub stops_naming : (t : LineEvent) → ServesAs w l t w' → SetsSome read → reports_grant (events_of_line w.number w' t) ≡ true → StopsForMemory w.number w.step (l ∷ []) []
-  stops_naming (told.Faulted fault) h sets g = absurd (let f : false ≡ true = g in cc)
-  stops_naming told.Nothing h sets g = absurd (let f : false ≡ true = g in cc)
-  stops_naming (told.StepBegan None card) h sets g = absurd (let f : false ≡ true = g in cc)
-  stops_naming (told.StepBegan (Some abended) card) h sets g = absurd (let f : false ≡ true = g in cc)
-  stops_naming (told.Answered t a) h sets g = stops w.number l (events_of_line w.number w' (told.Answered t a)) w'.step w.step read is sets h g
+  stops_naming (line_event.Faulted fault) h sets g = absurd (let f : false ≡ true = g in cc)
+  stops_naming line_event.Nothing h sets g = absurd (let f : false ≡ true = g in cc)
+  stops_naming (line_event.StepBegan None card) h sets g = absurd (let f : false ≡ true = g in cc)
+  stops_naming (line_event.StepBegan (Some abended) card) h sets g = absurd (let f : false ≡ true = g in cc)
+  stops_naming (line_event.Answered t a) h sets g = stops w.number l (events_of_line w.number w' (line_event.Answered t a)) w'.step w.step read is sets h g
 
   pub keeps_lines : (set mid later : NameOrigins) → mid ≡ lines_before w.step set → (t : LineEvent) → ServesAs w l t w' → later ≡ names_after w.number mid read (events_of_line w.number w' t) → RecordsOrigins w set l w' t later
-  keeps_lines set mid later before (told.Faulted fault) h e = tt
-  keeps_lines set mid later before told.Nothing h e = set_at w.number l (events_of_line w.number w' told.Nothing) w'.step w.step set mid later read before is h e
-  keeps_lines set mid later before (told.StepBegan end card) h e = set_at w.number l (events_of_line w.number w' (told.StepBegan end card)) w'.step w.step set mid later read before is h e
-  keeps_lines set mid later before (told.Answered t a) h e = set_at w.number l (events_of_line w.number w' (told.Answered t a)) w'.step w.step set mid later read before is h e
+  keeps_lines set mid later before (line_event.Faulted fault) h e = tt
+  keeps_lines set mid later before line_event.Nothing h e = set_at w.number l (events_of_line w.number w' line_event.Nothing) w'.step w.step set mid later read before is h e
+  keeps_lines set mid later before (line_event.StepBegan end card) h e = set_at w.number l (events_of_line w.number w' (line_event.StepBegan end card)) w'.step w.step set mid later read before is h e
+  keeps_lines set mid later before (line_event.Answered t a) h e = set_at w.number l (events_of_line w.number w' (line_event.Answered t a)) w'.step w.step set mid later read before is h e

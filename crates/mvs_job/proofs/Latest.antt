@@ -59,7 +59,7 @@ module _ (job : JobValue) (a : ℕ) where
     at None is k = absurd (let f : None ≡ Some n = k in cc)
     at (Some p) is k = here p is (has_address p a) refl k
 
-  -- a line is not behind that of a name
+  -- a line is not after that of a name
   abbrev AtLeast : ℕ → Option NamedAddress → Type 0
   AtLeast number None = ⊥
   AtLeast number (Some n) = number ≤ n.number

@@ -1,4 +1,4 @@
-pub mod Behind
+pub mod AfterLines
 pub mod Observed
 pub mod LineEnd
 pub mod Accepting

@@ -23,6 +23,6 @@ line_whole bytes some none =
     let gone : drop (length bytes + 1) bytes ≡ [] = drop_all (length bytes + 1) bytes (omega arith) in
     only_line bytes some (subst (AllByRecursion (λ b. b ≢ 10)) same all) ∙ ap (λ x. x ∷ []) (sym same) ∙ ap (λ x. take (length bytes) bytes ∷ lines_of x) (sym gone)
 
--- behind the last line
+-- after the last line
 pub none_left : (script : List ℕ) (at : ℕ) → length script ≤ at → lines_of (drop at script) ≡ []
 none_left script at h = ap lines_of (drop_all at script h)

@@ -133,7 +133,7 @@ module _ (number : ℕ) (st : State) (t : Name) where
   no_text : (page n : ℕ) → n ≡ 0 → runs_text page n ≡ []
   no_text page n is = ap (λ k. runs_text page k) is ∙ ap (λ runs. flat_map run_text (map_runs st.owners (4096 * page) runs)) (no_pages st page)
 
-  -- one run, and what is left behind it
+  -- one run, and what is left after it
   one_run : (first end page n count : ℕ) (run : MapRun) → IsAt st first end page n → IsPages (page_subpool st) first end page count → run.addr ≡ 4096 * page → run.len ≡ 4096 * count → IsHolder st.owners (page_subpool st page) run.holder
       → (m : ℕ) × IsAt st first end (page + count) m × (runs_text page n ≡ run_text run ++ runs_text (page + count) m)
   one_run first end page n count run at pages addr len holder =
@@ -166,14 +166,14 @@ module _ (number : ℕ) (st : State) (t : Name) where
   left_start : IsLeft 0x6000 map_printed
   left_start = (6, st.regions.below, refl, inl (whole st 6 st.regions.below, flat_map-append run_text (map_runs st.owners 0x6000 (page_runs st 6 st.regions.below)) (map_runs st.owners 0x1000000 (page_runs st 4096 st.regions.above))))
 
-  -- a run, and what is left behind it
+  -- a run, and what is left after it
   abbrev Nexts : MapRun → List ℕ → Type 0
   Nexts run rest = (more : List ℕ) × (rest ≡ run_text run ++ more) × IsLeft (run.addr + run.len) more
 
   next_below : (from page n : ℕ) (rest : List ℕ) (run : MapRun) (is : IsMapRun st from run) → from ≡ 4096 * page → IsAt st 6 (6 + st.regions.below) page n → rest ≡ runs_text page n ++ runs_text 4096 st.regions.above
       → IsPages (page_subpool st) 6 (6 + st.regions.below) is.page is.count → NoneBegins (page_subpool st) 6 from is.page → Nexts run rest
   next_below from page n rest run is from_is at rest_is pages none =
-      let same = found st 6 (6 + st.regions.below) page n from is.page is.count (omega (arith, from_is)) (omega (arith, from_is, is.behind, is.addr)) at pages none in
+      let same = found st 6 (6 + st.regions.below) page n from is.page is.count (omega (arith, from_is)) (omega (arith, from_is, is.after, is.addr)) at pages none in
       let one = one_run 6 (6 + st.regions.below) page n is.count run at (subst (λ p. IsPages (page_subpool st) 6 (6 + st.regions.below) p is.count) same pages) (is.addr ∙ ap (λ p. 4096 * p) same) is.len
       (subst (λ p. IsHolder st.owners (page_subpool st p) run.holder) same is.holder) in (
         runs_text (page + is.count) one.0 ++ runs_text 4096 st.regions.above,
@@ -204,8 +204,8 @@ module _ (number : ℕ) (st : State) (t : Name) where
       ]
   left_next from rest run bounded (page, n, from_is, inr (at, rest_is)) is =
       elim is.placed [
-        | inl here ↦ absurd (omega (arith, from_is, at.low, is.behind, is.addr, here.0.ends.low, here.0.ends.high, bounded.below))
-        | inr there ↦ next_above from page n rest run is (omega (arith, from_is)) (omega (arith, from_is, is.behind, is.addr)) at rest_is there.1 there.2
+        | inl here ↦ absurd (omega (arith, from_is, at.low, is.after, is.addr, here.0.ends.low, here.0.ends.high, bounded.below))
+        | inr there ↦ next_above from page n rest run is (omega (arith, from_is)) (omega (arith, from_is, is.after, is.addr)) at rest_is there.1 there.2
       ]
 
   -- nothing is left

@@ -72,7 +72,7 @@ module _ (number : ℕ) (st : State) (t : Name) where
   -- the lines up to a number, and its own
   lines_with : (from : ℕ) (line : SubpoolLine) → IsSubpoolLine st t from line → each_below (line.number + 1) number_line ≡ each_below from number_line ++ line ∷ []
   lines_with from line is =
-      each_next number_line line.number ∙ ap (λ z. z ++ number_line line.number) (lines_none from line.number is.behind is.first) ∙ ap (λ z. each_below from number_line ++ z) (line_meaning from line is)
+      each_next number_line line.number ∙ ap (λ z. z ++ number_line line.number) (lines_none from line.number is.after is.first) ∙ ap (λ z. each_below from number_line ++ z) (line_meaning from line is)
 
   text_with : (from : ℕ) (line : SubpoolLine) → IsSubpoolLine st t from line → numbers_text (line.number + 1) ≡ numbers_text from ++ line_text line
   text_with from line is = ap (flat_map line_text) (lines_with from line is) ∙ flat_map-append line_text (each_below from number_line) (line ∷ []) ∙ ap (λ z. numbers_text from ++ z) (append-nil (line_text line))

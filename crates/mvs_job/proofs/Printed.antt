@@ -111,7 +111,7 @@ module _ (script : List ℕ) where
 
   pub answered_printing : {S : Type 0} (consumed text : List ℕ) (first s : S) → HasAnswered printed (keeps_nothing first) consumed text s → IsAnswered consumed text
   answered_printing consumed text first s h =
-      record { lines = h.lines; kept = h.kept; cut = h.cut; each = h.each; unended = h.unended; short = h.short; events = events_of h.entries; step = h.step; leads = walk_of (Arrives h.step) 1 None h.lines h.entries h.trace; printed = printed_events [] h.entries text h.is }
+      record { lines = h.lines; kept = h.pending; cut = h.cut; each = h.each; unended = h.unended; short = h.short; events = events_of h.entries; step = h.step; leads = walk_of (Arrives h.step) 1 None h.lines h.entries h.trace; printed = printed_events [] h.entries text h.is }
 
 -- what a run leaves that prints
 pub lines_printed : (before after : Option (List ℕ)) (script : List ℕ) (first s : Printer) (r : Result Outcome Stop) → Leaves printed (keeps_nothing first) before after script s r → IfOk r (λ outcome. (text : List ℕ) × Appends before after text × IsPrinting script text outcome)

@@ -119,7 +119,7 @@ abbrev pub AttachesUnended : SourceRequest → Type 0
 AttachesUnended (written.Attach name gifts residence) = IsUnended name
 AttachesUnended _ = Unit {0}
 
--- The same of a statement.
+-- The name of the subtask has none, where the statement is a request.
 abbrev pub SaysUnended : Statement → Type 0
 SaysUnended (says.Request a) = AttachesUnended a
 SaysUnended _ = Unit {0}

@@ -60,8 +60,8 @@ all_in r (p ∷ ps) b h = All-cons IsArea p ps (area_in r p b h.0) (all_in r ps 
 abbrev Areas : Reply → Type 0
 Areas reply = All IsArea (places_in reply)
 
-no_areas : (reply told : Reply) → reply ≡ told → places_in told ≡ [] → Areas reply
-no_areas reply told is e = subst Areas (sym is) (subst (All IsArea) (sym e) (All-nil IsArea))
+no_areas : (reply answer : Reply) → reply ≡ answer → places_in answer ≡ [] → Areas reply
+no_areas reply answer is e = subst Areas (sym is) (subst (All IsArea) (sym e) (All-nil IsArea))
 
 abend_areas : (old : State) (t : Name) (code : Code) (reply : Reply) (new : State) → Abends old t code reply new → Areas reply
 abend_areas old t code reply new h = no_areas reply (Abended code h.0.fallen) h.1 refl

@@ -85,7 +85,7 @@ list_tasks t number (want ∷ wants) [] old new h = absurd h
 list_tasks t number (want ∷ wants) (p ∷ ps) old new h = list_tasks t number wants ps h.0 new h.2 ∙ enters_tasks old.owners t number h.1.subpool h.0.owners h.1.owners
 
 module _ (old : State) (fine : TasksUnended old) where
-  -- what is so behind a request
+  -- what is so after a request
   abbrev Fine : Reply → State → Type 0
   Fine answer new = ReplyUnended answer × TasksUnended new
 
@@ -106,8 +106,8 @@ module _ (old : State) (fine : TasksUnended old) where
   fails true t code answer new h = stays answer new (subst ReplyUnended (sym h.0) (tt {0})) (ap (λ st. st.owners.tasks) h.1)
   fails false t code answer new h = abends t code answer new h
 
-  told : (said answer : Reply) (new : State) → ReplyUnended said → answer ≡ said → new.owners ≡ old.owners → Fine answer new
-  told said answer new h e same = stays answer new (subst ReplyUnended (sym e) h) (ap (λ o. o.tasks) same)
+  replies : (said answer : Reply) (new : State) → ReplyUnended said → answer ≡ said → new.owners ≡ old.owners → Fine answer new
+  replies said answer new h e same = stays answer new (subst ReplyUnended (sym e) h) (ap (λ o. o.tasks) same)
 
   entered : (said answer : Reply) (t : Name) (number s : ℕ) (new : State) → ReplyUnended said → answer ≡ said → Enters old.owners t number s new.owners → Fine answer new
   entered said answer t number s new h e enters = stays answer new (subst ReplyUnended (sym e) h) (enters_tasks old.owners t number s new.owners enters)
@@ -132,7 +132,7 @@ module _ (old : State) (fine : TasksUnended old) where
   release : (t : Name) (form : Form) (number : ℕ) (ps : List PlaceValue) (answer : Reply) (new : State) → ReleaseStep old t form number ps answer new → Fine answer new
   release t form number ps answer new h =
       by_test (is_invalid number) h (λ _ a. abends t _ answer new a)
-      (λ _ k. by_test (not (list_all on_doubleword ps)) k (λ _ a. abends t _ answer new a) (λ _ m. elim m [ inl f ↦ fails _ t _ answer new f.1 | inr g ↦ told reply.Rc0 answer new tt g.1 g.2.owners ]))
+      (λ _ k. by_test (not (list_all on_doubleword ps)) k (λ _ a. abends t _ answer new a) (λ _ m. elim m [ inl f ↦ fails _ t _ answer new f.1 | inr g ↦ replies reply.Rc0 answer new tt g.1 g.2.owners ]))
 
   empties : (o : Option ℕ) (new : State) → EmptiesEntry old o new → new.owners ≡ old.owners
   empties None new h = ap (λ st. st.owners) h
@@ -141,7 +141,7 @@ module _ (old : State) (fine : TasksUnended old) where
   release_whole : (t : Name) (form : Form) (number : ℕ) (answer : Reply) (new : State) → ReleaseWholeStep old t form number answer new → Fine answer new
   release_whole t form number answer new h =
       by_test (is_invalid number) h (λ _ a. abends t _ answer new a)
-      (λ _ k. by_test (number == 0) k (λ _ a. abends t _ answer new a) (λ _ e. told reply.Rc0 answer new tt e.0 (empties (subpool_meant old.owners t number) new e.1)))
+      (λ _ k. by_test (number == 0) k (λ _ a. abends t _ answer new a) (λ _ e. replies reply.Rc0 answer new tt e.0 (empties (subpool_meant old.owners t number) new e.1)))
 
   build : (t name : Name) (number : ℕ) (plan : Plan) (answer : Reply) (new : State) → BuildStep old t name number plan answer new → Fine answer new
   build t name number plan answer new h =
@@ -154,21 +154,21 @@ module _ (old : State) (fine : TasksUnended old) where
 
   gets_none : (t name : Name) (conditional : Bool) (pool : Pool) (answer : Reply) (new : State) → GetsNone old t name conditional pool answer new → Fine answer new
   gets_none t name conditional pool answer new h =
-      by_test conditional h (λ _ r. told reply.NoCell answer new tt r.0 (ap (λ st. st.owners) r.1))
-      (λ _ m. elim m [ inl f ↦ abends t _ answer new f.1 | inr g ↦ told (reply.Cell (cell_at (with_part pool pool.secondary g.0) g.3.0)) answer new tt g.3.2.1 (g.3.2.0.owners ∙ g.2.owners_are) ])
+      by_test conditional h (λ _ r. replies reply.NoCell answer new tt r.0 (ap (λ st. st.owners) r.1))
+      (λ _ m. elim m [ inl f ↦ abends t _ answer new f.1 | inr g ↦ replies (reply.Cell (cell_at (with_part pool pool.secondary g.0) g.3.0)) answer new tt g.3.2.1 (g.3.2.0.owners ∙ g.2.owners_are) ])
 
   get_cell : (o : Option Pool) (t name : Name) (conditional : Bool) (answer : Reply) (new : State) → GetStep old t name conditional o answer new → Fine answer new
   get_cell None t name conditional answer new h = abends t _ answer new h
-  get_cell (Some pool) t name conditional answer new (inl g) = told (reply.Cell (cell_at pool g.0)) answer new tt g.2.1 g.2.0.owners
+  get_cell (Some pool) t name conditional answer new (inl g) = replies (reply.Cell (cell_at pool g.0)) answer new tt g.2.1 g.2.0.owners
   get_cell (Some pool) t name conditional answer new (inr f) = gets_none t name conditional pool answer new f.1
 
   free_cell : (o : Option Pool) (t name : Name) (c : ℕ) (answer : Reply) (new : State) → FreeStep old t name c o answer new → Fine answer new
   free_cell None t name c answer new h = abends t _ answer new h
-  free_cell (Some pool) t name c answer new h = by_test (not (set.contains pool.taken c)) h (λ _ a. abends t _ answer new a) (λ _ g. told reply.Rc0 answer new tt g.0 g.1.owners)
+  free_cell (Some pool) t name c answer new h = by_test (not (set.contains pool.taken c)) h (λ _ a. abends t _ answer new a) (λ _ g. replies reply.Rc0 answer new tt g.0 g.1.owners)
 
   delete : (o : Option Pool) (t name : Name) (answer : Reply) (new : State) → DeleteStep old t name o answer new → Fine answer new
   delete None t name answer new h = abends t _ answer new h
-  delete (Some pool) t name answer new h = told reply.Rc0 answer new tt h.0 h.1.owners
+  delete (Some pool) t name answer new h = replies reply.Rc0 answer new tt h.0 h.1.owners
 
   attach : (refusal : Option Code) (t name : Name) (gifts : GiftsValue) (residence : Residence) (answer : Reply) (new : State) → IsUnended name → AttachCase old t name gifts residence refusal answer new → Fine answer new
   attach (Some code) t name gifts residence answer new named h = abends t code answer new h
@@ -178,7 +178,7 @@ module _ (old : State) (fine : TasksUnended old) where
   returns t answer new h = by_test (has_subtask old.owners t) h (λ _ a. abends t _ answer new a) (λ _ e. (subst ReplyUnended (sym e.0) (tt {0}), ended_fine t new e.1))
 
   access : (t : Name) (allowed : Bool) (done : Type 0) (answer : Reply) (new : State) → (done → new.owners ≡ old.owners) → Accesses old t allowed done answer new → Fine answer new
-  access t allowed done answer new f h = by_test (not allowed) h (λ _ a. abends t _ answer new a) (λ _ d. told reply.Done answer new tt d.0 (f d.1))
+  access t allowed done answer new f h = by_test (not allowed) h (λ _ a. abends t _ answer new a) (λ _ d. replies reply.Done answer new tt d.0 (f d.1))
 
   acts : (t : Name) (asked : Request) (answer : Reply) (new : State) → RequestUnended asked → Acts old t asked answer new → Fine answer new
   acts t (request.Obtain form number ask) answer new r h = obtain t form number _ answer new h
@@ -198,7 +198,7 @@ module _ (old : State) (fine : TasksUnended old) where
   acts t (request.Move to from n) answer new r h = access t _ _ answer new (λ w. w.owners) h
 
   step_fine : (t : Name) (asked : Request) (answer : Reply) (new : State) → RequestUnended asked → Step old t asked answer new → Fine answer new
-  step_fine t asked answer new r h = by_test (not (is_active old.owners t)) (step_cases old t asked answer new h) (λ _ k. told reply.NotRun answer new tt k.0 (ap (λ st. st.owners) k.1)) (λ _ k. acts t asked answer new r k)
+  step_fine t asked answer new r h = by_test (not (is_active old.owners t)) (step_cases old t asked answer new h) (λ _ k. replies reply.NotRun answer new tt k.0 (ap (λ st. st.owners) k.1)) (λ _ k. acts t asked answer new r k)
 
 -- ---- what a line tells
 
@@ -236,18 +236,18 @@ map_fine st well fine =
     let above = page_runs st first_page_above st.regions.above in
     all_both (λ (r : MapRun). HolderUnended r.holder) (map_runs st.owners below_begins below) (map_runs st.owners above_begins above) (runs_fine st well fine below_begins below) (runs_fine st well fine above_begins above)
 
--- what is so behind a statement
+-- what is so after a statement
 abbrev ContinuesRun : Answer → JobValue → Type 0
 ContinuesRun answer new = AnswerUnended answer × TasksUnended new.state
 
-tells_fine : (old : JobValue) (told answer : Answer) (new : JobValue) → TasksUnended old.state → AnswerUnended told → OnlyAnswers old told answer new → ContinuesRun answer new
-tells_fine old told answer new fine h e = (subst AnswerUnended (sym e.0) h, subst (λ j. TasksUnended j.state) (sym e.1) fine)
+tells_fine : (old : JobValue) (expected answer : Answer) (new : JobValue) → TasksUnended old.state → AnswerUnended expected → OnlyAnswers old expected answer new → ContinuesRun answer new
+tells_fine old expected answer new fine h e = (subst AnswerUnended (sym e.0) h, subst (λ j. TasksUnended j.state) (sym e.1) fine)
 
 asks_fine : (old : JobValue) (t : Name) (a : SourceRequest) (o : Option Request) (answer : Answer) (new : JobValue) → TasksUnended old.state → ((r : Request) → o ≡ Some r → RequestUnended r) → Asks Any old t a o answer new → ContinuesRun answer new
 asks_fine old t a None answer new fine f h = tells_fine old NoName answer new fine (tt {0}) h
 asks_fine old t a (Some r) answer new fine f h =
     let s = step_fine old.state fine t r h.reply new.state (f r refl) h.step in
-    (subst AnswerUnended (sym h.told) (answered_fine old.state a r h.reply s.0), s.1)
+    (subst AnswerUnended (sym h.answer_is) (answered_fine old.state a r h.reply s.0), s.1)
 
 says_fine : (old : JobValue) (t : Name) (s : Statement) (answer : Answer) (new : JobValue) → WellFormed old.state → TasksUnended old.state → SaysUnended s → AnswersTo Any old t s answer new → ContinuesRun answer new
 says_fine old t (says.Region below above fill residence) answer new is fine named h = absurd h
@@ -271,7 +271,7 @@ start_fine card named x active = at (same_name x card.name) refl (sym (ap is_som
   at true e is = subst IsUnended (sym (same_name_is x card.name e)) named
   at false e is = true_false (sym is ∙ none)
 
--- what is so behind a line
+-- what is so after a line
 abbrev Leaves : List Event → Option JobValue → Type 0
 Leaves events new = AllByRecursion EventUnended events × Holds TasksUnended new
 

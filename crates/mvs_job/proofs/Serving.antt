@@ -34,13 +34,13 @@ use Rattle.job_script.specs.Writing.{Prints, AppendsFront}
 use Rattle.job_script.proofs.Appending.{front_longer, front_more}
 use Rattle.mvs_job.specs.declared.walk.OutOfMemoryAt.{OutOfMemoryAt}
 use Rattle.mvs_job.specs.declared.walk.LineEvent.{LineEvent}
-use Rattle.mvs_job.specs.declared.walk.LineEvent.TheVariants as told
+use Rattle.mvs_job.specs.declared.walk.LineEvent.TheVariants as line_event
 use Rattle.mvs_job.specs.LineEvents.{WalkValue, ServesAs, ServesAsUnder, IsAvailableIn, KeepsReply, region_card, ended, events_of_line, full_answer_in}
 
 -- A request that is made, and whose names are set.
 pub made_by : (P : Condition) (old : JobValue) (t : Name) (a : SourceRequest) (r : Request) (reply : Reply) (new : JobValue) → Step old.state t r reply new.state → P old.state t r reply new.state
     → new.names ≡ all_set old.names (names_set a) (places_in reply) → new.abended ≡ (old.abended || is_abend reply) → new.former ≡ old.former → Makes P old t a r (answer_of old.state a r reply) new
-made_by P old t a r reply new step meets names abended former = record { reply = reply; step = step; meets = meets; names = names; abended = abended; former = former; told = refl }
+made_by P old t a r reply new step meets names abended former = record { reply = reply; step = step; meets = meets; names = names; abended = abended; former = former; answer_is = refl }
 
 pub made : (P : Condition) (old : JobValue) (t : Name) (a : SourceRequest) (r : Request) (reply : Reply) (new : JobValue) → resolved old.names a ≡ Some r → Step old.state t r reply new.state → P old.state t r reply new.state
     → new.names ≡ all_set old.names (names_set a) (places_in reply) → new.abended ≡ (old.abended || is_abend reply) → new.former ≡ old.former
@@ -70,7 +70,7 @@ module _ (P : Condition) (old new : WalkValue) (bytes : List ℕ) (first : Bool)
   step_served t says.ReportMap step later answer is does = (answer, later, does, refl, refl)
 
   pub told_answered : (l : Line) (t : Name) (s : Statement) (step later : JobValue) (a : Short) → read ≡ Ok l → l ≡ line.Statement t s → region_card t s ≡ None → old.step ≡ Some step → new.step ≡ Some later
-      → Does P step t s (full_answer later.state (ended_with_in new.reply) t a) later → ServesAsUnder P old bytes (told.Answered t a) new
+      → Does P step t s (full_answer later.state (ended_with_in new.reply) t a) later → ServesAsUnder P old bytes (line_event.Answered t a) new
   told_answered l t s step later a is l_is of_step e f does = (
     line.Statement t s,
     said_so first (is_first old.step) bytes read (line.Statement t s) same reading (is ∙ ap (λ x. Ok x) l_is),
@@ -83,10 +83,10 @@ module _ (P : Condition) (old new : WalkValue) (bytes : List ℕ) (first : Bool)
 
 -- what a line tells by a step that meets a condition it tells by a step
 pub told_by : (P : Condition) (old new : WalkValue) (bytes : List ℕ) (t : LineEvent) → ServesAsUnder P old bytes t new → ServesAs old bytes t new
-told_by P old new bytes (told.Faulted fault) h = h
-told_by P old new bytes told.Nothing h = (h.0, h.1, line_other (λ _. P) (λ _. Any) old.number (λ _ _ _ _ _ _. tt) old.step h.0 _ new.step h.2)
-told_by P old new bytes (told.StepBegan end card) h = (h.0, h.1, line_other (λ _. P) (λ _. Any) old.number (λ _ _ _ _ _ _. tt) old.step h.0 _ new.step h.2)
-told_by P old new bytes (told.Answered t a) h = (h.0, h.1, line_other (λ _. P) (λ _. Any) old.number (λ _ _ _ _ _ _. tt) old.step h.0 _ new.step h.2)
+told_by P old new bytes (line_event.Faulted fault) h = h
+told_by P old new bytes line_event.Nothing h = (h.0, h.1, line_other (λ _. P) (λ _. Any) old.number (λ _ _ _ _ _ _. tt) old.step h.0 _ new.step h.2)
+told_by P old new bytes (line_event.StepBegan end card) h = (h.0, h.1, line_other (λ _. P) (λ _. Any) old.number (λ _ _ _ _ _ _. tt) old.step h.0 _ new.step h.2)
+told_by P old new bytes (line_event.Answered t a) h = (h.0, h.1, line_other (λ _. P) (λ _. Any) old.number (λ _ _ _ _ _ _. tt) old.step h.0 _ new.step h.2)
 
 pub told_each : (P : Condition) (old new : WalkValue) (bytes : List ℕ) (r : Result LineEvent OutOfMemoryAt) (Q : OutOfMemoryAt → Type 0) → MatchResult r (λ t. ServesAsUnder P old bytes t new) Q → MatchResult r (λ t. ServesAs old bytes t new) Q
 told_each P old new bytes (Ok t) Q h = told_by P old new bytes t h
@@ -94,10 +94,10 @@ told_each P old new bytes (Err e) Q h = h
 
 -- what a line that was served or has a fault may tell
 pub line_tells : (old new : WalkValue) (bytes : List ℕ) (t : LineEvent) → ServesAs old bytes t new → MayHappen old bytes (events_of_line old.number new t)
-line_tells old new bytes (told.Faulted fault) h = inr (fault, h.0, refl)
-line_tells old new bytes told.Nothing h = inl (new.step, h)
-line_tells old new bytes (told.StepBegan end card) h = inl (new.step, h)
-line_tells old new bytes (told.Answered t a) h = inl (new.step, h)
+line_tells old new bytes (line_event.Faulted fault) h = inr (fault, h.0, refl)
+line_tells old new bytes line_event.Nothing h = inl (new.step, h)
+line_tells old new bytes (line_event.StepBegan end card) h = inl (new.step, h)
+line_tells old new bytes (line_event.Answered t a) h = inl (new.step, h)
 
 pub nothing_kept : (a b : Option (List ℕ)) → AppendsFront a b [] → Keeps a b
 nothing_kept None b f = tt
@@ -145,7 +145,7 @@ pub kept_in_step : (o : Option JobValue) (step later : JobValue) (t : Name) (s :
 kept_in_step o step later t s before reply (Ok answer) is kept = (step, later, is, refl, kept)
 kept_in_step o step later t s before reply (Err e) is kept = tt
 
--- texts that are printed by two calls, one behind the other
+-- texts that are printed by two calls, one after the other
 pub both_written : {W X Y E F : Type 0} (contents : W → Option (List ℕ)) (old mid new : WatchedValue W) (u : X) (result : Result Y F) (first second : List ℕ) → Prints {W = W} {X = X} {E = E} contents old mid (Ok u) first → Prints {W = W} {X = Y} {E = F} contents mid new result second
     → Prints {W = W} {X = Y} {E = F} contents old new result (first ++ second)
 both_written contents old mid new u (Ok v) first second p q = record { bytes = Appends-trans (contents old.inner) (contents mid.inner) (contents new.inner) first second p.bytes q.bytes; ok = q.ok ∙ p.ok; err = tt }

@@ -34,7 +34,7 @@ unfolding last_digits
 hex_unended base zero n = tt
 hex_unended base (suc k) n = unended_both (last_digits base k (n / base)) (glyph (n % base) ∷ []) (hex_unended base k (n / base)) (no_feed _ (shown (nat_lt (n % base) 10) (n % base)), tt)
 
--- The text has a first byte, which is a digit or behind the digits, and so are all.
+-- The text has a first byte, which is a digit or after the digits, and so are all.
 record IsShown (text : List ℕ) : Type 0 where
   first : ℕ
   rest : List ℕ

@@ -22,10 +22,12 @@ use Rattle.job_script.specs.ReasonTexts.{one_line, reason_line, why_text}
 use Rattle.mvs_model.specs.Owners.{is_among_ended}
 use Rattle.request_forms.specs.declared.facts.OwnedSubpool.{OwnedSubpool}
 use Rattle.job_script.specs.FactTexts.{fact_line, fact_text, freed_line, freed_text_of, stays_line, stays_text}
-use Rattle.mvs_job.specs.Facts.{IsFreeing, ended_by, freed_text, subpool_line}
+use Rattle.mvs_job.specs.Facts.{IsFreeing, ended_by, fate, fate_line, freed_text, subpool_line}
+use Rattle.mvs_job.specs.declared.ends.Fate.{Fate}
+use Rattle.mvs_job.specs.declared.ends.Fate.TheVariants.{Freed, Remains, Unaffected}
 use Rattle.request_forms.specs.Facts.{owned_subpools}
 use Rattle.mvs_job.specs.declared.granting.Baseline.{Baseline}
-use Rattle.mvs_job.specs.Granting.{IsGranting, before_line, done_text, facts_of, granted_text, reports_grant}
+use Rattle.mvs_job.specs.Granting.{IsGranting, before_line, granted_facts, granted_text}
 use Rattle.job_script.specs.NamingTexts.{naming_words}
 use Rattle.mvs_job.specs.declared.name_origins.NamedAddress.{NamedAddress}
 use Rattle.mvs_job.specs.NamedAddress.{IsNamed, NameOrigins, naming_text}
@@ -45,7 +47,7 @@ use Rattle.mvs_job.proofs.Feeding.{all_before, lines_cut, lines_ended}
 abbrev pub IsClosed : List ℕ → Type 0
 IsClosed text = (front : List ℕ) × (text ≡ front ++ 10 ∷ [])
 
--- The same, or there is no byte.
+-- The last byte is a line feed, or there is no byte.
 abbrev pub IsEnded : List ℕ → Type 0
 IsEnded text = (text ≡ []) ⊎ IsClosed text
 
@@ -120,7 +122,7 @@ text_both : (one other : List (List ℕ)) → ended_text (one ++ other) ≡ ende
 text_both [] other = refl
 text_both (l ∷ one) other = ap (λ x. l ++ 10 ∷ x) (text_both one other) ∙ sym (append_assoc l (10 ∷ ended_text one) (ended_text other))
 
--- what is left of two texts one behind the other
+-- what is left of two texts one after the other
 pub left_both : (one other : List ℕ) → IsEnded one → without_starred (one ++ other) ≡ without_starred one ++ without_starred other
 left_both one other ended =
     let k = lines_in one ended in
@@ -178,11 +180,11 @@ pub out_both : (one other : List ℕ) → IsLeftOut one → IsLeftOut other → 
 out_both one other a b more = ap without_starred (append_assoc one other more) ∙ a (other ++ more) ∙ b more
 
 subpool_out : (e : Name × List Name) (s : OwnedSubpool) → IsLeftOut (subpool_line e s)
-subpool_out e s = at (is_among_ended e.0 e.1 s.owner) s.had where
-  at : (b had : Bool) → IsLeftOut (cond b (freed_line s.number s.owner s.bytes s.pages) (cond had (stays_line s.number s.owner e.0) []))
-  at true had = line_out (freed_text_of s.number s.owner s.bytes s.pages)
-  at false true = line_out (stays_text s.number s.owner e.0)
-  at false false = none_left_out [] refl
+subpool_out e s = at (fate e s) where
+  at : (f : Fate) → IsLeftOut (fate_line e.0 s f)
+  at Freed = line_out (freed_text_of s.number s.owner s.bytes s.pages)
+  at Remains = line_out (stays_text s.number s.owner e.0)
+  at Unaffected = none_left_out [] refl
 
 pub each_out : {X : Type 0} (f : X → List ℕ) → ((x : X) → IsLeftOut (f x)) → (xs : List X) → IsLeftOut (flat_map f xs)
 each_out f each [] = none_left_out [] refl
@@ -196,21 +198,8 @@ freeing_out : (old : Option JobValue) (events : List Event) (freed : List ℕ) �
 freeing_out None events freed e = none_left_out freed e
 freeing_out (Some job) events freed e = subst IsLeftOut (sym e) (lines_out job (ended_by events))
 
-done_out : (b : Option Baseline) (l : Line) (new : Option JobValue) → IsLeftOut (done_text b l new)
-done_out None l new = none_left_out [] refl
-done_out (Some b) l None = none_left_out [] refl
-done_out (Some b) line.Nothing (Some new) = none_left_out [] refl
-done_out (Some b) (line.Statement t (says.Request a)) (Some new) = each_out fact_line (λ f. line_out (fact_text f)) (facts_of b t a new)
-done_out (Some b) (line.Statement t (says.Region below above fill residence)) (Some new) = none_left_out [] refl
-done_out (Some b) (line.Statement t (says.Where name)) (Some new) = none_left_out [] refl
-done_out (Some b) (line.Statement t says.ReportSubpools) (Some new) = none_left_out [] refl
-done_out (Some b) (line.Statement t says.ReportMap) (Some new) = none_left_out [] refl
-
 granted_out : (b : Option Baseline) (l : Line) (events : List Event) (new : Option JobValue) → IsLeftOut (granted_text b l events new)
-granted_out b l events new = at (reports_grant events) where
-  at : (yes : Bool) → IsLeftOut (cond yes (done_text b l new) [])
-  at true = done_out b l new
-  at false = none_left_out [] refl
+granted_out b l events new = each_out fact_line (λ f. line_out (fact_text f)) (granted_facts b l events new)
 
 granting_out : (old : Option JobValue) (l : List ℕ) (events : List Event) (new : Option JobValue) (done : List ℕ) → IsGranting old l events new done → IsLeftOut done
 granting_out old l events new done (inl (one_line_text, is, e)) = subst IsLeftOut (sym e) (granted_out (before_line old one_line_text) one_line_text events new)

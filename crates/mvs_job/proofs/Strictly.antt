@@ -26,7 +26,7 @@ use Rattle.mvs_job.specs.declared.strict.StrictOutcome.{StrictOutcome}
 use Rattle.mvs_job.specs.declared.strict.SkipReason.{SkipReason}
 use Rattle.mvs_job.specs.declared.strict.SkipReason.TheVariants as why
 use Rattle.mvs_job.specs.declared.walk.LineEvent.{LineEvent}
-use Rattle.mvs_job.specs.declared.walk.LineEvent.TheVariants as told
+use Rattle.mvs_job.specs.declared.walk.LineEvent.TheVariants as line_event
 use Rattle.mvs_job.specs.Consuming.{IsEnd, IsEntry, Known, Leaves, LeavesText, Piece, keeps_nothing}
 use Rattle.mvs_job.specs.Printed.{printed}
 use Rattle.mvs_job.specs.Streams.{PrintedUpTo}
@@ -273,10 +273,10 @@ and_false true = refl
 and_false false = refl
 
 bytes_of : (n : ℕ) (line : List ℕ) (w : WalkValue) (t : LineEvent) (e : Entry) → IsEntry n line w t e → list_all is_of_served (events_of_line n w t) ≡ false → e.bytes ≡ line
-bytes_of n line w told.Nothing e is unserved = ap (λ e. e.bytes) (is.of_line).5
-bytes_of n line w (told.StepBegan ended card) e is unserved = ap (λ e. e.bytes) (is.of_line).5
-bytes_of n line w (told.Answered t a) e is unserved = ap (λ e. e.bytes) (is.of_line).5
-bytes_of n line w (told.Faulted fault) e is unserved = absurd (let f : true ≡ false = unserved in cc)
+bytes_of n line w line_event.Nothing e is unserved = ap (λ e. e.bytes) (is.of_line).5
+bytes_of n line w (line_event.StepBegan ended card) e is unserved = ap (λ e. e.bytes) (is.of_line).5
+bytes_of n line w (line_event.Answered t a) e is unserved = ap (λ e. e.bytes) (is.of_line).5
+bytes_of n line w (line_event.Faulted fault) e is unserved = absurd (let f : true ≡ false = unserved in cc)
 
 module _ (fa all : Bool) (heard heard1 : Option (List Skipped)) (history : List Entry) (n : ℕ) (line : List ℕ) (w : WalkValue) (t : LineEvent) (e : Entry) (o : Option SkipReason) (is : IsEntry n line w t e)
     (served : list_all is_of_served (events_of_line n w t) ≡ not (is_some o)) (skipped : (lines : ℕ → List ℕ) → all_skipped lines (events_of_line n w t) ≡ skipped_for n (lines n) o) (before : Observes fa all heard heard1 history) where

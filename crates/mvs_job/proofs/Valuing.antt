@@ -6,7 +6,8 @@ use Rattle.mvs_model.specs.declared.request.Reply.{Reply}
 use Rattle.mvs_model.specs.Job.{JobValue}
 use Rattle.mvs_model.specs.Place.{PlaceValue}
 use Rattle.mvs_job.specs.LineEvents.{WalkValue}
-use Rattle.mvs_job.specs.Valued.{MayWrite, Requests, RequestsOf, WritesOf}
+use Rattle.mvs_job.specs.Observing.{Hearing, ObservesRequest}
+use Rattle.mvs_job.specs.Valued.{MayWrite, ObservesValues, Requests, RequestsOf, WritesOf}
 
 module _ (step : Option JobValue) (number : ℕ) (before : Reply) where
   abbrev old : WalkValue
@@ -15,6 +16,10 @@ module _ (step : Option JobValue) (number : ℕ) (before : Reply) where
   pub requested : (t : Name) (r : Request) (reply : Reply) (job later : JobValue) → step ≡ Some job → Requests job t r reply later
       → RequestsOf old t r true (record { step = Some later; number = number; reply = reply })
   requested t r reply job later e h = subst (λ o. RequestsOf (record { step = o; number = number; reply = before }) t r true (record { step = Some later; number = number; reply = reply })) (sym e) (refl, refl, (later, refl, h))
+
+  pub observed : {O : Type 0} (heard : Hearing O) (before after : O) (t : Name) (r : Request) (reply : Reply) (job later : JobValue) → step ≡ Some job → ObservesRequest heard before job t r reply later.state after
+      → ObservesValues heard before step t r (record { step = Some later; number = number; reply = reply }) after
+  observed heard before after t r reply job later e h = subst (λ o. ObservesValues heard before o t r (record { step = Some later; number = number; reply = reply }) after) (sym e) (later, refl, h)
 
   pub wrote : (p : PlaceValue) (bytes : List ℕ) (written : Bool) (job later : JobValue) → step ≡ Some job → MayWrite job p bytes written later
       → WritesOf old p bytes written (record { step = Some later; number = number; reply = before })

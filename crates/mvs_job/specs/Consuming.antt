@@ -8,7 +8,7 @@ use Rattle.job_script.specs.Writing.{AppendsFront}
 use Rattle.mvs_job.specs.declared.printing.Stop.{Stop}
 use Rattle.mvs_job.specs.declared.printing.Stop.TheVariants as stop
 use Rattle.mvs_job.specs.declared.walk.LineEvent.{LineEvent}
-use Rattle.mvs_job.specs.declared.walk.LineEvent.TheVariants as told
+use Rattle.mvs_job.specs.declared.walk.LineEvent.TheVariants as line_event
 use Rattle.mvs_job.specs.LineEvents.{WalkValue, closing, ended, events_of_line}
 use Rattle.mvs_job.specs.Observing.{Hearing, ObservesLine}
 use Rattle.mvs_job.specs.declared.consumer.End.{End}
@@ -30,7 +30,7 @@ pub record Known (S : Type 0) : Type 1 where
 
 -- An entry is of a line with this result: it is executed, or has a fault.
 abbrev pub IsOfLine : LineEvent → ℕ → List ℕ → Entry → Type 0
-IsOfLine (told.Faulted fault) number line e = IsFaulty number e.before line e
+IsOfLine (line_event.Faulted fault) number line e = IsFaulty number e.before line e
 IsOfLine t number line e = IsExecuted number e.before line e
 
 -- The entry is of the line with this number and this result, after which the job is in this state.
@@ -138,7 +138,7 @@ Leaves piece knows before after script s result = (text : List ℕ) × Appends b
 abbrev pub keeps_nothing : {S : Type 0} → S → Known S
 keeps_nothing first = record { has = λ s entries. Unit {0}; had = λ s entries. Unit {0} }
 
--- The same, whatever the consumer has.
+-- The text that a run writes, whatever the consumer has.
 abbrev pub WritesText : Piece → List ℕ → List ℕ → Result Outcome Stop → Type 0
 WritesText piece script text result = Writes {S = Unit {0}} piece (keeps_nothing tt) script text tt result
 

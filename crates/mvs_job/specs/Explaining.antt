@@ -22,7 +22,7 @@ use Rattle.mvs_job.specs.declared.explained.Explained.{Explained}
 use Rattle.mvs_job.specs.Granting.{IsGranting, granted_text}
 use Rattle.mvs_job.specs.NamedAddress.{IsNamed, NameOrigins, naming_text}
 use Rattle.mvs_job.specs.declared.walk.LineEvent.{LineEvent}
-use Rattle.mvs_job.specs.declared.walk.LineEvent.TheVariants as told
+use Rattle.mvs_job.specs.declared.walk.LineEvent.TheVariants as line_event
 use Rattle.mvs_job.specs.LineEvents.{WalkValue, events_of_line}
 use Rattle.mvs_job.specs.Why.{OfRead, spoken}
 
@@ -78,5 +78,5 @@ explanation_text x events new =
 
 -- what is printed of a line that had these events and led to this state
 abbrev pub text_of_event : Explained → ℕ → WalkValue → LineEvent → List ℕ
-text_of_event x number w (told.Faulted fault) = printing (events_of_line number w (told.Faulted fault))
+text_of_event x number w (line_event.Faulted fault) = printing (events_of_line number w (line_event.Faulted fault))
 text_of_event x number w t = printing (events_of_line number w t) ++ explanation_text x (events_of_line number w t) w.step

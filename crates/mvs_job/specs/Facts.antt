@@ -8,6 +8,9 @@ use Rattle.mvs_model.specs.Job.{JobValue}
 use Rattle.mvs_model.specs.Owners.{is_among_ended}
 use Rattle.request_forms.specs.Facts.{owned_subpools}
 use Rattle.request_forms.specs.declared.facts.OwnedSubpool.{OwnedSubpool}
+use Rattle.mvs_job.specs.declared.ends.EndedTasks.{EndedTasks}
+use Rattle.mvs_job.specs.declared.ends.Fate.{Fate}
+use Rattle.mvs_job.specs.declared.ends.Fate.TheVariants.{Freed, Remains, Unaffected}
 use Rattle.job_script.specs.FactTexts.{freed_line, stays_line}
 
 -- the task that an answer ends, and those that fall with it
@@ -34,9 +37,22 @@ abbrev pub ended_by : List Event → Option (Name × List Name)
 ended_by (AnswerTo number t a ∷ []) = end_of t a
 ended_by _ = None
 
--- the line for a subpool at an end: it is freed, or it remains and the ending task shared it
+-- tasks that ended, as a pair
+abbrev pub ended_pair : EndedTasks → Name × List Name
+ended_pair e = (e.task.now, e.others.now)
+
+-- what becomes of a subpool at an end: it is freed, or it remains and the ending task shared it
+abbrev pub fate : Name × List Name → OwnedSubpool → Fate
+fate e s = if is_among_ended e.0 e.1 s.owner then Freed else if s.had then Remains else Unaffected
+
+-- the line for it
+abbrev pub fate_line : Name → OwnedSubpool → Fate → List ℕ
+fate_line t s Freed = freed_line s.number s.owner s.bytes s.pages
+fate_line t s Remains = stays_line s.number s.owner t
+fate_line t s Unaffected = []
+
 abbrev pub subpool_line : Name × List Name → OwnedSubpool → List ℕ
-subpool_line e s = if is_among_ended e.0 e.1 s.owner then freed_line s.number s.owner s.bytes s.pages else if s.had then stays_line s.number s.owner e.0 else []
+subpool_line e s = fate_line e.0 s (fate e s)
 
 -- what is printed of the subpools at an end, if there is one
 abbrev pub freed_lines : List OwnedSubpool → Option (Name × List Name) → List ℕ

@@ -33,9 +33,13 @@ use Rattle.mvs_job.specs.declared.granting.Baseline.{Baseline}
 abbrev pub parts_at : State → Name → ℕ
 parts_at st name = unwrap_or (option_map (λ pool. length pool.parts) (get st.pools name)) 0
 
--- what is looked at before a request: how many pages hold nothing, whether the task means a subpool, and the parts of a pool
+-- what is looked at before a request: the free pages, whether the task means a subpool, and the parts of a pool
 abbrev pub looked_at : JobValue → Bool → ℕ → Baseline
-looked_at job had parts = record { below = free_below job.state; above = free_above job.state; had = had; parts = parts }
+looked_at job had parts = record { below = free_below job.state; above = free_above job.state; had = had; parts = parts; numbers = [] }
+
+-- for each number of a task, whether it has a subpool
+abbrev pub numbers_of : JobValue → Name → List Bool
+numbers_of job t = each_below task_numbers (λ n. is_some (entry_owner job.state.owners t n) ∷ [])
 
 -- whether a task means a subpool by a number
 abbrev pub means : JobValue → Name → ℕ → Bool
@@ -52,7 +56,7 @@ before_request job t (ReleaseWhole form number) = Some (looked_at job true 0)
 before_request job t (Build pool number size primary secondary loc) = Some (looked_at job (means job t number) 0)
 before_request job t (Get pool conditional cell) = Some (looked_at job true (parts_at job.state pool))
 before_request job t (Delete pool) = Some (looked_at job true 0)
-before_request job t (Attach name gifts residence) = Some (record { below = 0; above = 0; had = true; parts = 0 })
+before_request job t (Attach name gifts residence) = Some (record { below = 0; above = 0; had = true; parts = 0; numbers = numbers_of job t })
 before_request job t (Free pool location) = None
 before_request job t Return = None
 before_request job t (Abend code) = None
@@ -122,9 +126,17 @@ part_pages b new name = option_map (λ _. taken_fact b new) (part_fact b new nam
 abbrev pub cell_fact : JobValue → Name → Name → Option Fact
 cell_fact new pool cell = option_map (λ p. CellTaken cell pool p) (get new.names cell)
 
+-- a subpool that the attaching task has under a number, and had not
+abbrev pub created_fact : Baseline → JobValue → Name → ℕ → Option Fact
+created_fact b new t n = if unwrap_or (slice_get b.numbers n) false then None else option_map (λ l. NewSubpool l.0 l.1) (entry_owner new.state.owners t n)
+
 -- what a subtask has under a number: it owns what its mother gave, and shares the rest
 abbrev pub subtask_fact : JobValue → Name → Name → ℕ → Option Fact
 subtask_fact new mother name n = option_map (λ l. if same_name l.1 name then Given name l.0 mother else Shared name l.0 l.1) (entry_owner new.state.owners name n)
+
+-- what an ATTACH did under a number
+abbrev pub attach_facts : Baseline → JobValue → Name → Name → ℕ → List Fact
+attach_facts b new t subtask n = listed (created_fact b new t n) ++ listed (subtask_fact new t subtask n)
 
 -- what a task's request did that was granted
 abbrev pub facts_of : Baseline → Name → SourceRequest → JobValue → List Fact
@@ -134,7 +146,7 @@ facts_of b t (ObtainList form number lengths start areas) new = area_facts new t
 facts_of b t (ReleaseWhole form number) new = listed (emptied_fact new t number) ++ listed (freed_fact b new)
 facts_of b t (Build pool number size primary secondary loc) new = listed (part_fact b new pool) ++ listed (subpool_fact b new t number) ++ listed (part_pages b new pool)
 facts_of b t (Get pool conditional cell) new = listed (cell_fact new pool cell) ++ listed (part_fact b new pool) ++ listed (part_pages b new pool)
-facts_of b t (Attach name gifts residence) new = each_below task_numbers (λ n. listed (subtask_fact new t name n))
+facts_of b t (Attach name gifts residence) new = each_below task_numbers (λ n. attach_facts b new t name n)
 facts_of b t (Release form number location n) new = listed (freed_fact b new)
 facts_of b t (ReleaseArea form number area) new = listed (freed_fact b new)
 facts_of b t (ReleaseList form number locations lengths) new = listed (freed_fact b new)
@@ -172,20 +184,24 @@ abbrev pub reports_grant : List Event → Bool
 reports_grant (AnswerTo number t a ∷ []) = is_grant a
 reports_grant _ = false
 
--- the lines for the changes of a line with this meaning, from the step after it
-abbrev pub done_text : Option Baseline → Line → Option JobValue → List ℕ
-done_text None l new = []
-done_text (Some b) l None = []
-done_text (Some b) line.Nothing (Some new) = []
-done_text (Some b) (line.Statement t (says.Request a)) (Some new) = flat_map fact_line (facts_of b t a new)
-done_text (Some b) (line.Statement t (says.Region below above fill residence)) (Some new) = []
-done_text (Some b) (line.Statement t (says.Where name)) (Some new) = []
-done_text (Some b) (line.Statement t says.ReportSubpools) (Some new) = []
-done_text (Some b) (line.Statement t says.ReportMap) (Some new) = []
+-- the changes of a line with this meaning, from the step after it
+abbrev pub facts_after : Option Baseline → Line → Option JobValue → List Fact
+facts_after None l new = []
+facts_after (Some b) l None = []
+facts_after (Some b) line.Nothing (Some new) = []
+facts_after (Some b) (line.Statement t (says.Request a)) (Some new) = facts_of b t a new
+facts_after (Some b) (line.Statement t (says.Region below above fill residence)) (Some new) = []
+facts_after (Some b) (line.Statement t (says.Where name)) (Some new) = []
+facts_after (Some b) (line.Statement t says.ReportSubpools) (Some new) = []
+facts_after (Some b) (line.Statement t says.ReportMap) (Some new) = []
 
--- the same where the events say that a request was granted
+-- the changes of a line whose events say that a request was granted
+abbrev pub granted_facts : Option Baseline → Line → List Event → Option JobValue → List Fact
+granted_facts b l events new = if reports_grant events then facts_after b l new else []
+
+-- the lines for them
 abbrev pub granted_text : Option Baseline → Line → List Event → Option JobValue → List ℕ
-granted_text b l events new = if reports_grant events then done_text b l new else []
+granted_text b l events new = flat_map fact_line (granted_facts b l events new)
 
 -- The text is the changes of the next line, if it has these events: from the steps before and after it.
 abbrev pub IsGranting : Option JobValue → List ℕ → List Event → Option JobValue → List ℕ → Type 0

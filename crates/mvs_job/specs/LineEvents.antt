@@ -30,7 +30,7 @@ use Rattle.mvs_model.specs.State.{State, state_code}
 use Rattle.mvs_model.specs.Walk.{ServesLine, is_first}
 use Rattle.mvs_job.specs.declared.walk.OutOfMemoryAt.{OutOfMemoryAt}
 use Rattle.mvs_job.specs.declared.walk.LineEvent.{LineEvent}
-use Rattle.mvs_job.specs.declared.walk.LineEvent.TheVariants as told
+use Rattle.mvs_job.specs.declared.walk.LineEvent.TheVariants as line_event
 
 -- A job between two lines: its step, none before the first; the number of the next line; and the reply to the last request that
 -- was made.
@@ -80,16 +80,16 @@ full_answer_in (Some job) fallen t a = full_answer job.state fallen t a
 
 -- the events of the line with this number, after which the job is in this state
 abbrev pub events_of_line : ℕ → WalkValue → LineEvent → List Event
-events_of_line number w told.Nothing = []
-events_of_line number w (told.StepBegan end card) = ended end ++ AnswerTo number card.name (Region card) ∷ []
-events_of_line number w (told.Answered t a) = AnswerTo number t (full_answer_in w.step (ended_with_in w.reply) t a) ∷ []
-events_of_line number w (told.Faulted fault) = Faulted number fault ∷ []
+events_of_line number w line_event.Nothing = []
+events_of_line number w (line_event.StepBegan end card) = ended end ++ AnswerTo number card.name (Region card) ∷ []
+events_of_line number w (line_event.Answered t a) = AnswerTo number t (full_answer_in w.step (ended_with_in w.reply) t a) ∷ []
+events_of_line number w (line_event.Faulted fault) = Faulted number fault ∷ []
 
 -- The line has this result: it has a fault, and the step is as before; or it is executed, by a step that meets the condition if it
 -- makes a request.
 abbrev pub ServesAsUnder : Condition → WalkValue → List ℕ → LineEvent → WalkValue → Type 0
-ServesAsUnder P old bytes (told.Faulted fault) new = FaultOf (is_first old.step) bytes fault × (new.step ≡ old.step)
-ServesAsUnder P old bytes told new = ServesLine (job_machine P) old.number old.step bytes (events_of_line old.number new told) new.step
+ServesAsUnder P old bytes (line_event.Faulted fault) new = FaultOf (is_first old.step) bytes fault × (new.step ≡ old.step)
+ServesAsUnder P old bytes line_event new = ServesLine (job_machine P) old.number old.step bytes (events_of_line old.number new line_event) new.step
 
 -- the same with no condition
 abbrev pub ServesAs : WalkValue → List ℕ → LineEvent → WalkValue → Type 0
@@ -111,10 +111,10 @@ KeepsReply old t says.ReportMap before answer reply new = reply ≡ before
 
 -- The reply that is kept after a line: one that is not a statement of a step makes no request.
 abbrev pub KeepsReplyOf : WalkValue → List ℕ → LineEvent → WalkValue → Type 0
-KeepsReplyOf old bytes (told.Answered t a) new =
+KeepsReplyOf old bytes (line_event.Answered t a) new =
     (s : Statement) × (job : JobValue) × (later : JobValue) × LineOf (is_first old.step) bytes (line.Statement t s) × (old.step ≡ Some job) × (new.step ≡ Some later)
     × KeepsReply job t s old.reply (full_answer later.state (ended_with_in new.reply) t a) new.reply later
-KeepsReplyOf old bytes told new = new.reply ≡ old.reply
+KeepsReplyOf old bytes line_event new = new.reply ≡ old.reply
 
 -- The bytes of an answer can be read, and are few.
 abbrev pub IsAvailableIn : State → Short → Type 0
@@ -136,11 +136,11 @@ IsAvailableIn st short.Map = Unit {0}
 
 -- A step has the long data of an answer.
 abbrev pub IsAvailable : WalkValue → LineEvent → Type 0
-IsAvailable w (told.Answered t a) = (job : JobValue) × (w.step ≡ Some job) × IsAvailableIn job.state a
+IsAvailable w (line_event.Answered t a) = (job : JobValue) × (w.step ≡ Some job) × IsAvailableIn job.state a
 IsAvailable w _ = Unit {0}
 
 -- whether a job continues after a line
 abbrev pub continues : Result LineEvent OutOfMemoryAt → Bool
-continues (Ok (told.Faulted fault)) = false
-continues (Ok told) = true
+continues (Ok (line_event.Faulted fault)) = false
+continues (Ok line_event) = true
 continues (Err stopped) = false

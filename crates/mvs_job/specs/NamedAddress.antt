@@ -25,7 +25,7 @@ use Rattle.job_script.specs.NamingTexts.{naming_line}
 use Rattle.job_script.specs.ReasonTexts.{cell_of}
 use Rattle.mvs_job.specs.declared.name_origins.NamedAddress.{NamedAddress}
 use Rattle.mvs_job.specs.declared.walk.LineEvent.{LineEvent}
-use Rattle.mvs_job.specs.declared.walk.LineEvent.TheVariants as told
+use Rattle.mvs_job.specs.declared.walk.LineEvent.TheVariants as line_event
 use Rattle.mvs_job.specs.Granting.{reports_grant}
 use Rattle.mvs_job.specs.LineEvents.{WalkValue, events_of_line}
 use Rattle.mvs_job.specs.Why.{OfRead, spoken}
@@ -61,7 +61,7 @@ AreNamesAfter number (Some job) set bytes events new = (l : Line) × LineOf fals
 -- the address in the reason of a request, if there is one
 abbrev pub reason_address : Request → Reason → Option ℕ
 reason_address request (OffDoubleword a) = Some a
-reason_address request (NotHeld a holder) = Some a
+reason_address request (NotHeld a holder owner) = Some a
 reason_address request (Overlap one other a) = Some a
 reason_address request (NoTakenCell spot) = Some (cell_of request)
 reason_address request (NoAccess a holder) = Some a
@@ -81,6 +81,11 @@ reason_address request TooManyTasks = None
 reason_address request (NotOwned number owner) = None
 reason_address request (ActiveSubtask subtask) = None
 reason_address request Asked = None
+
+-- the address in the reason for which a request, or a line, was not executed
+abbrev pub line_address : Request → LineReason → Option ℕ
+line_address request (Refused reason) = reason_address request reason
+line_address request (NotSet name) = None
 
 -- the address in the reason of a line
 abbrev pub address_in : JobValue → Line → Option LineReason → Option ℕ
@@ -136,7 +141,7 @@ lines_before (Some job) set = set
 
 -- the lines that set names are recorded after a line that has no fault
 abbrev pub RecordsOrigins : WalkValue → NameOrigins → List ℕ → WalkValue → LineEvent → NameOrigins → Type 0
-RecordsOrigins w set bytes new (told.Faulted fault) later = Unit {0}
+RecordsOrigins w set bytes new (line_event.Faulted fault) later = Unit {0}
 RecordsOrigins w set bytes new t later = AreNamesAfter w.number w.step set bytes (events_of_line w.number new t) later
 
 -- A list has a length.

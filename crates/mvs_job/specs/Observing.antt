@@ -28,7 +28,7 @@ use Rattle.mvs_model.specs.State.{State}
 use Rattle.mvs_model.specs.Steps.{Does}
 use Rattle.mvs_model.specs.Walk.{is_first}
 use Rattle.mvs_job.specs.declared.walk.LineEvent.{LineEvent}
-use Rattle.mvs_job.specs.declared.walk.LineEvent.TheVariants as told
+use Rattle.mvs_job.specs.declared.walk.LineEvent.TheVariants as line_event
 use Rattle.mvs_job.specs.LineEvents.{WalkValue, region_card}
 
 -- What an observer is after it has seen a refusal: of a task's request in a job, for something, and of what a member of a list
@@ -130,11 +130,11 @@ Observes heard before job t (says.Where name) answer after = after ≡ before
 Observes heard before job t says.ReportSubpools answer after = after ≡ before
 Observes heard before job t says.ReportMap answer after = after ≡ before
 
--- The same of a line in a step, with what it says: one that is not a statement of a step makes no request.
+-- The observer hears of the request of a line of a step; a line that is not a statement makes none.
 abbrev pub ObservesLine : {O : Type 0} → Hearing O → O → Option JobValue → List ℕ → LineEvent → WalkValue → O → Type 0
-ObservesLine heard before step bytes told.Nothing new after = LineOf (is_first step) bytes line.Nothing × (after ≡ before)
-ObservesLine heard before step bytes (told.StepBegan end card) new after = (t : Name) × (s : Statement) × LineOf (is_first step) bytes (line.Statement t s) × (region_card t s ≡ Some card) × (after ≡ before)
-ObservesLine heard before step bytes (told.Answered t a) new after =
+ObservesLine heard before step bytes line_event.Nothing new after = LineOf (is_first step) bytes line.Nothing × (after ≡ before)
+ObservesLine heard before step bytes (line_event.StepBegan end card) new after = (t : Name) × (s : Statement) × LineOf (is_first step) bytes (line.Statement t s) × (region_card t s ≡ Some card) × (after ≡ before)
+ObservesLine heard before step bytes (line_event.Answered t a) new after =
     (s : Statement) × (job : JobValue) × (later : JobValue) × LineOf (is_first step) bytes (line.Statement t s) × (step ≡ Some job) × (new.step ≡ Some later)
     × Observes heard before job t s (full_answer later.state (ended_with_in new.reply) t a) after
-ObservesLine heard before step bytes (told.Faulted fault) new after = after ≡ before
+ObservesLine heard before step bytes (line_event.Faulted fault) new after = after ≡ before

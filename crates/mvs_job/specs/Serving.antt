@@ -28,5 +28,5 @@ RunsLine before after w line new (Err stop.Memory) = (events : List Event) × Ap
 
 -- The effect of the call that returns the events of the line.
 abbrev pub ReturnsEvent : Option (List ℕ) → Option (List ℕ) → WalkValue → List ℕ → WalkValue → Result LineEvent Stop → Type 0
-ReturnsEvent before after w line new (Ok told) = ServesAs w line told new × Appends before after (printing (events_of_line w.number new told))
+ReturnsEvent before after w line new (Ok line_event) = ServesAs w line line_event new × Appends before after (printing (events_of_line w.number new line_event))
 ReturnsEvent before after w line new (Err stop) = RunsLine before after w line new (Err stop)

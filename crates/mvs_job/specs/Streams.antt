@@ -37,47 +37,47 @@ PrintedUpTo stop.Write start now script = PrintedFront start now script
 PrintedUpTo stop.Memory start now script = PrintedBefore start now script
 
 -- After the consumed bytes the job is in this state: the complete lines in them have run, the text between the two moments of the
--- writer is what the consumer writes for them, and these bytes are kept of an incomplete line.
-pub record HasConsumed (piece : Piece) {S : Type 0} (knows : Known S) (start now : Option (List ℕ)) (consumed : List ℕ) (w : WalkValue) (kept : List ℕ) (s : S) : Type 0 where
+-- writer is what the consumer writes for them, and these bytes of an incomplete line are pending.
+pub record HasConsumed (piece : Piece) {S : Type 0} (knows : Known S) (start now : Option (List ℕ)) (consumed : List ℕ) (w : WalkValue) (pending : List ℕ) (s : S) : Type 0 where
   pub lines : List (List ℕ)
-  pub cut : consumed ≡ ended_text lines ++ kept
+  pub cut : consumed ≡ ended_text lines ++ pending
   pub each : AllByRecursion IsUnended lines
-  pub unended : IsUnended kept
+  pub unended : IsUnended pending
   pub run : HasRun piece knows start now lines w s
 
 -- The effect of the next bytes on a job, which is in the second state then: it continues after them, or a line had a fault, or it
 -- stops. The script may go on with any bytes.
 abbrev pub Feeds : {S : Type 0} → Piece → Known S → Option (List ℕ) → Option (List ℕ) → List ℕ → WalkValue → List ℕ → S → WalkValue → List ℕ → S → Result Bool Stop → Type 0
-Feeds piece knows before after bytes w kept s w' kept' s' result =
-    (start : Option (List ℕ)) (consumed : List ℕ) → HasConsumed piece knows start before consumed w kept s → MatchResult result
-    (λ continues. MatchBool continues (HasConsumed piece knows start after (consumed ++ bytes) w' kept' s') ((more : List ℕ) → Leaves piece knows start after (consumed ++ (bytes ++ more)) s' (Ok ScriptFault)))
+Feeds piece knows before after bytes w pending s w' pending' s' result =
+    (start : Option (List ℕ)) (consumed : List ℕ) → HasConsumed piece knows start before consumed w pending s → MatchResult result
+    (λ continues. MatchBool continues (HasConsumed piece knows start after (consumed ++ bytes) w' pending' s') ((more : List ℕ) → Leaves piece knows start after (consumed ++ (bytes ++ more)) s' (Ok ScriptFault)))
     (λ stop. (more : List ℕ) → Leaves piece knows start after (consumed ++ (bytes ++ more)) s' (Err stop))
 
 -- The effect of the first of some bytes, as many as the result says.
 abbrev pub FeedsSome : {S : Type 0} → Piece → Known S → Option (List ℕ) → Option (List ℕ) → List ℕ → WalkValue → List ℕ → S → WalkValue → List ℕ → S → Result (Option ℕ) Stop → Type 0
-FeedsSome piece knows before after bytes w kept s w' kept' s' result =
-    (start : Option (List ℕ)) (consumed : List ℕ) → HasConsumed piece knows start before consumed w kept s → MatchResult result
-    (λ taken. MatchOption taken ((more : List ℕ) → Leaves piece knows start after (consumed ++ (bytes ++ more)) s' (Ok ScriptFault)) (λ n. HasConsumed piece knows start after (consumed ++ take n bytes) w' kept' s'))
+FeedsSome piece knows before after bytes w pending s w' pending' s' result =
+    (start : Option (List ℕ)) (consumed : List ℕ) → HasConsumed piece knows start before consumed w pending s → MatchResult result
+    (λ used. MatchOption used ((more : List ℕ) → Leaves piece knows start after (consumed ++ (bytes ++ more)) s' (Ok ScriptFault)) (λ n. HasConsumed piece knows start after (consumed ++ take n bytes) w' pending' s'))
     (λ stop. (more : List ℕ) → Leaves piece knows start after (consumed ++ (bytes ++ more)) s' (Err stop))
 
 -- The effect of the end of the script.
 abbrev pub Finishes : {S : Type 0} → Piece → Known S → Option (List ℕ) → Option (List ℕ) → WalkValue → List ℕ → S → S → Result Outcome Stop → Type 0
-Finishes piece knows before after w kept s s' result = (start : Option (List ℕ)) (consumed : List ℕ) → HasConsumed piece knows start before consumed w kept s → Leaves piece knows start after consumed s' result
+Finishes piece knows before after w pending s s' result = (start : Option (List ℕ)) (consumed : List ℕ) → HasConsumed piece knows start before consumed w pending s → Leaves piece knows start after consumed s' result
 
 -- Of the unread bytes, count were consumed, and the job is after them. An incomplete line is not too long yet.
 abbrev pub IsUnderWay : {S : Type 0} → Piece → Known S → Option (List ℕ) → Option (List ℕ) → Option (List ℕ) → Option (List ℕ) → ℕ → WalkValue → List ℕ → S → Type 0
-IsUnderWay piece knows unread left start now count w kept s =
-    (consumed : List ℕ) × Consumes unread left consumed × (length consumed ≡ count) × HasConsumed piece knows start now consumed w kept s × (length kept < 256)
+IsUnderWay piece knows unread left start now count w pending s =
+    (consumed : List ℕ) × Consumes unread left consumed × (length consumed ≡ count) × HasConsumed piece knows start now consumed w pending s × (length pending < 256)
 
 -- All lines that have ended in some bytes of a script have run, and the text is what the consumer writes for them. The rest may still
 -- become a line.
 pub record HasAnswered (piece : Piece) {S : Type 0} (knows : Known S) (consumed text : List ℕ) (s : S) : Type 0 where
   pub lines : List (List ℕ)
-  pub kept : List ℕ
-  pub cut : consumed ≡ ended_text lines ++ kept
+  pub pending : List ℕ
+  pub cut : consumed ≡ ended_text lines ++ pending
   pub each : AllByRecursion IsUnended lines
-  pub unended : IsUnended kept
-  pub short : length kept < 256
+  pub unended : IsUnended pending
+  pub short : length pending < 256
   pub entries : List Entry
   pub step : Option JobValue
   pub trace : Traces (Arrives step) 1 None lines entries
@@ -106,8 +106,8 @@ HasGivenUp piece knows unread left start now most s fault = Exchanges unread lef
 
 -- The effect of one read of at most a number of bytes on a job that had consumed count bytes.
 abbrev pub Takes : {S : Type 0} → Piece → Known S → Option (List ℕ) → Option (List ℕ) → Option (List ℕ) → Option (List ℕ) → ℕ → ℕ → WalkValue → List ℕ → S → Progress → Type 0
-Takes piece knows unread left start now count room w kept s (On n) = IsUnderWay piece knows unread left start now (count + n) w kept s
-Takes piece knows unread left start now count room w kept s (Ended outcome) = HasEnded piece knows unread left start now (count + room) s outcome
+Takes piece knows unread left start now count room w pending s (On n) = IsUnderWay piece knows unread left start now (count + n) w pending s
+Takes piece knows unread left start now count room w pending s (Ended outcome) = HasEnded piece knows unread left start now (count + room) s outcome
 
 -- the error of a job that stops
 abbrev pub fault_of : Stop → RunFault

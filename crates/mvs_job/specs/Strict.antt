@@ -102,7 +102,8 @@ abbrev pub PrintsStrictly : Option (List ℕ) → Option (List ℕ) → Option (
 PrintsStrictly before after heard heard' script outcome all =
     (events : List Event) × Appends before after (printing events) × IsRun script events outcome × (all ≡ list_all is_of_served events) × Grows heard heard' (all_skipped (line_at script) events)
 
--- The same of what a consumer writes for a trace of the script.
+-- The text between two moments of a writer is what a consumer writes for a trace of the script, which ends so; each line was executed,
+-- or not; and the observer was called for exactly the lines that were not, in order.
 abbrev pub RunsObserved : Piece → Option (List ℕ) → Option (List ℕ) → Option (List Skipped) → Option (List Skipped) → List ℕ → Outcome → Bool → Type 0
 RunsObserved piece before after heard heard' script outcome all =
     (entries : List Entry) × (text : List ℕ) × IsTrace script entries (Ends outcome) × WritesPieces piece entries text × Appends before after text

@@ -1,6 +1,6 @@
 -- What becomes of a job by a request that is given by values, and by bytes that are written: no name is set, and the number of the
 -- next line stays.
-use Rattle.std.specs.Prelude.{◌≡◌, ◌≤◌, ◌||◌, ℕ, List, Bool, true, false, Some, MatchBool, MatchOption}
+use Rattle.std.specs.Prelude.{◌≡◌, ◌≤◌, ◌||◌, ℕ, List, Bool, true, false, Option, Some, MatchBool, MatchOption}
 use Rattle.mvs_model.specs.declared.name.Name.{Name}
 use Rattle.mvs_model.specs.declared.request.Request.{Request}
 use Rattle.mvs_model.specs.declared.request.Request.TheVariants.{Build}
@@ -12,6 +12,7 @@ use Rattle.mvs_model.specs.Replies.{is_abend}
 use Rattle.mvs_model.specs.Steps.{Step}
 use Rattle.mvs_model.specs.Requests.{bytes_from}
 use Rattle.mvs_job.specs.LineEvents.{WalkValue}
+use Rattle.mvs_job.specs.Observing.{Hearing, ObservesRequest}
 
 -- The numbers of a pool that is built are in their ranges.
 abbrev pub BuildsInRange : Request → Type 0
@@ -41,7 +42,12 @@ RequestsOf old t r served new = MatchOption old.step
     ((served ≡ false) × (new ≡ old))
     (λ job. (served ≡ true) × (new.number ≡ old.number) × ((later : JobValue) × (new.step ≡ Some later) × Requests job t r new.reply later))
 
--- The same for bytes that are written.
+-- An observer sees the request of a task if the step that runs refuses it; where no step runs, it sees nothing.
+abbrev pub ObservesValues : {O : Type 0} → Hearing O → O → Option JobValue → Name → Request → WalkValue → O → Type 0
+ObservesValues heard before step t r new after = MatchOption step (after ≡ before)
+    (λ job. (later : JobValue) × (new.step ≡ Some later) × ObservesRequest heard before job t r new.reply later.state after)
+
+-- The step that runs writes the bytes at the place if all of it is granted; where no step runs, nothing changes.
 abbrev pub WritesOf : WalkValue → PlaceValue → List ℕ → Bool → WalkValue → Type 0
 WritesOf old p bytes written new = MatchOption old.step
     ((written ≡ false) × (new ≡ old))

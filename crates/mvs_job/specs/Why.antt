@@ -32,7 +32,7 @@ use Rattle.mvs_model.specs.Resolving.{first_unset, looked_up, resolved}
 use Rattle.request_forms.specs.Facts.{owned_subpools}
 use Rattle.request_forms.specs.declared.facts.OwnedSubpool.{OwnedSubpool}
 use Rattle.mvs_job.specs.declared.walk.LineEvent.{LineEvent}
-use Rattle.mvs_job.specs.declared.walk.LineEvent.TheVariants as told
+use Rattle.mvs_job.specs.declared.walk.LineEvent.TheVariants as line_event
 use Rattle.mvs_job.specs.declared.why.Why.{Why}
 use Rattle.mvs_job.specs.Observing.{is_refusal}
 
@@ -80,7 +80,7 @@ reports_refusal _ = false
 abbrev pub OfRead : JobValue → Line → List Event → Option LineReason → Type 0
 OfRead job l events r = OfLine job l r × (is_some r ≡ reports_refusal events)
 
--- The same by the text of a line; one with a fault is not executed.
+-- Why the line of this text is refused, which has these events; a line with a fault is not executed, so it has no reason.
 abbrev pub OfBytes : JobValue → List ℕ → List Event → Option LineReason → Type 0
 OfBytes job bytes events r = ((l : Line) × LineOf false bytes l × OfRead job l events r) ⊎ ((fault : Fault) × FaultOf false bytes fault × (r ≡ None))
 
@@ -105,7 +105,7 @@ pub record KeepsWhy (old : Why) (job : JobValue) (t : Name) (request : Request) 
   pub read : new.read ≡ old.read
   pub before : new.before ≡ old.before
   pub reason : Reason
-  pub told : new.reason ≡ Some reason
+  pub found : new.reason ≡ Some reason
   pub explains : Explains job.state t request refusal reason
   pub asks : IsRequestOf job old.read new.request
   pub subpools : (code : Code) → reply_to request refusal ≡ Abend code → new.subpools ≡ owned_subpools job.state t
@@ -148,5 +148,5 @@ answer_reason step l reason short.Map = refused reason
 
 -- the same by what the line led to
 abbrev pub line_reason : Option JobValue → Line → Option Reason → LineEvent → Option LineReason
-line_reason step l reason (told.Answered t answer) = answer_reason step l reason answer
-line_reason step l reason told = None
+line_reason step l reason (line_event.Answered t answer) = answer_reason step l reason answer
+line_reason step l reason line_event = None

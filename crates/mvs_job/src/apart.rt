@@ -57,7 +57,7 @@ impl Explainer {
         line: &[u8],
     ) -> Result<(LineEvent, Option<LineReason>), OutOfMemoryAt>
         requires { walk.old.number + 1 < 2 ^ 32 }
-        ensures told { MatchResult result (λ r. ServesAs walk.old line.now r.0 walk.new)
+        ensures executed { MatchResult result (λ r. ServesAs walk.old line.now r.0 walk.new)
             (λ stopped. StopsForMemory walk.old.number walk.old.step (line.now ∷ [])
             (ended stopped.ended)) }
         ensures reason { IfOk result
@@ -67,10 +67,8 @@ impl Explainer {
         ensures full_answer { IfOk result (λ r. IsAvailable walk.new r.0) }
         ensures number { walk.new.number ≡ walk.old.number + 1 }
     {
-        match self.explained.serve(walk, line) {
-            Ok(told) => Ok((told, self.explained.reason)),
-            Err(stopped) => Err(stopped),
-        }
+        let line_event = self.explained.serve(walk, line)?;
+        Ok((line_event, self.explained.reason))
     }
 
     /// Executes one line, and returns its events. They are printed by one writer, and the explanations by another: none, if the
@@ -80,18 +78,18 @@ impl Explainer {
         walk: &mut Walk,
         line: &[u8],
         writer: &mut Watched<W>,
-        behind: &mut Watched<V>,
+        explanations: &mut Watched<V>,
     ) -> Result<LineEvent, Stop>
         requires { walk.old.number + 1 < 2 ^ 32 }
-        ensures told { IfOk result (λ told. ServesAs walk.old line.now told walk.new) }
+        ensures executed { IfOk result (λ line_event. ServesAs walk.old line.now line_event walk.new) }
         ensures printed { IfOk result
-            (λ told. Appends (W.contents writer.old.inner) (W.contents writer.new.inner)
-            (printing (events_of_line walk.old.number walk.new told))) }
-        ensures behind { IfOk result
-            (AppendsExplanation (V.contents behind.old.inner) (V.contents behind.new.inner) walk.old
+            (λ line_event. Appends (W.contents writer.old.inner) (W.contents writer.new.inner)
+            (printing (events_of_line walk.old.number walk.new line_event))) }
+        ensures explained { IfOk result
+            (AppendsExplanation (V.contents explanations.old.inner) (V.contents explanations.new.inner) walk.old
             self.old line.now walk.new) }
         ensures lines { IfOk result
-            (λ told. RecordsOrigins walk.old self.old line.now walk.new told self.new) }
+            (λ line_event. RecordsOrigins walk.old self.old line.now walk.new line_event self.new) }
         ensures full_answer { IfOk result (IsAvailable walk.new) }
         ensures number { walk.new.number ≡ walk.old.number + 1 }
         // Memory is exhausted only at a REGION statement, and at a granted request that sets a name; then one writer has what is printed
@@ -100,17 +98,20 @@ impl Explainer {
             → RunsLine (W.contents writer.old.inner) (W.contents writer.new.inner) walk.old line.now
             walk.new (Err Stop.Memory) }
         ensures write { IsErrOf result Stop.Write
-            → (writer.new.failed ≡ true) ⊎ (behind.new.failed ≡ true) }
+            → (writer.new.failed ≡ true) ⊎ (explanations.new.failed ≡ true) }
     {
-        let told = match self.explained.run_line(walk, line, writer) {
-            Ok(told) => told,
+        let line_event = match self.explained.run_line(walk, line, writer) {
+            Ok(line_event) => line_event,
             Err(stop) => return Err(stop),
         };
-        if let LineEvent::Faulted(_) = told {
-            return Ok(told);
+        if let LineEvent::Faulted(_) = line_event {
+            return Ok(line_event);
         }
-        match self.explained.print_explanation(walk, &told, behind) {
-            Ok(()) => Ok(told),
+        match self
+            .explained
+            .print_explanation(walk, &line_event, explanations)
+        {
+            Ok(()) => Ok(line_event),
             Err(_) => Err(Stop::Write),
         }
     }

@@ -46,12 +46,12 @@ pub trait Consumer: Observer {
         line_number: u32,
         line: &[u8],
         walk: &Walk,
-        told: &LineEvent,
+        line_event: &LineEvent,
     ) -> Result<(), Stop>
-        requires { IsAvailable walk.now told.now }
+        requires { IsAvailable walk.now line_event.now }
         ensures accepted { (first : Self) → AcceptsLine piece Self.heard sees (knows first)
             (W.contents writer.old.inner) (W.contents writer.new.inner) self.old self.new line_number
-            line.now walk.now told.now result }
+            line.now walk.now line_event.now result }
         ensures ok { OnOk result (writer.new.failed ≡ writer.old.failed) }
         ensures write { IsErrOf result Stop.Write → writer.new.failed ≡ true };
 

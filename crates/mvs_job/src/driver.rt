@@ -35,8 +35,8 @@ pub fn run_entry<W: Write, C: Consumer>(
     let line_number = walk.number();
     consumer.look(walk, line);
     match walk.observed_line(line, hints, consumer) {
-        Ok(told) => match consumer.entry(writer, line_number, line, walk, &told) {
-            Ok(()) => Ok(!matches!(told, LineEvent::Faulted(_))),
+        Ok(line_event) => match consumer.entry(writer, line_number, line, walk, &line_event) {
+            Ok(()) => Ok(!matches!(line_event, LineEvent::Faulted(_))),
             Err(stop) => Err(stop),
         },
         Err(stopped) => match consumer.end(

@@ -1,18 +1,17 @@
 //! What is freed with a task that ends: the subpools that tasks own before it ends, and those of them that are freed.
 
-ghost use Rattle.std.specs.Prelude.{◌≡◌, [], false, None, Some, ℕ};
+ghost use Rattle.std.specs.Prelude.{◌≡◌, [], false, None, Some, option_map, ℕ};
 ghost use Rattle.mvs_model.specs.FullAnswers.{full_answer};
-ghost use Rattle.mvs_model.specs.Name.{same_name};
 ghost use Rattle.mvs_model.specs.Owners.{is_among_ended};
 ghost use Rattle.mvs_model.specs.State.{State};
 ghost use Rattle.request_forms.specs.Facts.{owned_subpools};
 ghost use Rattle.job_script.specs.Writing.{Prints};
 ghost use Rattle.mvs_job.specs.LineEvents.{IsAvailable, events_of_line};
-ghost use Rattle.mvs_job.specs.Facts.{end_of, ended_by, freed_lines, subpool_line};
+ghost use Rattle.mvs_job.specs.Facts.{end_of, ended_by, ended_pair, fate, freed_lines, subpool_line};
 
 use crate::job::Job;
 use crate::walk::{LineEvent, Walk};
-use job_script::{print_freed, print_stays};
+use job_script::{is_same_name, print_freed, print_stays};
 use mvs_model::answer::Answer;
 use mvs_model::name::Name;
 use mvs_model::numbers::MOST_SUBPOOLS;
@@ -25,7 +24,7 @@ use std::io::Write;
 /// Subpools that tasks own.
 pub(crate) type OwnedSubpools = ShortList<OwnedSubpool, 0, MOST_SUBPOOLS>;
 
-/// No subpool.
+/// Makes an empty list of subpools.
 pub(crate) fn no_subpools() -> OwnedSubpools
     ensures { result ≡ [] }
 {
@@ -53,80 +52,59 @@ pub(crate) fn collect_owned_subpools(job: &Job, task: &Name, subpools: &mut Owne
     }
 }
 
-/// Whether two names are the same.
-pub(crate) fn is_same(one: &Name, other: &Name) -> bool
-    ensures { result ≡ same_name one.now other.now }
-{
-    *one == *other
+/// What becomes of a subpool at the end of tasks.
+#[derive(Clone, Copy, Debug, PartialEq, Eq)]
+pub enum Fate {
+    /// Its owner ended, and it is freed.
+    Freed,
+    /// The ending task shared it, and it remains.
+    Remains,
+    /// The ending task did not have it.
+    Unaffected,
 }
 
-// Whether a task ends, with one that does and those that fall with it.
+/// A task that ended, and the tasks that ended with it.
+#[derive(Clone, Copy)]
+pub struct EndedTasks<'a> {
+    pub task: &'a Name,
+    pub others: &'a [Name],
+}
+
+// Returns whether a task ended, with one that did and those that ended with it.
 fn is_among_ended(task: &Name, fallen: &[Name], other: &Name) -> bool
     ensures { result ≡ is_among_ended task.now fallen.now other.now }
 {
-    let mut any = is_same(other, task);
+    let mut any = is_same_name(other, task);
     for name in fallen {
-        any |= is_same(other, name);
+        any |= is_same_name(other, name);
     }
     any
 }
 
-// Prints what becomes of a subpool at the end of a task and of those that fall with it.
-fn print_subpool<W: Write>(
-    writer: &mut Watched<W>,
-    task: &Name,
-    fallen: &[Name],
-    subpool: &OwnedSubpool,
-) -> Result<(), Failed>
-    ensures { Prints W.contents writer.old writer.new result
-        (subpool_line (task.now, fallen.now) subpool.now) }
-{
-    if is_among_ended(task, fallen, &subpool.owner) {
-        return print_freed(
-            writer,
-            subpool.number,
-            &subpool.owner,
-            subpool.bytes,
-            subpool.pages,
-        );
+impl EndedTasks<'_> {
+    /// Returns what becomes of a subpool.
+    pub fn fate(&self, subpool: &OwnedSubpool) -> Fate
+        ensures { result ≡ fate (ended_pair self.now) subpool.now }
+    {
+        if is_among_ended(self.task, self.others, &subpool.owner) {
+            return Fate::Freed;
+        }
+        if subpool.had {
+            return Fate::Remains;
+        }
+        Fate::Unaffected
     }
-    if subpool.had {
-        return print_stays(writer, subpool.number, &subpool.owner, task);
-    }
-    Ok(())
 }
 
-// Prints which subpools go with a task and those that fall with it.
-fn print_subpools<W: Write>(
-    writer: &mut Watched<W>,
-    task: &Name,
-    fallen: &[Name],
-    subpools: &[OwnedSubpool],
-) -> Result<(), Failed>
-    ensures { Prints W.contents writer.old writer.new result
-        (freed_lines subpools.now (Some (task.now, fallen.now))) }
-{
-    for subpool in subpools {
-        print_subpool(writer, task, fallen, subpool)?;
-    }
-    Ok(())
-}
-
-// Prints which subpools go where an answer ends its task.
-fn print_end<W: Write>(
-    writer: &mut Watched<W>,
-    task: &Name,
-    fallen: &[Name],
-    answer: &Answer,
-    subpools: &[OwnedSubpool],
-) -> Result<(), Failed>
+// Returns the task that an answer ends, and those that end with it.
+fn ended_with<'a>(task: &'a Name, others: &'a [Name], answer: &Answer) -> Option<EndedTasks<'a>>
     ensures { (st : State)
-        → Prints W.contents writer.old writer.new result
-        (freed_lines subpools.now (end_of task.now (full_answer st fallen.now task.now answer.now))) }
+        → option_map ended_pair result
+        ≡ end_of task.now (full_answer st others.now task.now answer.now) }
 {
     match answer {
-        Answer::Abended(_) => print_subpools(writer, task, fallen, subpools),
-        Answer::Ended => print_subpools(writer, task, &[], subpools),
+        Answer::Abended(_) => Some(EndedTasks { task, others }),
+        Answer::Ended => Some(EndedTasks { task, others: &[] }),
         Answer::NotRun
         | Answer::NoName
         | Answer::At(_)
@@ -139,26 +117,73 @@ fn print_end<W: Write>(
         | Answer::Done
         | Answer::Data(_)
         | Answer::Subpools
-        | Answer::Map => Ok(()),
+        | Answer::Map => None,
     }
 }
 
-/// Prints which subpools go where a line ends a task.
+/// Returns the task that a line ended, and those that ended with it.
+pub fn ended_tasks<'a>(walk: &'a Walk, line_event: &'a LineEvent) -> Option<EndedTasks<'a>>
+    ensures { (number : ℕ) → IsAvailable walk.now line_event.now
+        → option_map ended_pair result
+        ≡ ended_by (events_of_line number walk.now line_event.now) }
+{
+    match line_event {
+        LineEvent::Answered { task, answer } => ended_with(task, walk.fallen(), answer),
+        LineEvent::Nothing | LineEvent::StepBegan { .. } | LineEvent::Faulted(_) => None,
+    }
+}
+
+// Prints what becomes of a subpool.
+fn print_fate<W: Write>(
+    writer: &mut Watched<W>,
+    ended: &EndedTasks<'_>,
+    subpool: &OwnedSubpool,
+) -> Result<(), Failed>
+    ensures { Prints W.contents writer.old writer.new result
+        (subpool_line (ended_pair ended.now) subpool.now) }
+{
+    match ended.fate(subpool) {
+        Fate::Freed => print_freed(
+            writer,
+            subpool.number,
+            &subpool.owner,
+            subpool.bytes,
+            subpool.pages,
+        ),
+        Fate::Remains => print_stays(writer, subpool.number, &subpool.owner, ended.task),
+        Fate::Unaffected => Ok(()),
+    }
+}
+
+// Prints what becomes of each subpool.
+fn print_fates<W: Write>(
+    writer: &mut Watched<W>,
+    ended: &EndedTasks<'_>,
+    subpools: &[OwnedSubpool],
+) -> Result<(), Failed>
+    ensures { Prints W.contents writer.old writer.new result
+        (freed_lines subpools.now (Some (ended_pair ended.now))) }
+{
+    for subpool in subpools {
+        print_fate(writer, ended, subpool)?;
+    }
+    Ok(())
+}
+
+/// Prints which subpools were freed, and which remain, if a line ended a task.
 pub(crate) fn print_frees<W: Write>(
     writer: &mut Watched<W>,
     walk: &Walk,
-    told: &LineEvent,
+    line_event: &LineEvent,
     subpools: &[OwnedSubpool],
 ) -> Result<(), Failed>
-    requires { IsAvailable walk.now told.now }
+    requires { IsAvailable walk.now line_event.now }
     ensures { (number : ℕ)
         → Prints W.contents writer.old writer.new result
-        (freed_lines subpools.now (ended_by (events_of_line number walk.now told.now))) }
+        (freed_lines subpools.now (ended_by (events_of_line number walk.now line_event.now))) }
 {
-    match told {
-        LineEvent::Answered { task, answer } => {
-            print_end(writer, task, walk.fallen(), answer, subpools)
-        }
-        LineEvent::Nothing | LineEvent::StepBegan { .. } | LineEvent::Faulted(_) => Ok(()),
+    match ended_tasks(walk, line_event) {
+        Some(ended) => print_fates(writer, &ended, subpools),
+        None => Ok(()),
     }
 }

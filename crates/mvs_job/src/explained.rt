@@ -7,8 +7,8 @@ ghost use Rattle.mvs_job.specs.Looking.{IsLooking, KeepsExplained, knows_set};
 ghost use Rattle.mvs_model.specs.Memory.{StopsForMemory};
 ghost use Rattle.mvs_job.specs.Explained.{explained};
 ghost use Rattle.mvs_job.specs.Explaining.{IsExplanationText, explanation_text, text_of_event};
-ghost use Rattle.mvs_job.specs.Granting.{reports_grant};
-ghost use Rattle.mvs_job.specs.NamedAddress.{IsNamingOf, RecordsOrigins, SetsSome, reason_address, no_lines, names_after};
+ghost use Rattle.mvs_job.specs.Granting.{granted_facts, reports_grant};
+ghost use Rattle.mvs_job.specs.NamedAddress.{IsNamingOf, RecordsOrigins, SetsSome, line_address, reason_address, no_lines, names_after};
 ghost use Rattle.mvs_job.specs.Serving.{ReturnsEvent};
 ghost use Rattle.mvs_job.specs.LineEvents.{IsAvailable, ServesAs, ended, events_of_line};
 ghost use Rattle.mvs_job.specs.Why.{OfNext, line_reason};
@@ -22,11 +22,14 @@ use crate::printing::{Stop, print_closing, print_ended, print_line};
 use crate::walk::{LineEvent, OutOfMemoryAt, Walk};
 use crate::why::Why;
 use mvs_model::error::OutOfMemory;
+use mvs_model::fact::Fact;
 use mvs_model::name::Name;
+use mvs_model::place::Addr;
 use mvs_model::reason::{LineReason, Shortfall};
 use mvs_model::refusal::Refusal;
 use mvs_model::request::Request;
 use mvs_model::watched::{Failed, Watched};
+use request_forms::OwnedSubpool;
 use std::alloc::Global;
 use std::io::Write;
 
@@ -39,6 +42,31 @@ pub struct Explained {
     pub(crate) reason: Option<LineReason>,
     pub(crate) naming: Option<NamedAddress>,
     pub(crate) lines: NameOrigins,
+}
+
+/// The explanations of a line, as values.
+#[derive(Clone, Copy)]
+pub struct Explanation<'a> {
+    /// Why the line was not executed as it asks.
+    pub reason: Option<LineReason>,
+    /// The address that this is about.
+    pub address: Option<Addr>,
+    /// The name that has this address.
+    pub named: Option<NamedAddress>,
+    /// If the line ended a task: the subpools that tasks owned before it.
+    pub subpools: &'a [OwnedSubpool],
+    /// What a granted request changed.
+    pub effects: &'a [Fact],
+}
+
+// Returns the address that the reason of a line is about.
+fn line_address(why: &Why, reason: &Option<LineReason>) -> Option<Addr>
+    ensures { result ≡ option_and_then (line_address why.now.request) reason.now }
+{
+    match reason {
+        Some(LineReason::Refused(reason)) => why.address(reason),
+        Some(LineReason::NotSet(_)) | None => None,
+    }
 }
 
 impl Observer for Explained {
@@ -74,12 +102,12 @@ impl Consumer for Explained {
         line_number: u32,
         line: &[u8],
         walk: &Walk,
-        told: &LineEvent,
+        line_event: &LineEvent,
     ) -> Result<(), Stop> {
-        let Ok(()) = self.keep(line_number, walk, told) else {
+        let Ok(()) = self.keep(line_number, walk, line_event) else {
             return Err(Stop::Memory);
         };
-        match self.print(writer, line_number, walk, told) {
+        match self.print(writer, line_number, walk, line_event) {
             Ok(()) => Ok(()),
             Err(_) => Err(Stop::Write),
         }
@@ -117,17 +145,13 @@ impl Explained {
         ensures { IsNamingOf job.now self.now.lines
             (option_and_then (reason_address self.now.why.request) self.now.why.reason) result }
     {
-        let Some(reason) = &self.why.reason else {
-            return None;
-        };
-        let Some(addr) = reason_address(&self.why.request, reason) else {
-            return None;
-        };
+        let reason = self.why.reason.as_ref()?;
+        let addr = reason_address(&self.why.request, reason)?;
         self.lines.naming(job, addr)
     }
 
     /// Looks at what is reported of the next line after it, before it is executed.
-    pub(crate) fn look_at(&mut self, walk: &Walk, line: &[u8])
+    pub fn look_at(&mut self, walk: &Walk, line: &[u8])
         ensures looking { IsLooking walk.now.step self.old.lines line.now self.new }
         ensures lines { self.new.lines ≡ self.old.lines }
     {
@@ -137,41 +161,72 @@ impl Explained {
 
     /// Keeps why a line was not executed as it asks, and the names that it set. It allocates memory if the line is a granted request
     /// that sets a name.
-    pub(crate) fn keep(
+    pub fn keep(
         &mut self,
         number: u32,
         walk: &Walk,
-        told: &LineEvent,
+        line_event: &LineEvent,
     ) -> Result<(), OutOfMemory>
-        requires { IsAvailable walk.now told.now }
+        requires { IsAvailable walk.now line_event.now }
         ensures why { self.new.why ≡ self.old.why }
         ensures naming { self.new.naming ≡ self.old.naming }
         ensures reason { self.new.reason
-            ≡ line_reason walk.now.step self.old.why.read self.old.why.reason told.now }
+            ≡ line_reason walk.now.step self.old.why.read self.old.why.reason line_event.now }
         ensures lines { OnOk result
             (self.new.lines ≡ names_after number self.old.lines self.old.why.read
-            (events_of_line number walk.now told.now)) }
+            (events_of_line number walk.now line_event.now)) }
         ensures err { OnErr result (SetsSome self.old.why.read
-            × (reports_grant (events_of_line number walk.now told.now) ≡ true)) }
+            × (reports_grant (events_of_line number walk.now line_event.now) ≡ true)) }
     {
-        self.reason = self.why.line_reason(walk, told);
-        self.lines.keep(number, &self.why.read, told)
+        self.reason = self.why.line_reason(walk, line_event);
+        self.lines.keep(number, &self.why.read, line_event)
+    }
+
+    /// Finds what the line changed, if its request was granted: `explanation` has it.
+    pub fn find_effects(&mut self, walk: &Walk, line_event: &LineEvent)
+        ensures effects { (number : ℕ) → IsAvailable walk.now line_event.now
+            → self.new.why ≡ record self.old.why {
+              facts = granted_facts self.old.why.before self.old.why.read
+                  (events_of_line number walk.now line_event.now) walk.now.step;
+            } }
+        ensures kept { (self.new.reason ≡ self.old.reason) × (self.new.naming ≡ self.old.naming)
+            × (self.new.lines ≡ self.old.lines) }
+    {
+        self.why.find_effects(walk, line_event);
+    }
+
+    /// Returns the explanations of the line, as values: what `keep` and `find_effects` found.
+    pub fn explanation(&self) -> Explanation<'_>
+        ensures reason { result.reason ≡ self.now.reason }
+        ensures address { result.address
+            ≡ option_and_then (line_address self.now.why.request) self.now.reason }
+        ensures named { result.named ≡ self.now.naming }
+        ensures subpools { result.subpools.now ≡ self.now.why.subpools }
+        ensures effects { result.effects.now ≡ self.now.why.facts }
+    {
+        Explanation {
+            reason: self.reason,
+            address: line_address(&self.why, &self.reason),
+            named: self.naming,
+            subpools: self.why.subpools(),
+            effects: self.why.effects(),
+        }
     }
 
     /// Looks at a line, executes it, and keeps why it was not executed as it asks.
     pub(crate) fn serve(&mut self, walk: &mut Walk, line: &[u8]) -> Result<LineEvent, OutOfMemoryAt>
         requires { walk.old.number + 1 < 2 ^ 32 }
-        ensures told { MatchResult result (λ told. ServesAs walk.old line.now told walk.new)
+        ensures executed { MatchResult result (λ line_event. ServesAs walk.old line.now line_event walk.new)
             (λ stopped. StopsForMemory walk.old.number walk.old.step (line.now ∷ [])
             (ended stopped.ended)) }
         ensures lines { IfOk result
-            (λ told. RecordsOrigins walk.old self.old.lines line.now walk.new told self.new.lines) }
-        ensures behind { IfOk result
-            (λ told. let events = events_of_line walk.old.number walk.new told in
+            (λ line_event. RecordsOrigins walk.old self.old.lines line.now walk.new line_event self.new.lines) }
+        ensures explained { IfOk result
+            (λ line_event. let events = events_of_line walk.old.number walk.new line_event in
             IsExplanationText walk.old.step self.old.lines line.now events walk.new.step
             (explanation_text self.new events walk.new.step)) }
         ensures reason { IfOk result
-            (λ told. OfNext walk.old.step line.now (events_of_line walk.old.number walk.new told)
+            (λ line_event. OfNext walk.old.step line.now (events_of_line walk.old.number walk.new line_event)
             self.new.reason) }
         ensures full_answer { IfOk result (IsAvailable walk.new) }
         ensures number { walk.new.number ≡ walk.old.number + 1 }
@@ -179,12 +234,12 @@ impl Explained {
         let number = walk.number();
         self.lines.begin(walk);
         self.look_at(walk, line);
-        let told = match walk.observed_line(line, &[], self) {
-            Ok(told) => told,
+        let line_event = match walk.observed_line(line, &[], self) {
+            Ok(line_event) => line_event,
             Err(stopped) => return Err(stopped),
         };
-        match self.keep(number, walk, &told) {
-            Ok(()) => Ok(told),
+        match self.keep(number, walk, &line_event) {
+            Ok(()) => Ok(line_event),
             Err(_) => Err(OutOfMemoryAt { ended: None }),
         }
     }
@@ -200,9 +255,9 @@ impl Explained {
         ensures ran { ReturnsEvent (W.contents writer.old.inner) (W.contents writer.new.inner)
             walk.old line.now walk.new result }
         ensures lines { IfOk result
-            (λ told. RecordsOrigins walk.old self.old.lines line.now walk.new told self.new.lines) }
-        ensures behind { IfOk result
-            (λ told. let events = events_of_line walk.old.number walk.new told in
+            (λ line_event. RecordsOrigins walk.old self.old.lines line.now walk.new line_event self.new.lines) }
+        ensures explained { IfOk result
+            (λ line_event. let events = events_of_line walk.old.number walk.new line_event in
             IsExplanationText walk.old.step self.old.lines line.now events walk.new.step
             (explanation_text self.new events walk.new.step)) }
         ensures full_answer { IfOk result (IsAvailable walk.new) }
@@ -212,8 +267,8 @@ impl Explained {
     {
         let number = walk.number();
         match self.serve(walk, line) {
-            Ok(told) => match print_line(writer, number, walk, &told) {
-                Ok(()) => Ok(told),
+            Ok(line_event) => match print_line(writer, number, walk, &line_event) {
+                Ok(()) => Ok(line_event),
                 Err(_) => Err(Stop::Write),
             },
             Err(stopped) => match print_ended(writer, stopped.ended) {
@@ -228,19 +283,19 @@ impl Explained {
     pub(crate) fn print_explanation<W: Write>(
         &mut self,
         walk: &Walk,
-        told: &LineEvent,
+        line_event: &LineEvent,
         writer: &mut Watched<W>,
     ) -> Result<(), Failed>
-        requires { IsAvailable walk.now told.now }
+        requires { IsAvailable walk.now line_event.now }
         ensures printed { (number : ℕ)
             → Prints W.contents writer.old writer.new result
-            (explanation_text self.old (events_of_line number walk.now told.now) walk.now.step) }
+            (explanation_text self.old (events_of_line number walk.now line_event.now) walk.now.step) }
         ensures lines { self.new.lines ≡ self.old.lines }
     {
         self.why.print(writer, &self.reason)?;
         print_named(writer, &self.naming)?;
-        print_frees(writer, walk, told, self.why.subpools.as_slice())?;
-        self.why.print_done(writer, walk, told)
+        print_frees(writer, walk, line_event, self.why.subpools.as_slice())?;
+        self.why.print_done(writer, walk, line_event)
     }
 
     // Prints the events of a line, and after them its explanations, if it has no fault.
@@ -249,17 +304,17 @@ impl Explained {
         writer: &mut Watched<W>,
         number: u32,
         walk: &Walk,
-        told: &LineEvent,
+        line_event: &LineEvent,
     ) -> Result<(), Failed>
-        requires { IsAvailable walk.now told.now }
+        requires { IsAvailable walk.now line_event.now }
         ensures printed { Prints W.contents writer.old writer.new result
-            (text_of_event self.old number walk.now told.now) }
+            (text_of_event self.old number walk.now line_event.now) }
         ensures lines { self.new.lines ≡ self.old.lines }
     {
-        print_line(writer, number, walk, told)?;
-        if let LineEvent::Faulted(_) = told {
+        print_line(writer, number, walk, line_event)?;
+        if let LineEvent::Faulted(_) = line_event {
             return Ok(());
         }
-        self.print_explanation(walk, told, writer)
+        self.print_explanation(walk, line_event, writer)
     }
 }

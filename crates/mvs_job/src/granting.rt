@@ -1,6 +1,6 @@
 //! What a granted request changed: what is looked up before it, and what is reported after it.
 
-ghost use Rattle.std.specs.Prelude.{◌≡◌, ◌≤◌, ◌<◌, ◌+◌, ◌^◌, ◌++◌, [], ◌∷◌, ℕ, List, length, flat_map};
+ghost use Rattle.std.specs.Prelude.{◌≡◌, ◌≤◌, ◌<◌, ◌+◌, ◌^◌, ◌++◌, [], ◌∷◌, ℕ, List, is_some, length, flat_map};
 ghost use Rattle.mvs_model.specs.FullAnswers.{full_answer};
 ghost use Rattle.mvs_model.specs.Numbers.{task_numbers};
 ghost use Rattle.mvs_model.specs.Reports.{each_below};
@@ -9,11 +9,11 @@ ghost use Rattle.mvs_model.specs.declared.name.Name.{Name as TaskName};
 ghost use Rattle.job_script.specs.FactTexts.{fact_line};
 ghost use Rattle.job_script.specs.Writing.{Prints};
 ghost use Rattle.request_forms.specs.Facts.{listed};
-ghost use Rattle.mvs_job.specs.Granting.{area_fact, area_facts, before_request, cell_fact, emptied_fact, facts_of, free_in, freed_fact, greater_fact, is_grant, looked_at, means, part_fact, part_pages, parts_at, subpool_fact, subtask_fact, taken_fact};
+ghost use Rattle.request_forms.specs.SubpoolLabels.{entry_owner};
+ghost use Rattle.mvs_job.specs.Granting.{area_fact, area_facts, attach_facts, before_request, cell_fact, created_fact, emptied_fact, facts_of, free_in, freed_fact, greater_fact, is_grant, looked_at, means, numbers_of, part_fact, part_pages, parts_at, subpool_fact, subtask_fact, taken_fact};
 
-use crate::ends::is_same;
 use crate::job::Job;
-use job_script::print_fact;
+use job_script::{is_same_name, print_fact};
 use mvs_model::answer::Answer;
 use mvs_model::bounded::Length;
 use mvs_model::fact::Fact;
@@ -26,7 +26,7 @@ use mvs_model::watched::{Failed, Watched};
 use std::io::Write;
 
 /// What is looked at before a request.
-#[derive(Clone, Copy, Debug, PartialEq, Eq)]
+#[derive(Drop)]
 pub(crate) struct Baseline {
     /// How many pages of each region hold nothing.
     pub(crate) below: u16,
@@ -35,14 +35,19 @@ pub(crate) struct Baseline {
     pub(crate) had: bool,
     /// How many parts the pool has.
     pub(crate) parts: u32,
+    /// For each number of a task, whether the attaching task has a subpool. Empty before other requests.
+    pub(crate) numbers: Numbers,
 }
 
-const MOST_FACTS: usize = 160;
+const MOST_FACTS: usize = 260;
+
+/// For each number of a task, whether it has a subpool.
+pub(crate) type Numbers = ShortList<bool, 0, 128>;
 
 /// What a request did.
 pub(crate) type Facts = ShortList<Fact, 0, MOST_FACTS>;
 
-// What is looked up before a request: whether the task has the subpool, and the number of parts of the pool.
+// Returns what is looked up before a request: whether the task has the subpool, and the number of parts of the pool.
 fn looked_at(job: &Job, had: bool, parts: u32) -> Baseline
     ensures { result ≡ looked_at job.now had parts }
 {
@@ -52,17 +57,36 @@ fn looked_at(job: &Job, had: bool, parts: u32) -> Baseline
         above: free.above,
         had,
         parts,
+        numbers: Numbers::empty(false),
     }
 }
 
-// Whether a task means a subpool by a number.
+// Returns whether a task has a subpool under a number.
+fn has_number(job: &Job, task: &Name, number: SubNo) -> bool
+    ensures { result ≡ is_some (entry_owner job.now.state.owners task.now number) }
+{
+    job.step().machine().entry_owner(task, number).is_some()
+}
+
+// Returns the numbers under which a task has a subpool.
+fn numbers_of(job: &Job, task: &Name) -> Numbers
+    ensures { result ≡ numbers_of job.now task.now }
+{
+    let mut numbers = Numbers::empty(false);
+    for n in 0..TASK_NUMBERS {
+        numbers.push(has_number(job, task, SubNo::of(n)));
+    }
+    numbers
+}
+
+// Returns whether a task means a subpool by a number.
 fn means(job: &Job, task: &Name, number: u8) -> bool
     ensures { result ≡ means job.now task.now number }
 {
     job.step().machine().resolved_owner(task, number).is_some()
 }
 
-// How many parts the pool of a name has.
+// Returns how many parts the pool of a name has.
 fn parts_at(job: &Job, pool: &Name) -> u32
     ensures { result ≡ parts_at job.now.state pool.now }
 {
@@ -91,6 +115,7 @@ pub(crate) fn before_request(job: &Job, task: &Name, written: &SourceRequest) ->
             above: 0,
             had: true,
             parts: 0,
+            numbers: numbers_of(job, task),
         }),
         SourceRequest::Free { .. }
         | SourceRequest::Return
@@ -101,16 +126,12 @@ pub(crate) fn before_request(job: &Job, task: &Name, written: &SourceRequest) ->
     }
 }
 
-// An area that was obtained.
+// Returns the fact of an area that was obtained.
 fn area_fact(job: &Job, task: &Name, number: u8, area: &Name, least: u32, most: u32) -> Option<Fact>
     ensures { result ≡ area_fact job.now task.now number area.now least most }
 {
-    let Some(place) = job.place_of(area) else {
-        return None;
-    };
-    let Some((number, owner)) = job.step().machine().resolved_owner(task, number) else {
-        return None;
-    };
+    let place = job.place_of(area)?;
+    let (number, owner) = job.step().machine().resolved_owner(task, number)?;
     Some(Fact::Obtained {
         area: *area,
         place,
@@ -121,14 +142,12 @@ fn area_fact(job: &Job, task: &Name, number: u8, area: &Name, least: u32, most: 
     })
 }
 
-// That no greater length had a place.
+// Returns the fact that no greater length had a place.
 fn greater_fact(before: &Baseline, job: &Job, area: &Name, most: u32) -> Option<Fact>
     requires { most < 2 ^ 31 }
     ensures { result ≡ greater_fact before.now job.now area.now most }
 {
-    let Some(place) = job.place_of(area) else {
-        return None;
-    };
+    let place = job.place_of(area)?;
     if place.len() < most.div_ceil(8) * 8 {
         return Some(Fact::NoGreater {
             below: u32::from(before.below),
@@ -138,27 +157,25 @@ fn greater_fact(before: &Baseline, job: &Job, area: &Name, most: u32) -> Option<
     None
 }
 
-// A subpool that the task did not mean by the number before.
+// Returns the fact of a subpool that the task did not mean by the number before.
 fn subpool_fact(before: &Baseline, job: &Job, task: &Name, number: u8) -> Option<Fact>
     ensures { result ≡ subpool_fact before.now job.now task.now number }
 {
     if before.had {
         return None;
     }
-    let Some((number, owner)) = job.step().machine().resolved_owner(task, number) else {
-        return None;
-    };
+    let (number, owner) = job.step().machine().resolved_owner(task, number)?;
     Some(Fact::NewSubpool { number, owner })
 }
 
-// How many pages of both regions there are, of those that hold nothing.
+// Returns how many pages of both regions there are, of those that hold nothing.
 fn sum(below: u16, above: u16) -> u32
     ensures { result ≡ below + above }
 {
     u32::from(below) + u32::from(above)
 }
 
-// How many pages hold nothing.
+// Returns how many pages hold nothing.
 fn free_in(job: &Job) -> u32
     ensures { result ≡ free_in job.now }
 {
@@ -166,14 +183,14 @@ fn free_in(job: &Job) -> u32
     sum(free.below, free.above)
 }
 
-// The pages that were taken.
+// Returns the pages that were taken.
 fn taken_fact(before: &Baseline, job: &Job) -> Fact
     ensures { result ≡ taken_fact before.now job.now }
 {
     Fact::PagesTaken(sum(before.below, before.above).saturating_sub(free_in(job)))
 }
 
-// The pages that hold nothing any more.
+// Returns the pages that hold nothing any more.
 fn freed_fact(before: &Baseline, job: &Job) -> Option<Fact>
     ensures { result ≡ freed_fact before.now job.now }
 {
@@ -188,19 +205,15 @@ fn freed_fact(before: &Baseline, job: &Job) -> Option<Fact>
 fn emptied_fact(job: &Job, task: &Name, number: u8) -> Option<Fact>
     ensures { result ≡ emptied_fact job.now task.now number }
 {
-    let Some((number, owner)) = job.step().machine().resolved_owner(task, number) else {
-        return None;
-    };
+    let (number, owner) = job.step().machine().resolved_owner(task, number)?;
     Some(Fact::Emptied { number, owner })
 }
 
-// The last part of a pool that has another number of parts than before.
+// Returns the last part of a pool that has another number of parts than before.
 fn part_fact(before: &Baseline, job: &Job, pool: &Name) -> Option<Fact>
     ensures { result ≡ part_fact before.now job.now pool.now }
 {
-    let Some(newest) = job.step().machine().newest(pool) else {
-        return None;
-    };
+    let newest = job.step().machine().newest(pool)?;
     if newest.parts == before.parts {
         return None;
     }
@@ -212,38 +225,44 @@ fn part_fact(before: &Baseline, job: &Job, pool: &Name) -> Option<Fact>
     })
 }
 
-// The pages that were taken for it.
+// Returns the pages that were taken for it.
 fn part_pages(before: &Baseline, job: &Job, pool: &Name) -> Option<Fact>
     ensures { result ≡ part_pages before.now job.now pool.now }
 {
-    match part_fact(before, job, pool) {
-        Some(_) => Some(taken_fact(before, job)),
-        None => None,
-    }
+    part_fact(before, job, pool)?;
+    Some(taken_fact(before, job))
 }
 
-// A cell that was taken.
+// Returns the fact of a cell that was allocated.
 fn cell_fact(job: &Job, pool: &Name, cell: &Name) -> Option<Fact>
     ensures { result ≡ cell_fact job.now pool.now cell.now }
 {
-    match job.place_of(cell) {
-        Some(place) => Some(Fact::CellTaken {
-            cell: *cell,
-            pool: *pool,
-            place,
-        }),
-        None => None,
-    }
+    let place = job.place_of(cell)?;
+    Some(Fact::CellTaken {
+        cell: *cell,
+        pool: *pool,
+        place,
+    })
 }
 
-// What a subtask has under a number.
+// Returns the subpool that the attaching task has under a number, if it had none.
+fn created_fact(before: &Baseline, job: &Job, task: &Name, number: SubNo) -> Option<Fact>
+    ensures { result ≡ created_fact before.now job.now task.now number }
+{
+    let at = usize::from(number.get());
+    if before.numbers.as_slice().get(at).copied().unwrap_or(false) {
+        return None;
+    }
+    let (number, owner) = job.step().machine().entry_owner(task, number)?;
+    Some(Fact::NewSubpool { number, owner })
+}
+
+// Returns what a subtask has under a number.
 fn subtask_fact(job: &Job, mother: &Name, subtask: &Name, number: SubNo) -> Option<Fact>
     ensures { result ≡ subtask_fact job.now mother.now subtask.now number }
 {
-    let Some((number, owner)) = job.step().machine().entry_owner(subtask, number) else {
-        return None;
-    };
-    if is_same(&owner, subtask) {
+    let (number, owner) = job.step().machine().entry_owner(subtask, number)?;
+    if is_same_name(&owner, subtask) {
         return Some(Fact::Given {
             subtask: *subtask,
             number,
@@ -257,7 +276,7 @@ fn subtask_fact(job: &Job, mother: &Name, subtask: &Name, number: SubNo) -> Opti
     })
 }
 
-/// No fact.
+/// Makes an empty list of facts.
 pub(crate) fn no_facts() -> Facts
     ensures { result ≡ [] }
 {
@@ -266,7 +285,7 @@ pub(crate) fn no_facts() -> Facts
 
 // Appends a fact, if there is one.
 fn push_some(facts: &mut Facts, fact: Option<Fact>)
-    requires { length facts.old < 160 }
+    requires { length facts.old < 260 }
     ensures facts { facts.new ≡ facts.old ++ listed fact }
     ensures len { length facts.new ≤ length facts.old + 1 }
 {
@@ -300,15 +319,17 @@ fn push_areas(
     push_areas(facts, job, task, number, areas, lengths);
 }
 
-// Puts what a subtask has of its mother's in the place of other facts.
-fn put_subtask(facts: &mut Facts, job: &Job, mother: &Name, subtask: &Name)
+// Replaces the facts by what a subtask has of its attaching task, and the subpools that were created for that.
+fn put_subtask(facts: &mut Facts, before: &Baseline, job: &Job, attaching: &Name, subtask: &Name)
     ensures { facts.new
         ≡ each_below task_numbers
-        (λ n. listed (subtask_fact job.now mother.now subtask.now n)) }
+        (λ n. attach_facts before.now job.now attaching.now subtask.now n) }
 {
     facts.clear();
     for n in 0..TASK_NUMBERS {
-        push_some(facts, subtask_fact(job, mother, subtask, SubNo::of(n)));
+        let number = SubNo::of(n);
+        push_some(facts, created_fact(before, job, attaching, number));
+        push_some(facts, subtask_fact(job, attaching, subtask, number));
     }
 }
 
@@ -361,7 +382,7 @@ pub(crate) fn put_facts(
             push_some(facts, part_fact(before, job, pool));
             push_some(facts, part_pages(before, job, pool));
         }
-        SourceRequest::Attach { name, .. } => put_subtask(facts, job, task, name),
+        SourceRequest::Attach { name, .. } => put_subtask(facts, before, job, task, name),
         SourceRequest::Release { .. }
         | SourceRequest::ReleaseArea { .. }
         | SourceRequest::ReleaseList { .. }
@@ -385,7 +406,7 @@ pub(crate) fn print_facts<W: Write>(writer: &mut Watched<W>, facts: &[Fact]) -> 
     Ok(())
 }
 
-/// Whether an answer says that a request was granted.
+/// Returns whether an answer says that a request was granted.
 pub(crate) fn is_grant(answer: &Answer) -> bool
     ensures { (st : State) (fallen : List TaskName) (t : TaskName)
         → result ≡ is_grant (full_answer st fallen t answer.now) }

@@ -23,10 +23,10 @@ impl AddressHints {
 
     // Replaces the addresses of the line with a number.
     fn put(&mut self, line_number: u32, addrs: Vec<Addr>) -> Result<(), OutOfMemory> {
-        match self.lines.insert(line_number, addrs) {
-            Ok(_) => Ok(()),
-            Err(_) => Err(OutOfMemory),
-        }
+        self.lines
+            .insert(line_number, addrs)
+            .map_err(|_| OutOfMemory)?;
+        Ok(())
     }
 
     /// Adds an address for the line with a number.

@@ -62,7 +62,7 @@ impl Model for Job {
     ghost invariant = { λ r. IsSteady r.step.state };
 }
 
-// The numbers of a pool that a request builds are in their ranges, as their types say.
+// Shows that the numbers of a pool that a request builds are in their ranges, as their types say.
 fn builds_in_range(request: &Request)
     ensures { BuildsInRange request.now }
 {
@@ -116,7 +116,20 @@ fn done_answer(request: &Request) -> Answer
 {
     match request {
         Request::Show { from, len } => Answer::Data(Place::new(*from, len.get())),
-        _ => Answer::Done,
+        Request::Obtain { .. }
+        | Request::ObtainList { .. }
+        | Request::Release { .. }
+        | Request::ReleaseList { .. }
+        | Request::ReleaseWhole { .. }
+        | Request::Build { .. }
+        | Request::Get { .. }
+        | Request::Free { .. }
+        | Request::Delete { .. }
+        | Request::Attach { .. }
+        | Request::Return
+        | Request::Abend(_)
+        | Request::Put { .. }
+        | Request::Move { .. } => Answer::Done,
     }
 }
 
@@ -156,7 +169,7 @@ fn where_answer(place: Option<Place>) -> Answer
 }
 
 impl Job {
-    /// A step at its start; `former` says whether a task of a former step has abended.
+    /// Makes a step at its start; `former` says whether a task of a former step has abended.
     pub fn new(
         alloc: Global,
         card: &Card,
@@ -184,21 +197,21 @@ impl Job {
         &self.step
     }
 
-    /// Whether a task of this step or of a former one has abended.
+    /// Returns whether a task of this step or of a former one has abended.
     pub fn any_abended(&self) -> bool
         ensures { result ≡ (self.now.abended || self.now.former) }
     {
         self.step.abended() || self.former
     }
 
-    /// The place that a name was last set to, by any task.
+    /// Returns the place that a name was last set to, by any task.
     pub fn place_of(&self, name: &Name) -> Option<Place>
         ensures { result ≡ get self.now.names name.now }
     {
         self.names.get(name)
     }
 
-    /// Whether each name that a request looks up is set: then `request` is what is asked for, written over another.
+    /// Returns whether each name that a request looks up is set: then `request` is what is asked for, written over another.
     pub fn request_of(&self, written: &SourceRequest, request: &mut Request) -> Option<()>
         ensures { MatchOption result (resolved self.now.names written.now ≡ None)
             (λ _. resolved self.now.names written.now ≡ Some request.new) }
@@ -206,19 +219,27 @@ impl Job {
         resolve(&self.names, written, request)
     }
 
-    /// The first name that a request looks up and that is not set, from the left.
+    /// Returns the first name that a request looks up and that is not set, from the left.
     pub fn unset(&self, written: &SourceRequest) -> Option<Name>
         ensures { result ≡ first_unset self.now.names (looked_up written.now) }
     {
         unset(&self.names, written)
     }
 
-    /// Serves a request that is given by values, and writes the reply to it over another one. It sets no name.
-    pub fn request(&mut self, task: &Name, request: &Request, reply: &mut Reply)
-        ensures { Requests self.old task.now request.now reply.new self.new }
+    /// Executes a request that is given by values, and writes the reply to it over another one. It sets no name. The observer sees
+    /// the request if it is refused.
+    pub fn request<O: Observer>(
+        &mut self,
+        task: &Name,
+        request: &Request,
+        reply: &mut Reply,
+        observer: &mut O,
+    )
+        ensures requests { Requests self.old task.now request.now reply.new self.new }
+        ensures observed { ObservesRequest O.heard observer.old self.old task.now request.now reply.new
+            self.new.state observer.new }
     {
-        builds_in_range(request);
-        self.step.request(task, request, &[], reply);
+        self.settle_or_do(task, request, &[], reply, observer);
     }
 
     /// Writes bytes over those of a place, and answers whether it did: where one of them may not be written, all stay.
@@ -234,19 +255,19 @@ impl Job {
         &mut self,
         task: &Name,
         request: &Request,
-        told: &[Addr],
+        hints: &[Addr],
         reply: &mut Reply,
         observer: &mut O,
     )
         ensures step { MachineStep self.old.state task.now request.now reply.new self.new.state }
         ensures rest { KeepsNamesAndFormer self.old reply.new self.new }
-        ensures told { Takes told.now self.old.state task.now request.now reply.new self.new.state }
+        ensures hinted { Takes hints.now self.old.state task.now request.now reply.new self.new.state }
         ensures observed { ObservesRequest O.heard observer.old self.old task.now request.now reply.new
             self.new.state observer.new }
     {
         builds_in_range(request);
         let mut left = no_shortfall();
-        match self.step.attempt(task, request, told, reply, &mut left) {
+        match self.step.attempt(task, request, hints, reply, &mut left) {
             Ok(()) => {}
             Err(refusal) => {
                 observer.refused(self, task, request, refusal, &left);
@@ -260,7 +281,7 @@ impl Job {
         &mut self,
         task: &Name,
         written: &SourceRequest,
-        told: &[Addr],
+        hints: &[Addr],
         request: &mut Request,
         reply: &mut Reply,
         observer: &mut O,
@@ -268,7 +289,7 @@ impl Job {
         requires written { IsWritten written.now }
         requires active { is_active self.old.state.owners task.now ≡ true }
         ensures served { MatchResult result
-            (λ answer. Asks (Takes told.now) self.old task.now written.now
+            (λ answer. Asks (Takes hints.now) self.old task.now written.now
             (resolved self.old.names written.now)
             (full_answer self.new.state (ended_with_in reply.new) task.now answer) self.new)
             (λ _. SetsName self.old task.now written.now) }
@@ -288,7 +309,7 @@ impl Job {
         let Some(()) = resolve(&self.names, written, request) else {
             return Ok(Answer::NoName);
         };
-        self.settle_or_do(task, request, told, reply, observer);
+        self.settle_or_do(task, request, hints, reply, observer);
         let Ok(()) = set_names(&mut self.names, written, reply) else {
             return Err(OutOfMemory);
         };
@@ -302,7 +323,7 @@ impl Job {
         &mut self,
         task: &Name,
         statement: &Statement,
-        told: &[Addr],
+        hints: &[Addr],
         request: &mut Request,
         reply: &mut Reply,
         observer: &mut O,
@@ -310,7 +331,7 @@ impl Job {
         requires in_range { IsStatement false task.now statement.now }
         requires of_step { region_card task.now statement.now ≡ None }
         ensures served { MatchResult result
-            (λ answer. Does (Takes told.now) self.old task.now statement.now
+            (λ answer. Does (Takes hints.now) self.old task.now statement.now
             (full_answer self.new.state (ended_with_in reply.new) task.now answer) self.new)
             (λ _. TakesMemory (Some self.old) (line.Statement task.now statement.now) []) }
         ensures reply { IfOk result
@@ -327,7 +348,7 @@ impl Job {
         }
         match statement {
             Statement::Request(written) => {
-                self.ask(task, written, told, request, reply, observer)
+                self.ask(task, written, hints, request, reply, observer)
             }
             Statement::Where(name) => Ok(where_answer(self.names.get(name))),
             Statement::ReportSubpools => Ok(Answer::Subpools),

@@ -5,7 +5,7 @@ ghost use Rattle.mvs_model.specs.Lines.{lines_of};
 
 use memchr::memchr;
 
-// Where the first line of a script ends, where it ends in it.
+// Returns where the first line of a script ends, where it ends in it.
 fn line_feed(script: &[u8]) -> Option<usize>
     ensures { MatchOption result
         ((k : ℕ) → k < length script.now → slice_index script.now k ≢ 10)
@@ -15,7 +15,7 @@ fn line_feed(script: &[u8]) -> Option<usize>
     memchr(b'\n', script)
 }
 
-/// How many bytes the first line has of a script that has some.
+/// Returns how many bytes the first line has of a script that has some.
 pub fn line_end(script: &[u8]) -> usize
     requires { 0 < length script.now }
     ensures within { result ≤ length script.now }

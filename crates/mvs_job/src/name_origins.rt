@@ -5,7 +5,6 @@ ghost use Rattle.std.specs.FinMap.{insert};
 ghost use Rattle.std.specs.Option.{option_and_then};
 ghost use Rattle.mvs_model.specs.Resolving.{names_set};
 ghost use Rattle.mvs_model.specs.Storage.{has_address};
-ghost use Rattle.job_script.specs.ReasonTexts.{cell_of};
 ghost use Rattle.job_script.specs.Writing.{Prints};
 ghost use Rattle.mvs_job.specs.Granting.{reports_grant};
 ghost use Rattle.mvs_job.specs.NamedAddress.{HasLengths, IsNaming, SetsSome, reason_address, first_of, comes_later, later, lines_before, naming_at, naming_text, no_lines, names_after, set_by};
@@ -14,7 +13,7 @@ ghost use Rattle.mvs_job.specs.LineEvents.{IsAvailable, WalkValue, events_of_lin
 use crate::job::Job;
 use crate::walk::{LineEvent, Walk};
 use crate::why::reports_grant;
-use job_script::{names_set, print_naming};
+use job_script::{names_set, print_naming, subject_of};
 use mvs_model::error::OutOfMemory;
 use mvs_model::line::{Line, SourceRequest, Statement};
 use mvs_model::name::Name;
@@ -29,11 +28,13 @@ use std::marker::Model;
 
 /// A name that has an address in its place, and the number of the line that set it last.
 #[derive(Clone, Copy, Debug, PartialEq, Eq)]
-pub(crate) struct NamedAddress {
-    pub(crate) addr: Addr,
-    pub(crate) name: Name,
-    pub(crate) place: Place,
-    pub(crate) number: u32,
+pub struct NamedAddress {
+    pub addr: Addr,
+    pub name: Name,
+    /// The place that the name has.
+    pub place: Place,
+    /// The number of the line.
+    pub number: u32,
 }
 
 /// The names that were set in a step, each with the number of the line that set it last.
@@ -55,26 +56,16 @@ impl Model for NameOrigins {
     ghost view = { λ l. map.from_entries l.numbers.entries };
 }
 
-// The cell of a request to free one.
-fn cell(request: &Request) -> Addr
-    ensures { result ≡ cell_of request.now }
-{
-    match request {
-        Request::Free { cell, .. } => *cell,
-        _ => Addr::new(0),
-    }
-}
-
 /// Returns the address in the reason of a request.
 pub(crate) fn reason_address(request: &Request, reason: &Reason) -> Option<Addr>
     ensures { result ≡ reason_address request.now reason.now }
 {
     match reason {
         Reason::OffDoubleword(addr)
-        | Reason::NotHeld(addr, _)
+        | Reason::NotHeld(addr, _, _)
         | Reason::Overlap(_, _, addr)
         | Reason::NoAccess(addr, _) => Some(*addr),
-        Reason::NoTakenCell(_) => Some(cell(request)),
+        Reason::NoTakenCell(_) => Some(subject_of(request).cell),
         Reason::NotActive
         | Reason::InvalidNumber
         | Reason::Shortage(_)
@@ -102,13 +93,11 @@ fn has_address(place: Place, addr: Addr) -> bool
     first <= addr && addr < first + u64::from(place.len())
 }
 
-// What a name says of an address, if it has it in its place.
+// Returns what a name says of an address, if it has it in its place.
 fn naming_at(job: &Job, addr: Addr, name: &Name, number: u32) -> Option<NamedAddress>
     ensures { result ≡ naming_at job.now addr (name.now, number) }
 {
-    let Some(place) = job.place_of(name) else {
-        return None;
-    };
+    let place = job.place_of(name)?;
     if has_address(place, addr) {
         return Some(NamedAddress {
             addr,
@@ -130,7 +119,7 @@ fn comes_later(latest: &Option<NamedAddress>, number: u32) -> bool
     }
 }
 
-// The later one of a name and the next, of those that have an address in their places.
+// Returns the later one of a name and the next, of those that have an address in their places.
 fn later(
     latest: Option<NamedAddress>,
     job: &Job,
@@ -149,7 +138,7 @@ fn later(
     }
 }
 
-// A requested list has a length, as its type says.
+// Shows that a requested list has a length, as its type says.
 fn has_lengths(written: &SourceRequest)
     ensures { HasLengths written.now }
 {
@@ -213,13 +202,13 @@ impl NameOrigins {
         &mut self,
         number: u32,
         read: &Line,
-        told: &LineEvent,
+        line_event: &LineEvent,
     ) -> Result<(), OutOfMemory>
-        ensures ok { OnOk result ((walk : WalkValue) → IsAvailable walk told.now
-            → self.new ≡ names_after number self.old read.now (events_of_line number walk told.now)) }
+        ensures ok { OnOk result ((walk : WalkValue) → IsAvailable walk line_event.now
+            → self.new ≡ names_after number self.old read.now (events_of_line number walk line_event.now)) }
         ensures err { OnErr result (SetsSome read.now
-            × ((walk : WalkValue) → IsAvailable walk told.now
-            → reports_grant (events_of_line number walk told.now) ≡ true)) }
+            × ((walk : WalkValue) → IsAvailable walk line_event.now
+            → reports_grant (events_of_line number walk line_event.now) ≡ true)) }
     {
         match read {
             Line::Statement(_, Statement::Region { .. }) => {
@@ -227,7 +216,7 @@ impl NameOrigins {
                 Ok(())
             }
             Line::Statement(_, Statement::Request(written)) => {
-                if !reports_grant(told) {
+                if !reports_grant(line_event) {
                     return Ok(());
                 }
                 has_lengths(written);
@@ -241,7 +230,7 @@ impl NameOrigins {
         }
     }
 
-    /// A name that was set last of those that have an address in their places.
+    /// Returns the name that was set last, of those in whose places an address is.
     pub(crate) fn naming(&self, job: &Job, addr: Addr) -> Option<NamedAddress>
         ensures { IsNaming job.now self.now addr result }
     {

@@ -47,9 +47,9 @@ impl Consumer for Printer {
         line_number: u32,
         line: &[u8],
         walk: &Walk,
-        told: &LineEvent,
+        line_event: &LineEvent,
     ) -> Result<(), Stop> {
-        match print_line(writer, line_number, walk, told) {
+        match print_line(writer, line_number, walk, line_event) {
             Ok(()) => Ok(()),
             Err(_) => Err(Stop::Write),
         }

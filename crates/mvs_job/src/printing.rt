@@ -133,13 +133,13 @@ pub fn print_line<W: Write>(
     writer: &mut Watched<W>,
     line_number: u32,
     walk: &Walk,
-    told: &LineEvent,
+    line_event: &LineEvent,
 ) -> Result<(), Failed>
-    requires { IsAvailable walk.now told.now }
+    requires { IsAvailable walk.now line_event.now }
     ensures { Prints W.contents writer.old writer.new result
-        (printing (events_of_line line_number walk.now told.now)) }
+        (printing (events_of_line line_number walk.now line_event.now)) }
 {
-    match told {
+    match line_event {
         LineEvent::Nothing => Ok(()),
         LineEvent::StepBegan { ended: end, card } => {
             print_ended(writer, *end)?;
@@ -157,7 +157,7 @@ pub fn print_line<W: Write>(
 pub fn run_line<W: Write>(
     walk: &mut Walk,
     line: &[u8],
-    told: &[Addr],
+    line_event: &[Addr],
     writer: &mut Watched<W>,
 ) -> Result<bool, Stop>
     requires { walk.old.number + 1 < 2 ^ 32 }
@@ -167,7 +167,7 @@ pub fn run_line<W: Write>(
     ensures ok { OnOk result (writer.new.failed ≡ writer.old.failed) }
     ensures write { IsErrOf result Stop.Write → writer.new.failed ≡ true }
 {
-    run_entry(walk, line, told, writer, &mut Printer)
+    run_entry(walk, line, line_event, writer, &mut Printer)
 }
 
 /// Prints the end of a job that has no more lines.

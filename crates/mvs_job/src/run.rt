@@ -89,7 +89,7 @@ pub fn run_source<S: Source, W: Write, C: Consumer>(
     'reading: while count < MOST_SCRIPT_BYTES {
         let room = (MOST_SCRIPT_BYTES - count).min(CHUNK);
         match stream.pump(reader, writer, consumer, &mut chunk[..room])? {
-            Progress::On(told) => count += told,
+            Progress::On(consumed) => count += consumed,
             Progress::Ended(outcome) => return Ok(outcome),
         }
     }

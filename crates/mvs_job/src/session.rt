@@ -1,6 +1,6 @@
 //! A job that gets its lines one by one.
 
-ghost use Rattle.std.specs.Prelude.{◌≡◌, ◌≢◌, ◌<◌, ◌≤◌, ◌+◌, ◌^◌, ◌⊎◌, ◌↔◌, ◌∷◌, [], ℕ, true, false, None, Some, Ok, IfOk, IfSome, IsSome, MatchOption, MatchResult, length, slice_get};
+ghost use Rattle.std.specs.Prelude.{◌≡◌, ◌≢◌, ◌<◌, ◌≤◌, ◌+◌, ◌^◌, ◌⊎◌, ◌↔◌, ◌∷◌, [], ℕ, true, false, None, Some, Ok, IfOk, IfSome, IsSome, MatchOption, MatchResult, OnErr, length, slice_get};
 ghost use Rattle.std.specs.FinMap.{get};
 ghost use Rattle.mvs_model.specs.Changes.{Granted};
 ghost use Rattle.mvs_model.specs.Job.{JobValue};
@@ -11,9 +11,11 @@ ghost use Rattle.mvs_model.specs.Walk.{Closes};
 ghost use Rattle.mvs_job.specs.Sessions.{new_session};
 ghost use Rattle.mvs_job.specs.LineEvents.{IsAvailable, ServesAs, KeepsReplyOf, closing, ended, events_of_line, continues};
 ghost use Rattle.mvs_job.specs.Why.{OfNext};
-ghost use Rattle.mvs_job.specs.Valued.{RequestsOf, WritesOf};
+ghost use Rattle.mvs_job.specs.Observing.{ObservesLine};
+ghost use Rattle.mvs_job.specs.Valued.{ObservesValues, RequestsOf, WritesOf};
 
 use crate::apart::Explainer;
+use crate::observer::{Observer, Unobserved};
 use crate::walk::{JobEnd, LineEvent, OutOfMemoryAt, Walk};
 use mvs_model::name::Name;
 use mvs_model::place::Place;
@@ -80,22 +82,47 @@ impl Session {
     pub fn line(&mut self, line: &[u8]) -> Result<LineEvent, OutOfMemoryAt>
         requires continues { self.old.continues ≡ true }
         requires number { self.old.walk.number + 1 < 2 ^ 32 }
-        ensures told { MatchResult result (λ told. ServesAs self.old.walk line.now told self.new.walk)
+        ensures executed { MatchResult result (λ line_event. ServesAs self.old.walk line.now line_event self.new.walk)
             (λ stopped. StopsForMemory self.old.walk.number self.old.walk.step (line.now ∷ [])
             (ended stopped.ended)) }
         ensures reply { IfOk result
-            (λ told. KeepsReplyOf self.old.walk line.now told self.new.walk) }
+            (λ line_event. KeepsReplyOf self.old.walk line.now line_event self.new.walk) }
         ensures full_answer { IfOk result (IsAvailable self.new.walk) }
         ensures number { self.new.walk.number ≡ self.old.walk.number + 1 }
         ensures continues { self.new.continues ≡ continues result }
     {
-        let told = self.walk.line(line, &[]);
-        self.continues = match &told {
+        self.observed_line(line, &mut Unobserved)
+    }
+
+    /// Executes one line as `line` does. The observer sees its request if that is refused.
+    pub fn observed_line<O: Observer>(
+        &mut self,
+        line: &[u8],
+        observer: &mut O,
+    ) -> Result<LineEvent, OutOfMemoryAt>
+        requires continues { self.old.continues ≡ true }
+        requires number { self.old.walk.number + 1 < 2 ^ 32 }
+        ensures executed { MatchResult result (λ line_event. ServesAs self.old.walk line.now line_event self.new.walk)
+            (λ stopped. StopsForMemory self.old.walk.number self.old.walk.step (line.now ∷ [])
+            (ended stopped.ended)) }
+        ensures reply { IfOk result
+            (λ line_event. KeepsReplyOf self.old.walk line.now line_event self.new.walk) }
+        ensures observed { IfOk result
+            (λ line_event. ObservesLine O.heard observer.old self.old.walk.step line.now line_event self.new.walk
+            observer.new) }
+        // If memory is exhausted, it sees nothing.
+        ensures unheard { OnErr result (observer.new ≡ observer.old) }
+        ensures full_answer { IfOk result (IsAvailable self.new.walk) }
+        ensures number { self.new.walk.number ≡ self.old.walk.number + 1 }
+        ensures continues { self.new.continues ≡ continues result }
+    {
+        let line_event = self.walk.observed_line(line, &[], observer);
+        self.continues = match &line_event {
             Ok(LineEvent::Faulted(_)) => false,
             Ok(_) => true,
             Err(_) => false,
         };
-        told
+        line_event
     }
 
     /// Executes one line as `line` does, and returns its events and why it was not executed as it asks. The explainer has seen
@@ -107,7 +134,7 @@ impl Session {
     ) -> Result<(LineEvent, Option<LineReason>), OutOfMemoryAt>
         requires continues { self.old.continues ≡ true }
         requires number { self.old.walk.number + 1 < 2 ^ 32 }
-        ensures told { MatchResult result
+        ensures executed { MatchResult result
             (λ r. ServesAs self.old.walk line.now r.0 self.new.walk)
             (λ stopped. StopsForMemory self.old.walk.number self.old.walk.step (line.now ∷ [])
             (ended stopped.ended)) }
@@ -118,23 +145,25 @@ impl Session {
         ensures number { self.new.walk.number ≡ self.old.walk.number + 1 }
         ensures continues { IfOk result (λ r. self.new.continues ≡ continues (Ok r.0)) }
     {
-        let told = explainer.line(&mut self.walk, line);
-        self.continues = match &told {
+        let line_event = explainer.line(&mut self.walk, line);
+        self.continues = match &line_event {
             Ok((LineEvent::Faulted(_), _)) => false,
             Ok(_) => true,
             Err(_) => false,
         };
-        told
+        line_event
     }
 
-    /// Serves a request of a task that is given by values, and keeps the reply; false where no step runs. It is no line: it has no
-    /// number, and sets no name.
-    pub fn request(&mut self, task: &Name, request: &Request) -> bool
+    /// Executes a request of a task that is given by values, and keeps the reply. Returns false if no step is running. It is no line:
+    /// it has no number, and sets no name. The observer sees it if it is refused.
+    pub fn request<O: Observer>(&mut self, task: &Name, request: &Request, observer: &mut O) -> bool
         requires { self.old.continues ≡ true }
         ensures served { RequestsOf self.old.walk task.now request.now result self.new.walk }
+        ensures observed { ObservesValues O.heard observer.old self.old.walk.step task.now request.now
+            self.new.walk observer.new }
         ensures continues { self.new.continues ≡ true }
     {
-        self.walk.request(task, request)
+        self.walk.request(task, request, observer)
     }
 
     /// Writes bytes over those of a place, and answers whether it did: not where no step runs, nor where one of them may not be

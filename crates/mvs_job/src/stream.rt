@@ -36,10 +36,10 @@ pub struct Stream {
     walk: Walk,
     /// The consumed bytes of an incomplete line.
     line: LineBuffer,
-    told: AddressHints,
+    hints: AddressHints,
 }
 
-// What is written is passed on before a read that may wait.
+// Passes on what is written before a read that may wait.
 fn read<S: Source, W: Write>(
     reader: &mut S,
     writer: &mut Watched<W>,
@@ -64,13 +64,8 @@ fn read<S: Source, W: Write>(
     ensures not_long { ¬ IsErrOf result RunFault.ReadTooLong }
     ensures not_memory { ¬ IsErrOf result RunFault.Memory }
 {
-    let Ok(()) = writer.flush() else {
-        return Err(RunFault::Write);
-    };
-    match reader.read(chunk) {
-        Ok(count) => Ok(count),
-        Err(_) => Err(RunFault::Read),
-    }
+    writer.flush().map_err(|_| RunFault::Write)?;
+    reader.read(chunk).map_err(|_| RunFault::Read)
 }
 
 /// Returns the fault of a job that stops so.
@@ -84,19 +79,19 @@ pub(crate) fn fault_of(stop: Stop) -> RunFault
 }
 
 impl Stream {
-    /// A job before its first line.
-    pub fn new(alloc: Global, placement: Placement, told: AddressHints) -> Stream
+    /// Makes a job before its first line.
+    pub fn new(alloc: Global, placement: Placement, hints: AddressHints) -> Stream
         ensures walk { result.walk ≡ new_walk }
         ensures line { result.line ≡ [] }
     {
         Stream {
             walk: Walk::new(alloc, placement),
             line: LineBuffer::new(),
-            told,
+            hints,
         }
     }
 
-    // Runs the line that is kept.
+    // Runs the pending line.
     fn end_line<W: Write, C: Consumer>(
         &mut self,
         writer: &mut Watched<W>,
@@ -111,8 +106,8 @@ impl Stream {
         ensures ok { OnOk result (writer.new.failed ≡ writer.old.failed) }
         ensures write { IsErrOf result Stop.Write → writer.new.failed ≡ true }
     {
-        let told = self.told.of(self.walk.number());
-        let continues = run_entry(&mut self.walk, self.line.bytes(), told, writer, consumer);
+        let hints = self.hints.of(self.walk.number());
+        let continues = run_entry(&mut self.walk, self.line.bytes(), hints, writer, consumer);
         self.line.clear();
         continues
     }
@@ -141,9 +136,9 @@ impl Stream {
         }
     }
 
-    // Where the first line of some bytes ends, if none is kept and it ends in them.
+    // Returns where the first line of some bytes ends, if no bytes of it are pending and it ends in them.
     fn whole_line(&self, bytes: &[u8]) -> Option<usize>
-        ensures kept { IfSome result (λ end. self.now.line ≡ []) }
+        ensures pending { IfSome result (λ end. self.now.line ≡ []) }
         ensures end { IfSome result
             (λ end. (end < length bytes.now) × (slice_index bytes.now end ≡ 10)
             × ((k : ℕ) → k < end → slice_index bytes.now k ≢ 10)) }
@@ -163,21 +158,21 @@ impl Stream {
         writer: &mut Watched<W>,
         consumer: &mut C,
     ) -> Result<Option<usize>, Stop>
-        requires kept { self.old.line ≡ [] }
+        requires pending { self.old.line ≡ [] }
         requires end { (end < length bytes.now) × (slice_index bytes.now end ≡ 10)
             × ((k : ℕ) → k < end → slice_index bytes.now k ≢ 10) }
         requires number { self.old.walk.number + 1 < 2 ^ 32 }
         ensures bytes { (first : C) → FeedsSome C.piece (C.knows first) (W.contents writer.old.inner)
             (W.contents writer.new.inner) bytes.now self.old.walk self.old.line consumer.old
             self.new.walk self.new.line consumer.new result }
-        ensures taken { IfOk result (λ taken. IfSome taken (λ n. n ≡ end + 1)) }
+        ensures consumed { IfOk result (λ consumed. IfSome consumed (λ n. n ≡ end + 1)) }
         ensures line { self.new.line ≡ [] }
         ensures number { self.new.walk.number ≡ self.old.walk.number + 1 }
         ensures ok { OnOk result (writer.new.failed ≡ writer.old.failed) }
         ensures write { IsErrOf result Stop.Write → writer.new.failed ≡ true }
     {
-        let told = self.told.of(self.walk.number());
-        match run_entry(&mut self.walk, &bytes[..end], told, writer, consumer) {
+        let hints = self.hints.of(self.walk.number());
+        match run_entry(&mut self.walk, &bytes[..end], hints, writer, consumer) {
             Ok(true) => Ok(Some(end + 1)),
             Ok(false) => Ok(None),
             Err(stop) => Err(stop),
@@ -197,7 +192,7 @@ impl Stream {
         ensures bytes { (first : C) → FeedsSome C.piece (C.knows first) (W.contents writer.old.inner)
             (W.contents writer.new.inner) bytes.now self.old.walk self.old.line consumer.old
             self.new.walk self.new.line consumer.new result }
-        ensures taken { IfOk result (λ taken. IfSome taken (λ n. n ≡ 1)) }
+        ensures consumed { IfOk result (λ consumed. IfSome consumed (λ n. n ≡ 1)) }
         ensures room { length self.new.line < 256 }
         ensures number { self.new.walk.number ≤ self.old.walk.number + 1 }
         ensures ok { OnOk result (writer.new.failed ≡ writer.old.failed) }
@@ -223,8 +218,8 @@ impl Stream {
         ensures bytes { (first : C) → FeedsSome C.piece (C.knows first) (W.contents writer.old.inner)
             (W.contents writer.new.inner) bytes.now self.old.walk self.old.line consumer.old
             self.new.walk self.new.line consumer.new result }
-        ensures taken { IfOk result
-            (λ taken. IfSome taken (λ n. (0 < n) × (n ≤ length bytes.now))) }
+        ensures consumed { IfOk result
+            (λ consumed. IfSome consumed (λ n. (0 < n) × (n ≤ length bytes.now))) }
         ensures room { length self.new.line < 256 }
         ensures number { self.new.walk.number ≤ self.old.walk.number + 1 }
         ensures ok { OnOk result (writer.new.failed ≡ writer.old.failed) }
@@ -256,7 +251,7 @@ impl Stream {
         let mut at = 0;
         while at < bytes.len() {
             match self.feed_some(&bytes[at..], writer, consumer)? {
-                Some(taken) => at += taken,
+                Some(consumed) => at += consumed,
                 None => return Ok(false),
             }
         }

@@ -53,7 +53,7 @@ pub struct StrictOutcome {
     pub all_served: bool,
 }
 
-// Why a statement that is answered so was not served, if it was not.
+// Returns why a statement with this answer was not executed, if it was not.
 fn why_unserved(answer: &Answer) -> Option<SkipReason>
     ensures { result ≡ why_unserved answer.now }
 {
@@ -77,15 +77,15 @@ fn why_unserved(answer: &Answer) -> Option<SkipReason>
 }
 
 // Returns why a line was not executed, by its events, if it was not.
-fn why_of(walk: &Walk, told: &LineEvent) -> Option<SkipReason>
-    requires { IsAvailable walk.now told.now }
+fn why_of(walk: &Walk, line_event: &LineEvent) -> Option<SkipReason>
+    requires { IsAvailable walk.now line_event.now }
     ensures served { (number : ℕ)
-        → list_all is_of_served (events_of_line number walk.now told.now) ≡ not (is_some result) }
+        → list_all is_of_served (events_of_line number walk.now line_event.now) ≡ not (is_some result) }
     ensures skipped { (number : ℕ) (lines : ℕ → List ℕ)
-        → all_skipped lines (events_of_line number walk.now told.now)
+        → all_skipped lines (events_of_line number walk.now line_event.now)
         ≡ skipped_for number (lines number) result }
 {
-    match told {
+    match line_event {
         LineEvent::Answered { answer, .. } => why_unserved(answer),
         LineEvent::Nothing | LineEvent::StepBegan { .. } | LineEvent::Faulted(_) => None,
     }
@@ -163,10 +163,11 @@ impl<'a, C: Consumer, H: SkipObserver> Consumer for Strict<'a, C, H> {
         line_number: u32,
         line: &[u8],
         walk: &Walk,
-        told: &LineEvent,
+        line_event: &LineEvent,
     ) -> Result<(), Stop> {
-        self.consumer.entry(writer, line_number, line, walk, told)?;
-        if let Some(why) = why_of(walk, told) {
+        self.consumer
+            .entry(writer, line_number, line, walk, line_event)?;
+        if let Some(why) = why_of(walk, line_event) {
             self.hearer.on_skipped(walk, line_number, line, why);
             self.all_served = false;
         }

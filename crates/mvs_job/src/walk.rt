@@ -11,7 +11,7 @@ ghost use Rattle.mvs_model.specs.Runs.{Does, machine};
 ghost use Rattle.mvs_model.specs.Walk.{Closes, has_abended, is_first};
 ghost use Rattle.request_forms.specs.Taking.{Takes};
 ghost use Rattle.mvs_job.specs.LineEvents.{IsAvailable, IsAvailableIn, ServesAsUnder, KeepsReply, KeepsReplyOf, region_card, closing, end_of_step, ended, new_walk};
-ghost use Rattle.mvs_job.specs.Valued.{RequestsOf, WritesOf};
+ghost use Rattle.mvs_job.specs.Valued.{ObservesValues, RequestsOf, WritesOf};
 ghost use Rattle.mvs_job.specs.Observing.{ObservesLine};
 
 use crate::job::Job;
@@ -86,7 +86,7 @@ impl Model for Walk {
     ghost view = { λ w. record { step = w.job; number = w.number; reply = w.reply } };
 }
 
-// The card of a REGION statement of a task; the other statements have none.
+// Returns the card of a REGION statement of a task; the other statements have none.
 fn card_of(task: &Name, statement: &Statement) -> Option<Card>
     requires { (first : Bool) × IsStatement first task.now statement.now }
     ensures card { result ≡ region_card task.now statement.now }
@@ -106,14 +106,14 @@ fn card_of(task: &Name, statement: &Statement) -> Option<Card>
     }
 }
 
-// Whether a task of the step that runs has abended, if one runs.
+// Returns whether a task of the step that runs has abended, if one runs.
 fn end_of(job: &Option<Job>) -> Option<bool>
     ensures { result ≡ end_of_step job.now }
 {
     job.as_ref().map(|job| job.step().abended())
 }
 
-// Whether a task has abended so far.
+// Returns whether a task has abended so far.
 fn has_abended(job: &Option<Job>) -> bool
     ensures { result ≡ has_abended machine job.now }
 {
@@ -139,17 +139,13 @@ fn begin(
     let ended = end_of(job);
     let former = has_abended(job);
     *job = None;
-    match Job::new(alloc, card, placement, former) {
-        Ok(next) => {
-            *job = Some(next);
-            Ok(ended)
-        }
-        Err(_) => Err(OutOfMemoryAt { ended }),
-    }
+    let next = Job::new(alloc, card, placement, former).map_err(|_| OutOfMemoryAt { ended })?;
+    *job = Some(next);
+    Ok(ended)
 }
 
 impl Walk {
-    /// A job before its first line.
+    /// Makes a job before its first line.
     pub fn new(alloc: Global, placement: Placement) -> Walk
         ensures { result ≡ new_walk }
     {
@@ -164,44 +160,56 @@ impl Walk {
         }
     }
 
-    /// The number of the next line.
+    /// Returns the number of the next line.
     pub fn number(&self) -> u32
         ensures { result ≡ self.now.number }
     {
         self.number
     }
 
-    /// The step that runs; None before the first.
+    /// Returns the step that runs; None before the first.
     pub fn job(&self) -> Option<&Job>
         ensures { MatchOption result (self.now.step ≡ None) (λ job. self.now.step ≡ Some job.now) }
     {
         self.job.as_ref()
     }
 
-    /// The tasks that ended with the one that abended, where the last request that was made abended.
+    /// Returns the tasks that ended with the one that abended, where the last request that was made abended.
     pub fn fallen(&self) -> &[Name]
         ensures { result.now ≡ ended_with_in self.now.reply }
     {
         match &self.reply {
             Reply::Abended(_, fallen) => fallen.names(),
-            _ => &[],
+            Reply::NotRun
+            | Reply::Rc0
+            | Reply::Rc4
+            | Reply::Obtained(_)
+            | Reply::Listed(_)
+            | Reply::Cell(_)
+            | Reply::NoCell
+            | Reply::Attached
+            | Reply::Ended
+            | Reply::Done => &[],
         }
     }
 
-    /// The reply to the last request that was made.
+    /// Returns the reply to the last request that was made.
     pub fn reply(&self) -> &Reply
         ensures { result.now ≡ self.now.reply }
     {
         &self.reply
     }
 
-    /// Serves a request of a task that is given by values, and keeps the reply; false where no step runs.
-    pub fn request(&mut self, task: &Name, request: &Request) -> bool
-        ensures { RequestsOf self.old task.now request.now result self.new }
+    /// Executes a request of a task that is given by values, and keeps the reply. Returns false if no step is running. The observer
+    /// sees the request if it is refused.
+    pub fn request<O: Observer>(&mut self, task: &Name, request: &Request, observer: &mut O) -> bool
+        ensures requests { RequestsOf self.old task.now request.now result self.new }
+        ensures observed { ObservesValues O.heard observer.old self.old.step task.now request.now self.new
+            observer.new }
     {
         match &mut self.job {
             Some(job) => {
-                job.request(task, request, &mut self.reply);
+                job.request(task, request, &mut self.reply, observer);
                 true
             }
             None => false,
@@ -222,9 +230,9 @@ impl Walk {
 
     /// Executes one line, which is given without its newline. Areas and cells are placed at the hinted addresses if the machine
     /// allows that.
-    pub fn line(&mut self, line: &[u8], told: &[Addr]) -> Result<LineEvent, OutOfMemoryAt>
+    pub fn line(&mut self, line: &[u8], hints: &[Addr]) -> Result<LineEvent, OutOfMemoryAt>
         requires { self.old.number + 1 < 2 ^ 32 }
-        ensures told { MatchResult result (λ answered. ServesAsUnder (Takes told.now) self.old line.now answered self.new)
+        ensures executed { MatchResult result (λ answered. ServesAsUnder (Takes hints.now) self.old line.now answered self.new)
             (λ stopped. StopsForMemory self.old.number self.old.step (line.now ∷ [])
             (ended stopped.ended)) }
         // Where the line makes a request, the reply that is kept is the one to that, and else the one before.
@@ -232,18 +240,18 @@ impl Walk {
         ensures full_answer { IfOk result (IsAvailable self.new) }
         ensures number { self.new.number ≡ self.old.number + 1 }
     {
-        self.observed_line(line, told, &mut Unobserved)
+        self.observed_line(line, hints, &mut Unobserved)
     }
 
     /// Executes one line as `line` does, and shows its request to an observer if that is refused.
     pub fn observed_line<O: Observer>(
         &mut self,
         line: &[u8],
-        told: &[Addr],
+        hints: &[Addr],
         observer: &mut O,
     ) -> Result<LineEvent, OutOfMemoryAt>
         requires { self.old.number + 1 < 2 ^ 32 }
-        ensures told { MatchResult result (λ answered. ServesAsUnder (Takes told.now) self.old line.now answered self.new)
+        ensures executed { MatchResult result (λ answered. ServesAsUnder (Takes hints.now) self.old line.now answered self.new)
             (λ stopped. StopsForMemory self.old.number self.old.step (line.now ∷ [])
             (ended stopped.ended)) }
         ensures reply { IfOk result (λ answered. KeepsReplyOf self.old line.now answered self.new) }
@@ -275,7 +283,7 @@ impl Walk {
         let served = job.serve(
             task,
             statement,
-            told,
+            hints,
             &mut self.request,
             &mut self.reply,
             observer,
@@ -289,7 +297,7 @@ impl Walk {
         })
     }
 
-    /// How the job ends, if it has no more lines.
+    /// Returns how the job ends, if it has no more lines.
     pub fn close(&self) -> JobEnd
         ensures { Closes machine self.now.number self.now.step
             (closing self.now.number result.ended) result.outcome }

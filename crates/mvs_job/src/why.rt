@@ -1,10 +1,11 @@
 //! Why the line of a job is refused, and what it did otherwise.
 
-ghost use Rattle.std.specs.Prelude.{◌≡◌, ℕ, None, Some};
+ghost use Rattle.std.specs.Prelude.{◌≡◌, [], ℕ, None, Some};
 ghost use Rattle.job_script.specs.Writing.{Prints};
 ghost use Rattle.mvs_job.specs.Explaining.{reason_part};
-ghost use Rattle.mvs_job.specs.Granting.{IsReadIn, before_line, granted_text, reports_grant};
+ghost use Rattle.mvs_job.specs.Granting.{IsReadIn, before_line, facts_after, granted_facts, granted_text, reports_grant};
 ghost use Rattle.mvs_job.specs.LineEvents.{IsAvailable, WalkValue, events_of_line};
+ghost use Rattle.mvs_job.specs.NamedAddress.{reason_address};
 ghost use Rattle.mvs_job.specs.Why.{IsRequestOf, IsSurvey, KeepsWhy, line_reason, unset_of};
 
 use crate::ends::{OwnedSubpools, collect_owned_subpools, no_subpools};
@@ -12,17 +13,21 @@ use crate::granting::{
     Baseline, Facts, before_request, is_grant, no_facts, print_facts, put_facts,
 };
 use crate::job::Job;
+use crate::name_origins::reason_address;
 use crate::observer::Observer;
 use crate::walk::{LineEvent, Walk};
 use job_script::{print_reason, read_line};
 use mvs_model::answer::Answer;
+use mvs_model::fact::Fact;
 use mvs_model::line::{Line, SourceRequest, Statement};
 use mvs_model::name::Name;
+use mvs_model::place::Addr;
 use mvs_model::reason::{LineReason, Reason, Shortfall};
 use mvs_model::refusal::{Consequence, Refusal};
 use mvs_model::request::Request;
 use mvs_model::table::reply_to;
 use mvs_model::watched::{Failed, Watched};
+use request_forms::OwnedSubpool;
 use std::io::Write;
 
 // Returns what is looked up before a line, to report its changes.
@@ -43,11 +48,11 @@ fn before_line(job: &Job, read: &Line) -> Option<Baseline>
 }
 
 /// Returns whether the events of a line say that a request was granted.
-pub(crate) fn reports_grant(told: &LineEvent) -> bool
-    ensures { (number : ℕ) (walk : WalkValue) → IsAvailable walk told.now
-        → result ≡ reports_grant (events_of_line number walk told.now) }
+pub(crate) fn reports_grant(line_event: &LineEvent) -> bool
+    ensures { (number : ℕ) (walk : WalkValue) → IsAvailable walk line_event.now
+        → result ≡ reports_grant (events_of_line number walk line_event.now) }
 {
-    match told {
+    match line_event {
         LineEvent::Answered { answer, .. } => is_grant(answer),
         LineEvent::Nothing | LineEvent::StepBegan { .. } | LineEvent::Faulted(_) => false,
     }
@@ -142,13 +147,11 @@ impl Why {
         }
     }
 
-    // The name that is not set in the line that was read.
+    // Returns the name that is not set in the line that was read.
     fn unset(&self, walk: &Walk) -> Option<LineReason>
         ensures { result ≡ unset_of walk.now.step self.now.read }
     {
-        let Some(job) = walk.job() else {
-            return None;
-        };
+        let job = walk.job()?;
         let name = match &self.read {
             Line::Statement(_, Statement::Request(written)) => job.unset(written),
             Line::Statement(_, Statement::Where(name)) => Some(*name),
@@ -158,17 +161,14 @@ impl Why {
             )
             | Line::Nothing => None,
         };
-        match name {
-            Some(name) => Some(LineReason::NotSet(name)),
-            None => None,
-        }
+        Some(LineReason::NotSet(name?))
     }
 
     /// Returns why the line was not executed as it asks, by its events.
-    pub fn line_reason(&self, walk: &Walk, told: &LineEvent) -> Option<LineReason>
-        ensures { result ≡ line_reason walk.now.step self.now.read self.now.reason told.now }
+    pub fn line_reason(&self, walk: &Walk, line_event: &LineEvent) -> Option<LineReason>
+        ensures { result ≡ line_reason walk.now.step self.now.read self.now.reason line_event.now }
     {
-        let LineEvent::Answered { answer, .. } = told else {
+        let LineEvent::Answered { answer, .. } = line_event else {
             return None;
         };
         match answer {
@@ -186,11 +186,15 @@ impl Why {
             | Answer::Abended(_)
             | Answer::At(_)
             | Answer::Subpools
-            | Answer::Map => match self.reason {
-                Some(reason) => Some(LineReason::Refused(reason)),
-                None => None,
-            },
+            | Answer::Map => Some(LineReason::Refused(self.reason?)),
         }
+    }
+
+    /// Returns the address that a reason for the latest request is about, if it has one.
+    pub fn address(&self, reason: &Reason) -> Option<Addr>
+        ensures { result ≡ reason_address self.now.request reason.now }
+    {
+        reason_address(&self.request, reason)
     }
 
     // Prints why the line was refused.
@@ -211,32 +215,20 @@ impl Why {
         }
     }
 
-    // Prints what the line changed, if its request was granted.
-    pub(crate) fn print_done<W: Write>(
-        &mut self,
-        writer: &mut Watched<W>,
-        walk: &Walk,
-        told: &LineEvent,
-    ) -> Result<(), Failed>
-        requires { IsAvailable walk.now told.now }
-        ensures { (number : ℕ)
-            → Prints W.contents writer.old writer.new result
-            (granted_text self.old.before self.old.read (events_of_line number walk.now told.now)
-            walk.now.step) }
+    // Finds what a granted request of the line changed.
+    fn find_facts(&mut self, walk: &Walk)
+        requires { self.old.facts ≡ [] }
+        ensures { self.new ≡ record self.old { facts = facts_after self.old.before self.old.read walk.now.step } }
     {
-        if !reports_grant(told) {
-            return Ok(());
-        }
         let Some(before) = &self.before else {
-            return Ok(());
+            return;
         };
         let Some(job) = walk.job() else {
-            return Ok(());
+            return;
         };
         match &self.read {
             Line::Statement(task, Statement::Request(written)) => {
                 put_facts(&mut self.facts, before, task, written, job);
-                print_facts(writer, self.facts.as_slice())
             }
             Line::Statement(
                 _,
@@ -245,7 +237,52 @@ impl Why {
                 | Statement::ReportSubpools
                 | Statement::ReportMap,
             )
-            | Line::Nothing => Ok(()),
+            | Line::Nothing => {}
         }
+    }
+
+    /// Finds what the line changed, if its request was granted, by its events and the job after it. `effects` returns that.
+    pub fn find_effects(&mut self, walk: &Walk, line_event: &LineEvent)
+        ensures { (number : ℕ) → IsAvailable walk.now line_event.now
+            → self.new ≡ record self.old {
+              facts = granted_facts self.old.before self.old.read
+                  (events_of_line number walk.now line_event.now) walk.now.step;
+            } }
+    {
+        self.facts.clear();
+        if reports_grant(line_event) {
+            self.find_facts(walk);
+        }
+    }
+
+    /// Returns the changes that were found last.
+    pub fn effects(&self) -> &[Fact]
+        ensures { result.now ≡ self.now.facts }
+    {
+        self.facts.as_slice()
+    }
+
+    /// Returns the subpools that tasks owned before the latest task ended.
+    pub fn subpools(&self) -> &[OwnedSubpool]
+        ensures { result.now ≡ self.now.subpools }
+    {
+        self.subpools.as_slice()
+    }
+
+    // Prints what the line changed, if its request was granted.
+    pub(crate) fn print_done<W: Write>(
+        &mut self,
+        writer: &mut Watched<W>,
+        walk: &Walk,
+        line_event: &LineEvent,
+    ) -> Result<(), Failed>
+        requires { IsAvailable walk.now line_event.now }
+        ensures { (number : ℕ)
+            → Prints W.contents writer.old writer.new result
+            (granted_text self.old.before self.old.read (events_of_line number walk.now line_event.now)
+            walk.now.step) }
+    {
+        self.find_effects(walk, line_event);
+        print_facts(writer, self.effects())
     }
 }

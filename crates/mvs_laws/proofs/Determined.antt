@@ -38,7 +38,7 @@ module _ (P Q : Entered) (decide : Decide P Q) (entries : ℕ → List ℕ) (num
       let names : a.names ≡ b.names = x.names ∙ ap (λ reply. all_set old.names (names_set k) (places_in reply)) s.0 ∙ sym y.names in
       let abended : a.abended ≡ b.abended = x.abended ∙ ap (λ reply. old.abended || is_abend reply) s.0 ∙ sym y.abended in
       let former : a.former ≡ b.former = x.former ∙ sym y.former in
-      (x.told ∙ ap (answer_of old.state k r) s.0 ∙ sym y.told, λ i. record { state = s.1 i; names = names i; abended = abended i; former = former i })
+      (x.answer_is ∙ ap (answer_of old.state k r) s.0 ∙ sym y.answer_is, λ i. record { state = s.1 i; names = names i; abended = abended i; former = former i })
 
   says_one : (s : Statement) → AnswersTo (P (entries number)) old t s answer a → AnswersTo (Q (entries number)) old t s other b → (answer ≡ other) × (a ≡ b)
   says_one (says.Region below above fill residence) x y = absurd x
@@ -75,7 +75,7 @@ Meets C D = (old : State) (t : Name) (r : Request) (reply : Reply) (new : State)
 module _ (C D : Condition) (meets : Meets C D) where
   asks_other : (old : JobValue) (t : Name) (k : SourceRequest) (r : Option Request) (answer : Answer) (new : JobValue) → Asks C old t k r answer new → Asks D old t k r answer new
   asks_other old t k None answer new x = x
-  asks_other old t k (Some r) answer new x = record { reply = x.reply; step = x.step; meets = meets old.state t r x.reply new.state x.meets; names = x.names; abended = x.abended; former = x.former; told = x.told }
+  asks_other old t k (Some r) answer new x = record { reply = x.reply; step = x.step; meets = meets old.state t r x.reply new.state x.meets; names = x.names; abended = x.abended; former = x.former; answer_is = x.answer_is }
 
   says_other : (old : JobValue) (t : Name) (s : Statement) (answer : Answer) (new : JobValue) → AnswersTo C old t s answer new → AnswersTo D old t s answer new
   says_other old t (says.Region below above fill residence) answer new x = absurd x
@@ -112,7 +112,7 @@ module _ (C D : ℕ → Condition) where
 -- each statement picks some addresses
 asks_at : (old : JobValue) (t : Name) (k : SourceRequest) (r : Option Request) (answer : Answer) (new : JobValue) → Asks Any old t k r answer new → (at : List ℕ) × Asks (Picks at) old t k r answer new
 asks_at old t k None answer new x = ([], x)
-asks_at old t k (Some r) answer new x = (picked r x.reply new.state, record { reply = x.reply; step = x.step; meets = refl; names = x.names; abended = x.abended; former = x.former; told = x.told })
+asks_at old t k (Some r) answer new x = (picked r x.reply new.state, record { reply = x.reply; step = x.step; meets = refl; names = x.names; abended = x.abended; former = x.former; answer_is = x.answer_is })
 
 says_at : (old : JobValue) (t : Name) (s : Statement) (answer : Answer) (new : JobValue) → AnswersTo Any old t s answer new → (at : List ℕ) × AnswersTo (Picks at) old t s answer new
 says_at old t (says.Region below above fill residence) answer new x = absurd x

@@ -1,4 +1,4 @@
--- Whether, where and how a script faults is told by its lines alone.
+-- Whether, where and how a script faults is decided by its lines.
 use Rattle.std.proofs.Common.{◌≡◌, ◌≢◌, ℕ, ◌+◌, ◌&&◌, ◌||◌, inl, inr, Bool, true, false, List, [], ◌∷◌, ◌++◌, append_assoc, Option, Some, None, sym, ap, ◌∙◌, subst, not, if◌then◌else◌, arith}
 use Rattle.std.proofs.lemmas.Bool.Decides.{nat_tests}
 use Rattle.std.proofs.lemmas.Grind.{common_steps}
@@ -32,7 +32,7 @@ kind_said bytes l e = at (is_blank_or_comment bytes) e where
   at true f = ap (λ k. not (is_statement k)) (let g : line.Nothing ≡ l = cc in g)
   at false f = ap not (sym (with_says (task_in bytes) (form_in (operation_in bytes) (operands_of bytes)) (operands_of bytes) (row_of (operation_in bytes) (operands_of bytes)) l f))
 
--- behind a line no statement came before where none did and the line says nothing
+-- after a line no statement came before where none did and the line says nothing
 serves_first : (number : ℕ) (old : Option JobValue) (l : Line) (events : List Event) (new : Option JobValue) → Serves machine number old l events new → is_first new ≡ (is_first old && not (is_statement l))
 serves_first number old l events new h1 = grind (arith, nat_tests, served_first, served_in)
 

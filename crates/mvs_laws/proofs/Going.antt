@@ -102,7 +102,7 @@ asks_some old t a (Some q) r all =
     let s = step_some old.state t q all (r q refl) in (
       _,
       record { state = s.1.0; names = all_set old.names (names_set a) (places_in s.0); abended = old.abended || is_abend s.0; former = old.former },
-      record { reply = s.0; step = s.1.1; meets = tt; names = refl; abended = refl; former = refl; told = refl },
+      record { reply = s.0; step = s.1.1; meets = tt; names = refl; abended = refl; former = refl; answer_is = refl },
     )
 
 says_some : (old : JobValue) (t : Name) (s : Statement) → IsOfStep s → IsStatement false t s → PoolsSized old.state → (answer : Answer) × (new : JobValue) × AnswersTo Any old t s answer new

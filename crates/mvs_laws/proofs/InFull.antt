@@ -84,7 +84,7 @@ asks_full old t a (Some q) h r sized =
     let s = step_some old.state t q sized (r q refl).1 in (
       _,
       record { state = s.1.0; names = all_set old.names (names_set a) (places_in s.0); abended = old.abended || is_abend s.0; former = old.former },
-      record { reply = s.0; step = s.1.1; meets = touch_full q s.0 touches (touch_reply old.state t q s.0 s.1.0 touches (step_cases old.state t q s.0 s.1.0 s.1.1)); names = refl; abended = refl; former = refl; told = refl },
+      record { reply = s.0; step = s.1.1; meets = touch_full q s.0 touches (touch_reply old.state t q s.0 s.1.0 touches (step_cases old.state t q s.0 s.1.0 s.1.1)); names = refl; abended = refl; former = refl; answer_is = refl },
     )
 
 does_full : (old : JobValue) (t : Name) (a : SourceRequest) → AsksTouch a → IsWritten a → PoolsSized old.state → (answer : Answer) × (new : JobValue) × Does InFull old t (says.Request a) answer new
@@ -173,7 +173,7 @@ obtain_does = at (is_active at_start.state.owners job) job_active where
       let g = grants s.0 s.1.0 s.1.1 in (
         _,
         record { state = s.1.0; names = all_set at_start.names (names_set obtain_x) (places_in s.0); abended = at_start.abended || is_abend s.0; former = at_start.former },
-        record { reply = s.0; step = s.1.1; meets = obtain_full s.0 g.0 g.1 g.2; names = refl; abended = refl; former = refl; told = refl },
+        record { reply = s.0; step = s.1.1; meets = obtain_full s.0 g.0 g.1 g.2; names = refl; abended = refl; former = refl; answer_is = refl },
       )
 
   at : (b : Bool) → b ≡ true → (answer : Answer) × (new : JobValue) × MatchBool (not b) (OnlyAnswers at_start tells.NotRun answer new) (AnswersTo InFull at_start job (says.Request obtain_x) answer new)

@@ -49,7 +49,7 @@ changed_some b x o h1 = grind (arith, common_steps)
 
 -- ---- a task enters a subpool
 
--- What is so behind it: all are owned, and what had an owner has one.
+-- What is so after it: all are owned, and what had an owner has one.
 record Entered (o : Owners) (s : ℕ) (new : Owners) : Type 0 where
   owned : Owned new
   tasks : new.tasks ≡ o.tasks
@@ -114,7 +114,7 @@ module _ (o : Owners) (t : Name) (fallen : List Name) (new : Owners) (ends : End
 
 -- ---- a subtask is attached
 
--- What is so behind the subpools that an ATTACH makes.
+-- What is so after the subpools that an ATTACH makes.
 record Made (o new : Owners) : Type 0 where
   owned : Owned new
   tasks : new.tasks ≡ o.tasks

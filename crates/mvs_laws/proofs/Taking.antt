@@ -1,4 +1,4 @@
--- A request that takes the addresses that it is told obeys.
+-- A request that takes the hinted addresses obeys.
 use Rattle.std.proofs.Common.{◌≡◌, ◌≤◌, ◌⊎◌, ℕ, inl, inr, true, List, [], ◌∷◌, map, arith, sym, ap, ◌∙◌, subst}
 use Rattle.std.specs.Prelude.{not, ◌≢◌, nat_le}
 use Rattle.std.specs.List.{list_all}

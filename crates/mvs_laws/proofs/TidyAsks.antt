@@ -122,7 +122,7 @@ module _ (job new : JobValue) (m : Labels) (k : Link job m) (t : Name) (active :
       one job new m k t a answer (λ x. request.Show x n) location n n (λ q later. cases.Accesses m t (is_there m q) (labels.AnswersWith (Data (bytes_in m q.label q.place.addr n)) m answer later) answer later) tidy h (λ q size there x e.
       let d = accesses job new m k t a answer (request.Show (k.base q.label + q.place.addr) n) x (all_granted job.state (place_at (k.base q.label + q.place.addr) n)) (new.state ≡ job.state) (there_granted job m k (spot q.label q.place.addr n) there) (acts job new m k t a answer (request.Show (k.base q.label + q.place.addr) n) x.reply active x.step) in
       let s = done_same job new m k t a answer (request.Show (k.base q.label + q.place.addr) n) d.0 in
-      (m, allowed m q size there (labels.AnswersWith (Data (bytes_in m q.label q.place.addr n)) m answer m) (d.0.told ∙ ap Data (shown_same job m k (spot q.label q.place.addr n) there), refl), link_same job new m k t a (request.Show (k.base q.label + q.place.addr) n) answer d.1 s.0 s.1 s.2))
+      (m, allowed m q size there (labels.AnswersWith (Data (bytes_in m q.label q.place.addr n)) m answer m) (d.0.answer_is ∙ ap Data (shown_same job m k (spot q.label q.place.addr n) there), refl), link_same job new m k t a (request.Show (k.base q.label + q.place.addr) n) answer d.1 s.0 s.1 s.2))
 
   case_put : (location : Location) (bytes : List ℕ) → Same (written.Put location bytes)
   case_put location bytes tidy h =
@@ -132,7 +132,7 @@ module _ (job new : JobValue) (m : Labels) (k : Link job m) (t : Name) (active :
       (there_granted job m k (spot q.label q.place.addr (length bytes)) there) (acts job new m k t a answer (request.Put (k.base q.label + q.place.addr) bytes) x.reply active x.step) in
       let s = done_same job new m k t a answer (request.Put (k.base q.label + q.place.addr) bytes) d.0 in (
         with_bytes m q (slice_get bytes),
-        allowed (with_bytes m q (slice_get bytes)) q size there (labels.AnswersWith tells.Done (with_bytes m q (slice_get bytes)) answer (with_bytes m q (slice_get bytes))) (d.0.told, refl),
+        allowed (with_bytes m q (slice_get bytes)) q size there (labels.AnswersWith tells.Done (with_bytes m q (slice_get bytes)) answer (with_bytes m q (slice_get bytes))) (d.0.answer_is, refl),
         link_write job new m k q (subst (λ y. is_there m (spot q.label q.place.addr y) ≡ true) (sym size) there) (slice_get bytes) (bytes_from (k.base q.label + q.place.addr) bytes)
             (λ j less. ap (slice_get bytes) (let z : k.base q.label + q.place.addr + j - (k.base q.label + q.place.addr) ≡ j = omega arith in z))
             (λ j less. byte_some bytes j (subst (λ y. j < y) size less))
@@ -233,7 +233,7 @@ module _ (job new : JobValue) (m : Labels) (k : Link job m) (t : Name) (active :
         let s = done_same job new m k t a answer req d.0 in
         let later = with_bytes m q (λ i. m.byte r.label (r.place.addr + i)) in (
           later,
-          subst (λ v. on later v (spot_of m from n)) (sym u) (subst (λ w. on later (Some q) w) (sym x) (match_false (labels.Abends m t (System 0x0C4) answer later) (labels.AnswersWith tells.Done later answer later) (not (is_there m q && is_there m r)) (ap not (and_from (is_there m q) (is_there m r) (subst (λ y. is_there m (spot q.label q.place.addr y) ≡ true) (sym len) to_there) (subst (λ y. is_there m (spot r.label r.place.addr y) ≡ true) (sym size) from_there))) (d.0.told, refl))),
+          subst (λ v. on later v (spot_of m from n)) (sym u) (subst (λ w. on later (Some q) w) (sym x) (match_false (labels.Abends m t (System 0x0C4) answer later) (labels.AnswersWith tells.Done later answer later) (not (is_there m q && is_there m r)) (ap not (and_from (is_there m q) (is_there m r) (subst (λ y. is_there m (spot q.label q.place.addr y) ≡ true) (sym len) to_there) (subst (λ y. is_there m (spot r.label r.place.addr y) ≡ true) (sym size) from_there))) (d.0.answer_is, refl))),
           link_write job new m k q (subst (λ y. is_there m (spot q.label q.place.addr y) ≡ true) (sym len) to_there) (λ i. m.byte r.label (r.place.addr + i)) (moved_from job.state (k.base q.label + q.place.addr) (k.base r.label + r.place.addr))
               (λ j less. byte_from r (subst (λ y. j < y) len less) from_there) (λ j less. there_from r (subst (λ y. j < y) len less) from_there)
               (subst (λ y. Writes job.state (place_at (k.base q.label + q.place.addr) y) (moved_from job.state (k.base q.label + q.place.addr) (k.base r.label + r.place.addr)) new.state) (sym len) d.1) s.0 s.1 s.2,

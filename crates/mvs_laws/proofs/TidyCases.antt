@@ -35,10 +35,10 @@ pub record Made (job new : JobValue) (a : SourceRequest) (r : Request) (reply : 
   pub names : new.names ≡ all_set job.names (names_set a) (places_in reply)
   pub abended : new.abended ≡ (job.abended || is_abend reply)
   pub former : new.former ≡ job.former
-  pub told : answer ≡ answer_of job.state a r reply
+  pub answer_is : answer ≡ answer_of job.state a r reply
 
 pub made_of : (job new : JobValue) (t : Name) (a : SourceRequest) (r : Request) (answer : Answer) (k : Makes InFull job t a r answer new) → Made job new a r k.reply answer
-made_of job new t a r answer k = record { names = k.names; abended = k.abended; former = k.former; told = k.told }
+made_of job new t a r answer k = record { names = k.names; abended = k.abended; former = k.former; answer_is = k.answer_is }
 
 -- the labels that a relation allows, linked with the job
 abbrev pub Linked : JobValue → (Labels → Type 0) → Type 0
@@ -74,7 +74,7 @@ module _ (job new : JobValue) (m : Labels) (k : Link job m) (t : Name) (a : Sour
       let now = turned reply (Abended code h.0.fallen) h.1 made in
       let e = ends true h.0 (now.names ∙ none_set job (names_set a)) true (now.abended ∙ or-true job.abended) now.former h.0 in (
         record (without m (λ l i. ends_with m.owners t h.0.fallen (m.subpool l))) { owners = new.state.owners; abended = true },
-        (h.0.fallen, record (without m (λ l i. ends_with m.owners t h.0.fallen (m.subpool l))) { owners = new.state.owners }, e.0, (now.told, refl)),
+        (h.0.fallen, record (without m (λ l i. ends_with m.owners t h.0.fallen (m.subpool l))) { owners = new.state.owners }, e.0, (now.answer_is, refl)),
         e.1,
       )
 
@@ -89,7 +89,7 @@ module _ (job new : JobValue) (m : Labels) (k : Link job m) (t : Name) (a : Sour
   refuses wanted reply hints p said made h =
       let now = turned reply wanted h.0 made in
       let s = same_names wanted p now in
-      (m, (now.told ∙ said, refl), link_same h.1 s.0 s.1 s.2)
+      (m, (now.answer_is ∙ said, refl), link_same h.1 s.0 s.1 s.2)
 
   pub fails : (conditional : Bool) (code : Code) (reply : Reply) → Replied reply → Fails conditional job.state t code reply new.state → Linked new (cases.Fails conditional m t code answer)
   fails true code reply made h = refuses Rc4 reply tells.Rc4 (refl, refl) refl made h
@@ -125,7 +125,7 @@ module _ (job new : JobValue) (m : Labels) (k : Link job m) (t : Name) (a : Sour
             let now = turned reply (Obtained g.0) g.1 made in
             let size = largest g.0 g.1 in
             let one = grant_one job m k (effective_task m.owners t n) n (round8 most) want g.0 new.state (subst (λ o. GrantTo job.state (effective_task o t n) n want g.0 new.state) k.owners g.2) size in
-            obtained n form (most ∷ []) (area ∷ []) (g.0 ∷ []) hints valid (now.names ∙ ap (λ names. all_set job.names names (g.0 ∷ [])) sets) (now.abended ∙ or-false job.abended) now.former (now.told ∙ said g.0 size)
+            obtained n form (most ∷ []) (area ∷ []) (g.0 ∷ []) hints valid (now.names ∙ ap (λ names. all_set job.names names (g.0 ∷ [])) sets) (now.abended ∙ or-false job.abended) now.former (now.answer_is ∙ said g.0 size)
             one.0 one.1 (one.0, one.2, refl) (one.4, (let c : one.0.count ≡ m.count + 1 = one.5 in omega (arith, c)), tt)
       ])
 
@@ -140,6 +140,6 @@ module _ (job new : JobValue) (m : Labels) (k : Link job m) (t : Name) (a : Sour
         | inr g ↦
             let now = turned reply (Listed g.0) g.1 made in
             let all = grant_each (effective_task m.owners t n) n ns wants g.0 new.state job m k fixed (subst (λ o. ListGrant job.state (effective_task o t n) n wants g.0 new.state) k.owners g.2) in
-            obtained n form ns areas g.0 tells.Rc0 valid (now.names ∙ ap (λ names. all_set job.names names g.0) sets) (now.abended ∙ or-false job.abended) now.former (now.told ∙ said g.0)
+            obtained n form ns areas g.0 tells.Rc0 valid (now.names ∙ ap (λ names. all_set job.names names g.0) sets) (now.abended ∙ or-false job.abended) now.former (now.answer_is ∙ said g.0)
             all.0 all.1 all.2 all.4
       ])

@@ -37,7 +37,7 @@ Answers old [] (a ∷ answers) new = ⊥
 Answers old (s ∷ ss) [] new = ⊥
 Answers old (s ∷ ss) (a ∷ answers) new = IsOfStep s.1 × IsTidy old s.0 s.1 × ((mid : Labels) × Does old s.0 s.1 a mid × Answers mid ss answers new)
 
--- what is told then, from a line on
+-- what is known then, from a line on
 abbrev pub hints : ℕ → List (Name × Statement) → List Answer → List Event
 hints number [] answers = []
 hints number (s ∷ ss) [] = []
@@ -69,7 +69,7 @@ walked (l ∷ lines) (s ∷ ss) (a ∷ answers) number old new r w =
 abbrev pub moves_start : Labels
 moves_start = first_labels (card_of job 1 0 0 Below) false
 
--- all that is told of an example
+-- all that is known of an example
 abbrev pub all_told : List (Name × Statement) → List Answer → Bool → List Event
 all_told ss answers abended = AnswerTo 1 job (Region (card_of job 1 0 0 Below)) ∷ hints 2 ss answers ++ StepEnded abended ∷ []
 

@@ -81,7 +81,7 @@ module _ (job new : JobValue) (m : Labels) (k : Link job m) (t : Name) (a : Sour
             let frees = subst (λ ps. Frees job.state ps new.state) (rounded_all qs) f.2 in
             let w2 = subst (AllByRecursion IsWhole) (rounded_all qs) w in (
               without m (λ l i. list_any (λ q. has_offset q l i) (map rounded qs)),
-              match_false _ (Freed (without m (λ l i. list_any (λ q. has_offset q l i) (map rounded qs)))) (not (may_free m (subpool_meant m.owners t n) (map rounded qs))) (ap not may) (now.told, refl),
+              match_false _ (Freed (without m (λ l i. list_any (λ q. has_offset q l i) (map rounded qs)))) (not (may_free m (subpool_meant m.owners t n) (map rounded qs))) (ap not may) (now.answer_is, refl),
               link_less job new m k (λ l i. list_any (λ q. has_offset q l i) (map rounded qs)) (goes_freed job m k (map rounded qs) new.state there w2 frees) s.0 m.owners (frees.owners ∙ k.owners) m.abended (s.1 ∙ k.abended) s.2,
             )
 
@@ -100,7 +100,7 @@ module _ (job new : JobValue) (m : Labels) (k : Link job m) (t : Name) (a : Sour
       let now = turned job new m k t a r answer reply Rc0 y.0 made in
       let s = same_names job new m k t a r answer Rc0 (refl, refl) now in (
         empty_now,
-        match_false _ (Zero empty_now) (is_invalid n) valid (match_false (labels.Abends m t (User 4006) answer empty_now) (Gone empty_now) (n == 0) other (now.told, refl)),
+        match_false _ (Zero empty_now) (is_invalid n) valid (match_false (labels.Abends m t (User 4006) answer empty_now) (Gone empty_now) (n == 0) other (now.answer_is, refl)),
         emptied (subpool_meant m.owners t n) (subst (λ o. EmptiesEntry job.state (subpool_meant o t n) new.state) k.owners y.1) s.0 s.1 s.2,
       ))) where
         empty_now : Labels
@@ -118,7 +118,7 @@ module _ (job new : JobValue) (m : Labels) (k : Link job m) (t : Name) (a : Sour
       let now = turned job new m k t a r answer reply Attached h.0 made in
       let s = same_names job new m k t a r answer Attached (refl, refl) now in (
         record m { owners = new.state.owners },
-        (new.state.owners, subst (λ o. Attach o t name gifts residence new.state.owners) k.owners h.1.owners, (now.told, refl)),
+        (new.state.owners, subst (λ o. Attach o t name gifts residence new.state.owners) k.owners h.1.owners, (now.answer_is, refl)),
         link_owners job new m k new.state.owners m.abended h.1.held h.1.bytes h.1.pools h.1.regions refl s.0 (s.1 ∙ k.abended) s.2,
       )
 
@@ -130,4 +130,4 @@ module _ (job new : JobValue) (m : Labels) (k : Link job m) (t : Name) (a : Sour
       let now = turned job new m k t a r answer reply Ended x.0 made in
       let s = same_names job new m k t a r answer Ended (refl, refl) now in
       let e = ends job new m k t a r answer true x.1 s.0 m.abended (s.1 ∙ k.abended) s.2 x.1 in
-      (_, match_false _ ((fallen : List Name) × (mid : Labels) × Leaves m t fallen mid × labels.AnswersWith tells.Ended mid answer _) (has_subtask m.owners t) (ap (λ o. has_subtask o t) (sym k.owners) ∙ alone) (x.1.fallen, _, e.0, (now.told, refl)), e.1))
+      (_, match_false _ ((fallen : List Name) × (mid : Labels) × Leaves m t fallen mid × labels.AnswersWith tells.Ended mid answer _) (has_subtask m.owners t) (ap (λ o. has_subtask o t) (sym k.owners) ∙ alone) (x.1.fallen, _, e.0, (now.answer_is, refl)), e.1))

@@ -44,7 +44,7 @@ line_says task operation operands bytes is field = λ i.
 skip : (fault : Fault) (holds : Bool) (checks : List (Fault × Bool)) → holds ≡ false → first_of (fault when holds ∷ checks) ≡ first_of checks
 skip fault holds checks e = ap (λ t. if t then Some fault else first_of checks) e
 
--- An operand passes behind those on its left.
+-- An operand passes after those on its left.
 record Passes (row : Row) (left : List (List ℕ)) (operand : List ℕ) : Type 0 where
   of_kind : if_kind (λ kind. is_of kind (text_of operand)) (kind_of row left operand) ≡ true
   once : ((has_key operand && has (key_of operand) left) || if_kind (λ kind. repeats kind (text_of operand)) (kind_of row left operand)) ≡ false
@@ -85,7 +85,7 @@ letter_printed b e = grind (arith, nat_tests)
 keyed_has_key : (key text : List ℕ) → has_key (key ++ (61 ∷ text)) ≡ true
 keyed_has_key key text = grind (arith, common_steps, or_right)
 
--- the first equals sign is the one behind the key
+-- the first equals sign is the one after the key
 equals_at : (key text : List ℕ) → list_all is_letter key ≡ true → position_or_len is_equals (key ++ (61 ∷ text)) ≡ length key
 equals_at [] text e = refl
 equals_at (b ∷ key) text e =
@@ -360,7 +360,7 @@ known row e =
     let one = and_parts a b two.0 in
     record { word = record { some = not-true _ one.0; printed = one.1 }; there = not-true _ two.1; field = three.1; takes = four.1; forms = five.1; keys = six.1 }
 
--- the operands behind the form
+-- the operands after the form
 behind : (b : Bool) (form : List ℕ) (l : List (List ℕ)) → (if b then (if b then l else form ∷ l) else drop 1 (if b then l else form ∷ l)) ≡ l
 behind b form l = grind (arith, common_steps)
 
@@ -406,7 +406,7 @@ pairs_operands row (pair ∷ pairs) letters fit = (keyword_operand pair.0 pair.1
 form_and : (b : Bool) (form : List ℕ) (l : List (List ℕ)) → (b ≡ false → IsOperand form) → AllByRecursion IsOperand l → AllByRecursion IsOperand (if b then l else form ∷ l)
 form_and b form l h1 h2 = grind (arith, common_steps)
 
--- no check applies to the operands behind the form
+-- no check applies to the operands after the form
 row_passes : (row : Row) (operands list : List (List ℕ)) (os : ByKey) → operands_after_form row operands ≡ list → by_key list ≡ os → EachPasses row [] list
     → lacks_positional row os ≡ false → lacks_keyword row os ≡ false → list_any (is_half os) row.rules ≡ false → list_any (is_conflict os) row.rules ≡ false
     → first_of (row_checks operands (Some row)) ≡ None

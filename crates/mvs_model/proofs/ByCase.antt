@@ -62,7 +62,7 @@ ObtainStep old t form number want reply new =
     ((ShortOf old (effective_task old.owners t number) number want × Fails (is_conditional form) old t (short (family form)) reply new)
     ⊎ ((p : PlaceValue) × (reply ≡ Obtained p) × GrantTo old (effective_task old.owners t number) number want p new))
 
--- The same for a list: all its places are granted, or none. (Assembler Services Reference, GETMAIN)
+-- An invalid subpool number abends; of a list all places are granted, or none. (Assembler Services Reference, GETMAIN)
 abbrev pub ObtainListStep : State → Name → Form → ℕ → List WantValue → Reply → State → Type 0
 ObtainListStep old t form number wants reply new =
     MatchBool (is_invalid number)

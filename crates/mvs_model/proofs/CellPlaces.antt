@@ -16,7 +16,7 @@ address_yes p a low high = grind (arith, nat_tests)
 pub whole_has : (p : PlaceValue) (a : ℕ) → IsWhole p → has_address p a ≡ covers p (a / 8)
 whole_has p a w = let u : p.addr % 8 ≡ 0 = w.0 in let v : p.len % 8 ≡ 0 = w.1 in grind (arith, nat_tests)
 
--- a later cell begins behind the end of an earlier one
+-- a later cell begins after the end of an earlier one
 pub behind_cell : (i j size : ℕ) → i < j → i * size + size ≤ j * size
 behind_cell i j size l = let m : suc i * size ≤ j * size = mul-le-mul_right size l in omega arith
 

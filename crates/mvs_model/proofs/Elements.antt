@@ -7,7 +7,7 @@ use Rattle.std.proofs.lemmas.Grind.{common_steps}
 use Rattle.mvs_model.specs.Storage.{is_one_of}
 use Rattle.mvs_model.proofs.Tests.{false_true}
 
--- an element of a list, behind another one
+-- an element of a list, after another one
 pub later : {Y : Type 0} (x y : Y) (ys : List Y) → Contains ys x → Contains (y ∷ ys) x
 later x y ys h = (suc h.0, (let l : h.0 < length ys = h.1 in omega arith), h.2)
 

@@ -90,7 +90,7 @@ each_fits row (o ∷ os) kinds fit =
     at None here each fits = each
     at (Some text) here each fits = ((o.kind, here, fits), each)
 
--- whether what a row allows can be told without the texts: no key twice, none that is required left out, none without its other
+-- whether what a row allows can be decided without the texts: no key twice, none that is required left out, none without its other
 abbrev pub suits : Row → List (List ℕ) → List Operand → Bool
 suits row places os =
     row.has_field && (not (is_twice bytes_eq (keys_of os)) && (not (lacks_positional row (said places os)) && (not (lacks_keyword row (said places os)) && not (list_any (is_half (said places os)) row.rules))))

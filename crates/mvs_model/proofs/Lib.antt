@@ -2,6 +2,7 @@ pub mod Types
 pub mod ByCase
 pub mod Tests
 pub mod Below
+pub mod NextNames
 pub mod Reasons
 pub mod CellPlaces
 pub mod Decide

@@ -10,7 +10,7 @@ use Rattle.std.proofs.Math.Bool.{and-true, and_assoc}
 use Rattle.std.proofs.lemmas.Grind.{common_steps}
 use Rattle.mvs_model.specs.Name.{AreBytes}
 
--- the number that the bytes spell behind another
+-- the number that the bytes spell after another
 abbrev spelled : ℕ → List ℕ → ℕ
 spelled n [] = n
 spelled n (b ∷ bs) = spelled (n * 256 + b) bs

@@ -6,7 +6,7 @@ use Rattle.std.proofs.lemmas.List.{get_or-replicate}
 use Rattle.std.proofs.lemmas.Bool.Decides.{nat_tests}
 use Rattle.mvs_model.specs.Name.{IsNameText, IsName, padded}
 
--- a byte of the text, and a byte behind it
+-- a byte of the text, and a byte after it
 byte_in : (text : List ℕ) (k : ℕ) → k < length text → get_or (padded text) k 0 ≡ get_or text k 0
 byte_in text k l = get_or-append text _ 0 k l
 

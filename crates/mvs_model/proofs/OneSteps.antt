@@ -229,7 +229,7 @@ module _ (old : State) (t : Name) (one other : Reply) (a b : State) where
   gets_same : (mid : State) (name : Name) (pool : Pool) (c d : ℕ) → c ≡ d → Gets mid name pool c one a → Gets mid name pool d other b → Same
   gets_same mid name pool c d e x y = (x.1 ∙ ap (λ c. Cell (cell_at pool c)) e ∙ sym y.1, one_takes mid name pool d a b (subst (λ c. TakesCell mid name pool c a) e x.0) y.0)
 
-  -- the cell that two replies tell, and the parts behind them
+  -- the cell that two replies tell, and the parts after them
   cells : (mid last : State) (name : Name) (pool more : Pool) (c d : ℕ) → Gets mid name pool c one a → Gets last name more d other b → granted_at one ++ parts_at (get a.pools name) ≡ granted_at other ++ parts_at (get b.pools name)
       → (c ≡ d) × (map (λ part. part.place.addr) pool.parts ≡ map (λ part. part.place.addr) more.parts)
   cells mid last name pool more c d x y e =
@@ -347,7 +347,7 @@ module _ (old : State) (t : Name) (one other : Reply) (a b : State) where
     at (inl x) (inr y) = absurd (no_build old _ name number plan b x.0 y.0)
     at (inr x) y = absurd (built_some a name number plan _ x.0 e)
 
-  -- a cell that is taken is told
+  -- a cell that is taken is in the reply
   took_some : (mid : State) (name : Name) (pool : Pool) (c : ℕ) → Gets mid name pool c one a → granted_at one ≡ [] → ⊥
   took_some mid name pool c x e = let f : c ∷ [] ≡ [] = sym (ap granted_at x.1) ∙ e in cc
 

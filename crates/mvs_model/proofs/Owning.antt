@@ -43,7 +43,7 @@ at_most_total k [] h = false_true h
 at_most_total k (x ∷ xs) h = grind (arith, nat_tests, total, eq_by_cmp_is, at_most_total k xs)
 
 module _ (o : Owners) where
-  -- nobody owns the number behind all
+  -- nobody owns the number after all
   past : (s : ℕ) → total (keys o.owner) < s → get o.owner s ≡ None
   past s l = at (get o.owner s) refl where
     at : (v : Option Name) → get o.owner s ≡ v → v ≡ None

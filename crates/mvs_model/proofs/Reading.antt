@@ -55,7 +55,7 @@ passing_have P test (x ∷ xs) all = grind (arith, nat_tests, passing_have P tes
 
 -- ---- the rows
 
--- two keywords that are required, and what comes behind them
+-- two keywords that are required, and what comes after them
 two : (one other : List ℕ) (os : ByKey) (b : Bool) → (not (is_some (os.under one)) || (not (is_some (os.under other)) || b)) ≡ false → (is_some (os.under one) ≡ true) × (is_some (os.under other) ≡ true)
 two one other os b h1 = grind (arith, nat_tests, there)
 
@@ -198,7 +198,7 @@ with_row task form operands o h1 h2 h3 = grind (arith, nat_tests, bind_some, the
 known_row : (operation : List ℕ) (operands : List (List ℕ)) (row : Row) → row_of operation operands ≡ Some row → IsEnough row
 known_row operation operands row e = found_has IsEnough _ (rows_of operation) row (passing_have IsEnough (λ row. bytes_eq row.operation operation) table all_enough) e
 
--- what stands at the front of such a list does not apply, and neither does what comes behind the first few
+-- what stands at the front of such a list does not apply, and neither does what comes after the first few
 abbrev pub FirstFails : List (Fault × Bool) → Type 0
 FirstFails [] = Unit {0}
 FirstFails (check ∷ checks) = check.1 ≡ false

@@ -66,7 +66,7 @@ before_blank (x ∷ xs) rest e =
 
 -- ---- cut at commas
 
--- how many parentheses are open behind a byte
+-- how many parentheses are open after a byte
 abbrev opened_by : ℕ → ℕ → ℕ
 opened_by opened b = if b == 40 then opened + 1 else (if b == 41 then opened - 1 else opened)
 

@@ -136,7 +136,7 @@ module _ (old new : State) (t : Name) (reply : Reply) where
   abbrev Releases : Form → Option ℕ → List PlaceValue → Type 0
   Releases form v ps = ((MayRelease old v ps → ⊥) × Fails (is_conditional form) old t (not_held (family form)) reply new) ⊎ (MayRelease old v ps × (reply ≡ Rc0) × Frees old ps new)
 
-  -- the causes of a release behind its number and its addresses
+  -- the causes of a release after its number and its addresses
   abbrev place_causes : Option ℕ → List PlaceValue → List Cause
   place_causes v ps = NoSubpool when not (is_some v) ∷ NotHeld unless HoldsEach old v ps ∷ Overlap unless Disjoint ps ∷ []
 

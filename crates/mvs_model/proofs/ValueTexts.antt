@@ -295,7 +295,7 @@ absolute_is a small =
       (λ i. if q.quotes i then Absolute (hex_number (q.inside i)) else Named (padded (before_first is_plus text)) (number (after_first is_plus text))) ∙ ap (λ n. Absolute n) w.value,
     )
 
--- the plus sign behind a name
+-- the plus sign after a name
 plus_at : (name text : List ℕ) → list_all is_name_byte name ≡ true → position_or_len is_plus (name ++ (43 ∷ text)) ≡ length name
 plus_at [] text e = refl
 plus_at (b ∷ name) text e =

@@ -2,6 +2,7 @@
 pub mod Numbers
 pub mod Name
 pub mod LastPart
+pub mod NextName
 pub mod NextOwned
 pub mod Place
 pub mod Subpool

@@ -62,7 +62,7 @@ pub record MoreFaults : Type 0 where
   pub high_address : FaultOf false (codes "JOB SHOW X'80000000',8") OutOfRange
   pub eleven_digits : FaultOf false (codes "JOB ABEND 00000000001") OutOfRange
   pub word_padded : FaultOf false (codes "JOB GETMAIN RC,LV=8,A=X,LOC=024") InvalidOperand
-  pub behind_keyword : FaultOf false (codes "JOB CPOOL GET,CPID=P,COND,CELL=C") InvalidOperand
+  pub after_keyword : FaultOf false (codes "JOB CPOOL GET,CPID=P,COND,CELL=C") InvalidOperand
   pub range_first : FaultOf false (codes "JOB GETMAIN R,LV=0,LV=8,A=X") OutOfRange
   pub twice_first : FaultOf false (codes "JOB GETMAIN R,LV=8,LV=0,A=X") Repeated
   pub malformed_first : FaultOf false (codes "JOB GETMAIN R,LV=8,LV=X,A=X") InvalidOperand

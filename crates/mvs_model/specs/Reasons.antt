@@ -6,7 +6,7 @@ use Rattle.mvs_model.specs.declared.name.Name.{Name}
 use Rattle.mvs_model.specs.declared.request.Request.{Request}
 use Rattle.mvs_model.specs.declared.request.Request.TheVariants.{Obtain, ObtainList, Release, ReleaseList, ReleaseWhole, Build, Get, Free, Attach, Abend, Show, Put, Move}
 use Rattle.mvs_model.specs.declared.reason.Holder.{Holder}
-use Rattle.mvs_model.specs.declared.reason.Holder.TheVariants.{Nobody, Subpool, Unowned, Part}
+use Rattle.mvs_model.specs.declared.reason.Holder.TheVariants.{Nobody, Outside, Subpool, Unowned, Part}
 use Rattle.mvs_model.specs.declared.reason.CellPosition.{CellPosition}
 use Rattle.mvs_model.specs.declared.reason.CellPosition.TheVariants.{Untaken, Inside, Elsewhere}
 use Rattle.mvs_model.specs.declared.reason.FreeSpace.{FreeSpace}
@@ -19,7 +19,7 @@ use Rattle.mvs_model.specs.Place.{PlaceValue, place_at}
 use Rattle.mvs_model.specs.Gifts.{gives}
 use Rattle.mvs_model.specs.declared.want.Side.TheVariants.{Below}
 use Rattle.mvs_model.specs.Want.{WantValue, want_of, fixed_want, side_of}
-use Rattle.mvs_model.specs.Storage.{Regions, Covers, Places}
+use Rattle.mvs_model.specs.Storage.{Regions, Covers, InRegion, Places}
 use Rattle.mvs_model.specs.Finite.{count_below}
 use Rattle.mvs_model.specs.FreeRuns.{free_runs}
 use Rattle.mvs_model.specs.Reports.{page_subpool}
@@ -31,10 +31,11 @@ use Rattle.mvs_model.specs.Causes.{AfterGrants, IsPassed, IsRefused}
 use Rattle.mvs_model.specs.Requests.{on_doubleword, whole, residence_of, side_for}
 use Rattle.mvs_model.specs.Numbers.{first_page_below, first_page_above}
 
--- What holds a doubleword: nothing; outside of the pools a subpool, which its owner has under a number, or which nobody owns;
--- or a part of a pool.
+-- What holds a doubleword: nothing, since it is free or in no region; outside of the pools a subpool, which its owner has under a
+-- number, or which nobody owns; or a part of a pool.
 abbrev pub Holds : State → ℕ → Holder → Type 0
-Holds st d Nobody = get st.held d ≡ None
+Holds st d Nobody = (get st.held d ≡ None) × InRegion st.regions (place_at (8 * d) 8)
+Holds st d Outside = (get st.held d ≡ None) × (InRegion st.regions (place_at (8 * d) 8) → ⊥)
 Holds st d (Subpool number owner) = (s : ℕ) × (get st.held d ≡ Some (plain s)) × (get st.owners.owner s ≡ Some owner) × (entry st.owners owner number ≡ Some s)
 Holds st d Unowned = (s : ℕ) × (get st.held d ≡ Some (plain s)) × (get st.owners.owner s ≡ None)
 Holds st d (Part name) = (pool : Pool) × (get st.pools name ≡ Some pool) × (in_parts pool d ≡ true)
@@ -79,7 +80,7 @@ IsOverlap (p ∷ ps) one other d = ((one ≡ p.addr) × Meets p ps other d) ⊎ 
 
 -- The byte is the first one of the place that may not be read and written.
 pub record IsDeniedIn (st : State) (p : PlaceValue) (a : ℕ) : Type 0 where
-  pub behind : p.addr ≤ a
+  pub low : p.addr ≤ a
   pub inside : a < p.addr + p.len
   pub denied : granted st a ≡ false
   pub before : (b : ℕ) → p.addr ≤ b → b < a → granted st b ≡ true
@@ -179,12 +180,17 @@ abbrev pub FirstUnheld : State → Option ℕ → List PlaceValue → ℕ → Ty
 FirstUnheld st None ps d = ⊥
 FirstUnheld st (Some s) ps d = IsUnheld st s ps d
 
+-- the owner of a subpool, if it has one
+abbrev pub owner_of : Owners → Option ℕ → Option Name
+owner_of o None = None
+owner_of o (Some s) = get o.owner s
+
 -- where the address is at which no taken cell of the pool begins
 abbrev pub SpotIn : Option Pool → ℕ → CellPosition → Type 0
 SpotIn None c spot = ⊥
 SpotIn (Some pool) c spot = IsSpot pool c spot
 
--- the same of a cell that is given back
+-- where the cell is that a request gives back
 abbrev pub SpotOf : State → Request → CellPosition → Type 0
 SpotOf st (Free name c) spot = SpotIn (get st.pools name) c spot
 SpotOf st _ spot = ⊥
@@ -211,7 +217,7 @@ refusal_of request (NoMember k short) = refusal.Member k
 refusal_of request (NoPart cells size room) = refusal.NoPart
 refusal_of request (OffDoubleword a) = refusal.OffDoubleword
 refusal_of request (NoSubpool task) = refusal.NoSubpool
-refusal_of request (NotHeld a holder) = refusal.NotHeld
+refusal_of request (NotHeld a holder owner) = refusal.NotHeld
 refusal_of request (Overlap one other a) = refusal.Overlap
 refusal_of request WholeOfZero = refusal.WholeOfZero
 refusal_of request PoolInUse = refusal.PoolInUse
@@ -235,8 +241,9 @@ About st t request (NoMember k short) = MemberLacks st t request k short
 About st t request (NoPart cells size room) = PartRoom st t request cells size room
 About st t request (OffDoubleword a) = IsFirstOff (released request) a
 About st t request (NoSubpool task) = task ≡ effective_task st.owners t (number_of request)
-About st t request (NotHeld a holder) =
-    (d : ℕ) × (a ≡ 8 * d) × FirstUnheld st (subpool_meant st.owners t (number_of request)) (map whole (released request)) d × Holds st d holder
+About st t request (NotHeld a holder owner) =
+    ((d : ℕ) × (a ≡ 8 * d) × FirstUnheld st (subpool_meant st.owners t (number_of request)) (map whole (released request)) d × Holds st d holder)
+    × (owner ≡ owner_of st.owners (subpool_meant st.owners t (number_of request)))
 About st t request (Overlap one other a) = (d : ℕ) × (a ≡ 8 * d) × IsOverlap (map whole (released request)) one other d
 About st t request WholeOfZero = Unit {0}
 About st t request PoolInUse = Unit {0}

@@ -34,11 +34,11 @@ pub record Makes (P : Condition) (old : JobValue) (t : Name) (a : SourceRequest)
   pub names : new.names ≡ all_set old.names (names_set a) (places_in reply)
   pub abended : new.abended ≡ (old.abended || is_abend reply)
   pub former : new.former ≡ old.former
-  pub told : answer ≡ answer_of old.state a r reply
+  pub answer_is : answer ≡ answer_of old.state a r reply
 
 -- An answer that changes nothing.
 abbrev pub OnlyAnswers : JobValue → Answer → Answer → JobValue → Type 0
-OnlyAnswers old told answer new = (answer ≡ told) × (new ≡ old)
+OnlyAnswers old expected answer new = (answer ≡ expected) × (new ≡ old)
 
 -- What a request may be answered: a name in it is not set, or it is made.
 abbrev pub Asks : Condition → JobValue → Name → SourceRequest → Option Request → Answer → JobValue → Type 0
@@ -87,10 +87,10 @@ IsPrintingFront script text = (rest : List ℕ) × (outcome : Outcome) × IsPrin
 
 -- All lines that have ended in some bytes of a script are answered: the text is the printing of a run of them. The rest may still
 -- become a line.
-pub record IsAnswered (told text : List ℕ) : Type 0 where
+pub record IsAnswered (consumed text : List ℕ) : Type 0 where
   pub lines : List (List ℕ)
   pub kept : List ℕ
-  pub cut : told ≡ ended_text lines ++ kept
+  pub cut : consumed ≡ ended_text lines ++ kept
   pub each : AllByRecursion IsUnended lines
   pub unended : IsUnended kept
   pub short : length kept < 256

@@ -28,6 +28,7 @@ impl<const LOW: u32, const HIGH: u32> Model for Bounded<LOW, HIGH> {
 }
 
 impl<const LOW: u32, const HIGH: u32> Bounded<LOW, HIGH> {
+    /// Makes a number that is known to be in its range.
     pub fn new(value: u32) -> Self
         requires low { LOW ≤ value }
         requires high { value ≤ HIGH }
@@ -47,6 +48,7 @@ impl<const LOW: u32, const HIGH: u32> Bounded<LOW, HIGH> {
         }
     }
 
+    /// Returns the number.
     pub fn get(&self) -> u32
         ensures value { result ≡ self.now }
         ensures low { LOW ≤ result }
@@ -55,7 +57,7 @@ impl<const LOW: u32, const HIGH: u32> Bounded<LOW, HIGH> {
         self.value
     }
 
-    /// The least and the greatest number.
+    /// Returns the least and the greatest number.
     pub fn range() -> (u32, u32)
         ensures { result ≡ (LOW, HIGH) }
     {
@@ -94,7 +96,7 @@ pub type PagesBelow = Bounded<1, MOST_PAGES_BELOW>;
 /// The pages of the region above 16 megabytes. The limits are this project's choice.
 pub type PagesAbove = Bounded<0, MOST_PAGES_ABOVE>;
 
-/// The ranges of the numbers above, which are those of the definitions.
+/// Returns the ranges of the numbers above, which are those of the definitions.
 pub fn ranges() -> [(u32, u32); 10]
     ensures { result ≡ numbers.ranges }
 {

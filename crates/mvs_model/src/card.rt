@@ -33,7 +33,7 @@ impl Model for Card {
 }
 
 impl Card {
-    /// The card of a step.
+    /// Returns the card of a step.
     pub fn new(
         name: Name,
         below: PagesBelow,
@@ -54,14 +54,14 @@ impl Card {
         }
     }
 
-    /// The name of the job step task.
+    /// Returns the name of the job step task.
     pub fn name(&self) -> Name
         ensures { result ≡ self.now.name }
     {
         self.name
     }
 
-    /// The pages of the region below.
+    /// Returns the pages of the region below.
     pub fn below(&self) -> u32
         ensures pages { result ≡ self.now.below }
         ensures some { 1 ≤ result }
@@ -70,7 +70,7 @@ impl Card {
         self.below
     }
 
-    /// The pages of the region above.
+    /// Returns the pages of the region above.
     pub fn above(&self) -> u32
         ensures pages { result ≡ self.now.above }
         ensures most { result ≤ most_pages_above }
@@ -78,13 +78,14 @@ impl Card {
         self.above
     }
 
-    /// The byte that a grant leaves in each place.
+    /// Returns the byte that a grant leaves in each place.
     pub fn fill(&self) -> u8
         ensures { result ≡ self.now.fill }
     {
         self.fill
     }
 
+    /// Returns where the program of the job step task resides.
     pub fn residence(&self) -> Residence
         ensures { result ≡ self.now.residence }
     {

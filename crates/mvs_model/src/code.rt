@@ -76,7 +76,7 @@ impl Code {
     pub const TASK_IN_USE: Code = Code::User(4_009);
 }
 
-/// Each code of a refusal that the code uses is the one of the definitions.
+/// Shows that each code of a refusal that the code uses is the one of the definitions.
 pub fn codes_agree()
     ensures system { (Code.NO_ACCESS ≡ codes.no_access) × (Code.SHORTAGE ≡ codes.short Located)
         × (Code.ACTIVE_SUBTASK ≡ codes.active_subtask) }

@@ -6,7 +6,7 @@ ghost use Rattle.mvs_model.specs.Codes as table;
 use crate::code::{Code, Family, Form};
 use crate::want::Side;
 
-/// The forms that have one set of codes. Which forms are in the third is this project's choice.
+/// Returns the forms that have one set of codes. Which forms are in the third is this project's choice.
 pub fn family(form: Form) -> Family
     ensures { result ≡ table.family form }
 {
@@ -18,7 +18,7 @@ pub fn family(form: Form) -> Family
     }
 }
 
-/// Whether a refusal of the form is answered 4 and no abend.
+/// Returns whether a refusal of the form is answered 4 and no abend.
 pub fn is_conditional(form: Form) -> bool
     ensures { result ≡ table.is_conditional form }
 {
@@ -28,7 +28,7 @@ pub fn is_conditional(form: Form) -> bool
     }
 }
 
-/// The side on which a form is served whose location would mean this one: only the third family is served above.
+/// Returns the side on which a form is served whose location would mean this one: only the third family is served above.
 pub fn form_side(form: Form, side: Side) -> Side
     ensures { result ≡ table.form_side (table.family form) side }
 {
@@ -38,7 +38,7 @@ pub fn form_side(form: Form, side: Side) -> Side
     }
 }
 
-/// Shortage of storage.
+/// Returns the abend code for a shortage of storage.
 pub fn short(form: Form) -> Code
     ensures { result ≡ table.short (table.family form) }
 {
@@ -49,7 +49,7 @@ pub fn short(form: Form) -> Code
     }
 }
 
-/// A subpool number that a program may not name, in a request that obtains or in one that releases.
+/// Returns the abend code for a subpool number that a program may not name, in a request that obtains or in one that releases.
 pub fn bad_subpool(form: Form, obtaining: bool) -> Code
     ensures { result ≡ table.bad_subpool (table.family form) obtaining }
 {
@@ -61,7 +61,7 @@ pub fn bad_subpool(form: Form, obtaining: bool) -> Code
     }
 }
 
-/// An address that is not on a doubleword.
+/// Returns the abend code for an address that is not on a doubleword.
 pub fn bad_address(form: Form) -> Code
     ensures { result ≡ table.bad_address (table.family form) }
 {
@@ -72,7 +72,7 @@ pub fn bad_address(form: Form) -> Code
     }
 }
 
-/// Storage that is not held by the subpool.
+/// Returns the abend code for storage that is not held by the subpool.
 pub fn not_held(form: Form) -> Code
     ensures { result ≡ table.not_held (table.family form) }
 {

@@ -29,7 +29,7 @@ impl Model for Gifts {
     ghost inverse = { λ g. record { given = g.given; shared = g.shared; zero = g.zero } };
 }
 
-// The first number of a set, at or after one.
+// Returns the first number of a set, at or after one.
 fn first_number(set: u128, from: u8) -> Option<u8>
     requires { from < task_numbers }
     ensures { MatchOption result ((n : ℕ) → from ≤ n → has_bit set n ≡ false)
@@ -45,7 +45,7 @@ fn first_number(set: u128, from: u8) -> Option<u8>
 }
 
 impl Gifts {
-    /// None where bit 0 is set, or a bit is set in both fields.
+    /// Makes gifts from two sets of bits. Returns None if bit 0 is set, or if a bit is set in both.
     pub fn new(given: u128, shared: u128, zero: bool) -> Option<Gifts>
         ensures { let presents : GiftsValue = record { given = given; shared = shared; zero = zero }
             in SomeIff result (IsGifts presents) presents }
@@ -60,21 +60,21 @@ impl Gifts {
         })
     }
 
-    /// Whether the mother gives the number; none from 128 on can be given.
+    /// Returns whether the mother gives the number; none from 128 on can be given.
     pub fn gives(&self, number: u8) -> bool
         ensures { result ≡ gives self.now number }
     {
         number < TASK_NUMBERS && (self.given >> number) & 1 == 1
     }
 
-    /// Whether the mother shares the number; none from 128 on can be shared.
+    /// Returns whether the mother shares the number; none from 128 on can be shared.
     pub fn shares(&self, number: u8) -> bool
         ensures { result ≡ shares self.now number }
     {
         number < TASK_NUMBERS && ((self.shared >> number) & 1 == 1 || self.zero && number == 0)
     }
 
-    /// The first number from one on that the mother gives.
+    /// Returns the first number from one on that the mother gives.
     pub fn first_given(&self, from: u8) -> Option<u8>
         ensures { MatchOption result ((n : ℕ) → from ≤ n → gives self.now n ≡ false)
             (λ n. (from ≤ n) × (n < task_numbers) × (gives self.now n ≡ true)
@@ -87,7 +87,7 @@ impl Gifts {
         }
     }
 
-    /// The first number from one on that the mother shares.
+    /// Returns the first number from one on that the mother shares.
     pub fn first_shared(&self, from: u8) -> Option<u8>
         ensures { MatchOption result ((n : ℕ) → from ≤ n → shares self.now n ≡ false)
             (λ n. (from ≤ n) × (n < task_numbers) × (shares self.now n ≡ true)

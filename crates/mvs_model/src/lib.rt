@@ -11,6 +11,7 @@ pub mod fact;
 pub mod gifts;
 pub mod line;
 pub mod name;
+pub mod next_name;
 pub mod numbers;
 pub mod outcome;
 pub mod place;

@@ -34,7 +34,7 @@ impl Model for Name {
     ghost inverse = { λ b. record { bytes = b } };
 }
 
-// The text and blanks up to eight bytes.
+// Returns the text and blanks up to eight bytes.
 fn pad(text: &[u8]) -> [u8; 8]
     requires { length text.now ≤ 8 }
     ensures { result ≡ padded text.now }
@@ -68,7 +68,7 @@ impl Name {
         Name { bytes: pad(text) }
     }
 
-    // The bytes as a number, the first one the highest.
+    // Returns the bytes as a number, the first one the highest.
     fn key(&self) -> u64
         ensures key { result ≡ from_be_bytes w64 self.now }
         ensures eight { length self.now ≡ 8 }
@@ -77,14 +77,14 @@ impl Name {
         spelled(self.bytes)
     }
 
-    /// The text with its padding.
+    /// Returns the text with its padding.
     pub fn bytes(&self) -> [u8; 8]
         ensures { result ≡ self.now }
     {
         self.bytes
     }
 
-    /// The text without its padding.
+    /// Returns the text without its padding.
     pub fn text(&self) -> &[u8]
         ensures text { result.now ≡ trimmed self.now }
         ensures len { length result.now ≤ 8 }
@@ -93,7 +93,7 @@ impl Name {
     }
 }
 
-// The number that eight bytes spell, the first one the highest.
+// Returns the number that eight bytes spell, the first one the highest.
 fn spelled(bytes: [u8; 8]) -> u64
     ensures value { result ≡ from_be_bytes w64 bytes }
     ensures bytes { AreBytes bytes }
@@ -106,7 +106,7 @@ impl PartialEq for Name {
 
     ghost laws = { Prim.search (comparing, rules) };
 
-    // The eight bytes at once.
+    // Returns the eight bytes at once.
     fn eq(&self, other: &Name) -> bool {
         self.key() == other.key()
     }
@@ -145,7 +145,7 @@ impl Hash for Name {
 
     ghost respects_eq = { Prim.search (hashing, rules) };
 
-    // All the bytes at once, so that a fast hasher multiplies once.
+    // Hashes all bytes at once, so that a fast hasher multiplies once.
     fn hash<H: Hasher>(&self, state: &mut H) {
         state.write(&self.bytes);
     }

@@ -100,7 +100,7 @@ pub const MOST_ITEMS: usize = 16;
 /// The most bytes of a script. This project's choice.
 pub const MOST_SCRIPT_BYTES: usize = 16_777_215;
 
-/// Each number that the code uses is the one of the definitions.
+/// Shows that each number that the code uses is the one of the definitions.
 pub fn numbers_agree()
     ensures page { (PAGE_BYTES ≡ numbers.page_bytes)
         × (PAGE_DOUBLEWORDS ≡ numbers.page_doublewords) }

@@ -23,6 +23,7 @@ impl Model for Addr {
 }
 
 impl Addr {
+    /// Makes an address.
     pub fn new(value: u32) -> Addr
         requires { value < 2 ^ 31 }
         ensures { result ≡ value }
@@ -30,6 +31,7 @@ impl Addr {
         Addr { value }
     }
 
+    /// Returns the address as a number.
     pub fn get(&self) -> u32
         ensures value { result ≡ self.now }
         ensures small { result < 2 ^ 31 }
@@ -59,6 +61,7 @@ impl Model for Place {
 }
 
 impl Place {
+    /// Makes a place of `len` bytes from an address on.
     pub fn new(addr: Addr, len: u32) -> Place
         requires some { 1 ≤ len }
         requires most { len ≤ 2 ^ 31 }
@@ -70,13 +73,14 @@ impl Place {
         }
     }
 
+    /// Returns the address of its first byte.
     pub fn addr(&self) -> Addr
         ensures { result ≡ self.now.addr }
     {
         Addr { value: self.addr }
     }
 
-    /// The length in bytes.
+    /// Returns the length in bytes.
     pub fn len(&self) -> u32
         ensures len { result ≡ self.now.len }
         ensures some { 1 ≤ result }

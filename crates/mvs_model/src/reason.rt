@@ -7,8 +7,10 @@ use crate::subpool::SubNo;
 /// What holds a doubleword.
 #[derive(Clone, Copy, Debug, PartialEq, Eq)]
 pub enum Holder {
-    /// It is free, or in no region.
+    /// It is free.
     Nobody,
+    /// It is in no region, so no request is ever granted it.
+    Outside,
     /// A subpool, outside of cell pools: the number under which its owner has it, and the owner.
     Subpool(SubNo, Name),
     /// A subpool without an owner, outside of cell pools. No run of a script comes to that.
@@ -69,8 +71,9 @@ pub enum Reason {
     OffDoubleword(Addr),
     /// The task whose subpool is meant has none under the number.
     NoSubpool(Name),
-    /// The first address of the places that the subpool meant does not hold outside of cell pools, and what holds it.
-    NotHeld(Addr, Holder),
+    /// The first address of the places that the subpool meant does not hold outside of cell pools, what holds it, and the owner
+    /// of that subpool.
+    NotHeld(Addr, Holder, Option<Name>),
     /// Two places of the list, by their addresses, and where the first doubleword begins that both have.
     Overlap(Addr, Addr, Addr),
     /// Subpool 0 is not released as a whole.

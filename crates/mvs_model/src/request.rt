@@ -43,7 +43,7 @@ impl Model for Fallen {
 }
 
 impl Fallen {
-    /// The names in byte order.
+    /// Returns the names in byte order.
     pub fn new(mut names: TaskNames) -> Fallen
         ensures sorted { IsSorted name_cmp result }
         ensures same { IsPermutation names result }
@@ -52,6 +52,7 @@ impl Fallen {
         Fallen { names }
     }
 
+    /// Returns the names in byte order.
     pub fn names(&self) -> &[Name]
         ensures names { result.now ≡ self.now }
         ensures sorted { IsSorted name_cmp result.now }

@@ -33,7 +33,7 @@ impl<T: Copy, const LEAST: usize, const MOST: usize> ShortList<T, LEAST, MOST> {
         }
     }
 
-    /// One item.
+    /// Makes a list of one item.
     pub fn one(item: T) -> Self
         requires least { LEAST ≤ 1 }
         requires most { 1 ≤ MOST }
@@ -45,6 +45,7 @@ impl<T: Copy, const LEAST: usize, const MOST: usize> ShortList<T, LEAST, MOST> {
         }
     }
 
+    /// Returns how many items there are.
     pub fn len(&self) -> usize
         ensures len { result ≡ length self.now }
         ensures least { LEAST ≤ result }
@@ -53,6 +54,7 @@ impl<T: Copy, const LEAST: usize, const MOST: usize> ShortList<T, LEAST, MOST> {
         self.len
     }
 
+    /// Returns whether there is no room for another item.
     pub fn is_full(&self) -> bool
         ensures full { IsTrue result ↔ (length self.now ≡ MOST) }
         ensures most { length self.now ≤ MOST }
@@ -77,7 +79,7 @@ impl<T: Copy, const LEAST: usize, const MOST: usize> ShortList<T, LEAST, MOST> {
         self.len += 1;
     }
 
-    /// The same items in a list of its own.
+    /// Copies the items into a list of its own.
     pub fn copied(&self) -> Self
         ensures { result ≡ self.now }
     {
@@ -87,6 +89,7 @@ impl<T: Copy, const LEAST: usize, const MOST: usize> ShortList<T, LEAST, MOST> {
         }
     }
 
+    /// Returns the items.
     pub fn as_slice(&self) -> &[T]
         ensures items { result.now ≡ self.now }
         ensures least { LEAST ≤ length result.now }

@@ -27,7 +27,7 @@ impl Model for SubNo {
     ghost inverse = { λ n. record { value = n } };
 }
 
-// Whether a number is one of the job step task's.
+// Returns whether a number is one of the job step task's.
 fn is_step_number(value: u8) -> bool
     ensures { result ≡ is_step_number value }
 {
@@ -35,7 +35,7 @@ fn is_step_number(value: u8) -> bool
 }
 
 impl SubNo {
-    /// The number of a subpool; None where a request that names it is refused as naming an invalid subpool.
+    /// Returns the number of a subpool; None where a request that names it is refused as naming an invalid subpool.
     pub fn new(value: u8) -> Option<SubNo>
         ensures { SomeIff result (IsSubpoolNumber value) value }
     {
@@ -46,7 +46,7 @@ impl SubNo {
         }
     }
 
-    /// The number of a subpool that is known to be one.
+    /// Returns the number of a subpool that is known to be one.
     pub fn of(value: u8) -> SubNo
         requires { IsSubpoolNumber value }
         ensures { result ≡ value }
@@ -54,6 +54,7 @@ impl SubNo {
         SubNo { value }
     }
 
+    /// Returns the number.
     pub fn get(&self) -> u8
         ensures value { result ≡ self.now }
         ensures valid { IsSubpoolNumber result }
@@ -62,7 +63,7 @@ impl SubNo {
         self.value
     }
 
-    /// Whether subpools of the number are the job step task's, whichever task names it (this project's choice).
+    /// Returns whether subpools of the number are the job step task's, whichever task names it (this project's choice).
     pub fn is_of_step(&self) -> bool
         ensures { result ≡ is_step_number self.now }
     {
@@ -90,6 +91,7 @@ impl Model for SubpoolId {
 }
 
 impl SubpoolId {
+    /// Makes the identifier of a subpool.
     pub fn new(value: u16) -> SubpoolId
         requires { value < most_subpools }
         ensures { result ≡ value }
@@ -97,6 +99,7 @@ impl SubpoolId {
         SubpoolId { value }
     }
 
+    /// Returns the number.
     pub fn get(&self) -> u16
         ensures value { result ≡ self.now }
         ensures low { result < most_subpools }

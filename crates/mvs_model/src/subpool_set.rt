@@ -29,7 +29,7 @@ impl Model for SubpoolSet {
     ghost invariant = { λ s. AreSubpools s.words };
 }
 
-// The word with one bit set.
+// Returns the word with one bit set.
 fn one_bit(at: u32) -> u64
     requires { at < 64 }
     ensures same { bit_at result at ≡ 1 }
@@ -38,7 +38,7 @@ fn one_bit(at: u32) -> u64
     1 << at
 }
 
-// The first bit of the word, at or after one, that is set.
+// Returns the first bit of the word, at or after one, that is set.
 fn first_bit(word: u64, from: u32) -> Option<u32>
     requires { from < 64 }
     ensures { MatchOption result ((i : ℕ) → from ≤ i → i < 64 → bit_at word i ≡ 0)
@@ -53,7 +53,7 @@ fn first_bit(word: u64, from: u32) -> Option<u32>
     }
 }
 
-// The first word from a place on that is not zero; the number of words where each is.
+// Returns the first word from a place on that is not zero; the number of words where each is.
 fn first_word(words: &[u64; WORDS], from: usize) -> usize
     requires { from ≤ 65 }
     ensures after { from ≤ result }
@@ -69,7 +69,7 @@ fn first_word(words: &[u64; WORDS], from: usize) -> usize
 }
 
 impl SubpoolSet {
-    /// The set without a member.
+    /// Returns the set without a member.
     pub fn empty() -> SubpoolSet
         ensures { result ≡ [] }
     {
@@ -86,7 +86,7 @@ impl SubpoolSet {
         self.words[at / 64] |= one_bit((at % 64) as u32);
     }
 
-    /// Whether the subpool is a member.
+    /// Returns whether the subpool is a member.
     pub fn contains(&self, subpool: SubpoolId) -> bool
         ensures { result ≡ is_one_of self.now subpool }
     {
@@ -94,7 +94,7 @@ impl SubpoolSet {
         (self.words[at / 64] >> (at % 64)) & 1 == 1
     }
 
-    /// Whether no subpool is a member.
+    /// Returns whether no subpool is a member.
     pub fn is_empty(&self) -> bool
         ensures { IsTrue result ↔ (self.now ≡ []) }
     {
@@ -104,7 +104,7 @@ impl SubpoolSet {
         }
     }
 
-    /// The first member from a number on.
+    /// Returns the first member from a number on.
     pub fn first_from(&self, from: usize) -> Option<SubpoolId>
         ensures { MatchOption result ((s : ℕ) → from ≤ s → is_one_of self.now s ≡ false)
             (λ r. (from ≤ r) × (is_one_of self.now r ≡ true)

@@ -8,7 +8,7 @@ use crate::codes::{bad_address, bad_subpool, is_conditional, not_held, short};
 use crate::refusal::{Consequence, Refusal};
 use crate::request::Request;
 
-// A conditional request is answered 4, and an unconditional one abends.
+// Returns what a failure leads to: return code 4 in a conditional request, and an abend in another one.
 fn failure(form: Form, code: Code) -> Consequence
     ensures { result ≡ table.failure form code }
 {
@@ -19,7 +19,7 @@ fn failure(form: Form, code: Code) -> Consequence
     }
 }
 
-// What becomes of a request of the form that is refused.
+// Returns what becomes of a request of the form that is refused.
 fn by_form(form: Form, obtaining: bool, refusal: Refusal) -> Consequence
     ensures { result ≡ table.by_form form obtaining refusal }
 {
@@ -44,7 +44,7 @@ fn by_form(form: Form, obtaining: bool, refusal: Refusal) -> Consequence
     }
 }
 
-// The form of a request: those for cells and the others have the codes of STORAGE (this project's choice).
+// Returns the form of a request: those for cells and the others have the codes of STORAGE (this project's choice).
 fn form_of(request: &Request) -> Form
     ensures { result ≡ table.form_of request.now }
 {
@@ -67,7 +67,7 @@ fn form_of(request: &Request) -> Form
     }
 }
 
-// Whether a request obtains storage.
+// Returns whether a request obtains storage.
 fn obtains(request: &Request) -> bool
     ensures { result ≡ table.obtains request.now }
 {

@@ -60,7 +60,7 @@ impl Model for Want {
 }
 
 impl Want {
-    /// A place of one length, rounded up to doublewords.
+    /// Makes a want of one length, rounded up to doublewords.
     pub fn fixed(len: Length, start: Exponent, side: Side) -> Want
         ensures { result ≡ fixed_want len start side }
     {
@@ -74,7 +74,7 @@ impl Want {
         }
     }
 
-    /// The same from a doubleword on.
+    /// Lowers the least length to one doubleword, 8 bytes.
     pub fn from_doubleword(&self) -> Want
         ensures same { result ≡ record self.now { least = 8 } }
         ensures wanted { IsWant self.now }
@@ -82,7 +82,7 @@ impl Want {
         Want { least: 8, ..*self }
     }
 
-    /// The least length in bytes.
+    /// Returns the least length in bytes.
     pub fn least(&self) -> u32
         ensures least { result ≡ self.now.least }
         ensures wanted { IsWant self.now }
@@ -90,7 +90,7 @@ impl Want {
         self.least
     }
 
-    /// The greatest length in bytes.
+    /// Returns the greatest length in bytes.
     pub fn most(&self) -> u32
         ensures most { result ≡ self.now.most }
         ensures wanted { IsWant self.now }
@@ -98,7 +98,7 @@ impl Want {
         self.most
     }
 
-    /// The power of two of the boundary that the place begins on.
+    /// Returns the power of two of the boundary that the place begins on.
     pub fn start(&self) -> Exponent
         ensures start { result ≡ self.now.start }
         ensures wanted { IsWant self.now }
@@ -114,6 +114,7 @@ impl Want {
         self.within
     }
 
+    /// Returns the side on which the place may be.
     pub fn side(&self) -> Side
         ensures { result ≡ self.now.side }
     {
@@ -145,7 +146,7 @@ impl Model for AreaRequest {
 }
 
 impl AreaRequest {
-    /// A request for one length on a boundary.
+    /// Makes a request for one length on a boundary.
     pub fn fixed(len: Length, start: Exponent, loc: Loc) -> AreaRequest
         ensures { result
             ≡ record { least = len; most = len; start = start; within = None; loc = loc } }
@@ -160,7 +161,7 @@ impl AreaRequest {
         }
     }
 
-    /// The same request for the greatest length that has a place, from a least one on.
+    /// Lowers the least length in bytes: the greatest length that has a place is then granted.
     pub fn at_least(self, least: Length) -> AreaRequest
         requires { least ≤ self.most }
         ensures { result ≡ record self { least = least } }
@@ -171,7 +172,7 @@ impl AreaRequest {
         }
     }
 
-    /// The same request within a boundary.
+    /// Keeps the area within a boundary, a power of two in bytes.
     pub fn within(self, within: Exponent) -> AreaRequest
         ensures { result ≡ record self { within = Some within } }
     {
@@ -181,14 +182,14 @@ impl AreaRequest {
         }
     }
 
-    /// The least length in bytes, as written.
+    /// Returns the least length in bytes, as written.
     pub fn least(&self) -> u32
         ensures { result ≡ self.now.least }
     {
         self.least
     }
 
-    /// The greatest length in bytes, as written.
+    /// Returns the greatest length in bytes, as written.
     pub fn most(&self) -> u32
         ensures most { result ≡ self.now.most }
         ensures short { result < 2 ^ 31 }
@@ -196,6 +197,7 @@ impl AreaRequest {
         self.most
     }
 
+    /// Returns the location.
     pub fn loc(&self) -> Loc
         ensures { result ≡ self.now.loc }
     {

@@ -28,6 +28,7 @@ impl<T> Model for Watched<T> {
 }
 
 impl<T> Watched<T> {
+    /// Watches a reader or writer of which no call has failed so far.
     pub fn new(inner: T) -> Watched<T>
         ensures inner { result.inner ≡ inner }
         ensures failed { result.failed ≡ false }
@@ -38,13 +39,14 @@ impl<T> Watched<T> {
         }
     }
 
-    /// Whether a call has failed so far.
+    /// Returns whether a call has failed so far.
     pub fn failed(&self) -> bool
         ensures { result ≡ self.now.failed }
     {
         self.failed
     }
 
+    /// Returns the reader or writer.
     pub fn into_inner(self) -> T
         ensures { result ≡ self.inner }
     {

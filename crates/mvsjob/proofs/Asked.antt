@@ -9,7 +9,7 @@ use Rattle.mvs_model.specs.declared.line.Line.{Line}
 use Rattle.mvs_model.specs.Lines.{lines_of}
 use Rattle.mvs_model.specs.Reading.{FaultOf, LineOf, line_meaning, is_blank_or_comment}
 use Rattle.mvsjob.specs.Queries.{with_queries, questions}
-use Rattle.mvsjob.specs.FaultFilter.{is_faulty}
+use Rattle.terminal_session.specs.Sessions.{is_faulty}
 
 -- what is written so far, and what is to be written of the lines that are left, are what is written of the script
 abbrev pub SoFar : Option (List ℕ) → Option (List ℕ) → List ℕ → Bool → List ℕ → Type 0

@@ -84,26 +84,26 @@ module _ (text rest : List ℕ) (number : ℕ) (first : Bool) (at passed end : �
         ∙ ap (λ t. first_fault (number + (passed + 1)) (is_first && nothing) (lines_of t)) behind;
   }
 
-  pub fault_here : (told : ℕ) (fault : Fault) → told ≡ number + passed → FaultOf is_first (take end rest) fault → IsFirstFault number first (lines_of text) told fault
-  fault_here told fault e is n f h =
+  pub fault_here : (printed : ℕ) (fault : Fault) → printed ≡ number + passed → FaultOf is_first (take end rest) fault → IsFirstFault number first (lines_of text) printed fault
+  fault_here printed fault e is n f h =
       let g = some_pair (number + passed) n fault f (sym (further (Some fault) is) ∙ h) in
       (e ∙ g.0, g.1)
 
-  pub line_here : (told : ℕ) → told ≡ number + passed → IsLineOf number (lines_of text) told (take end rest)
-  line_here told e = record { before = p.before; rest = lines_of (drop at text); parts = p.lines; counted = e ∙ ap (λ n. number + n) p.counted; here = inl (lines_of (drop (end + 1) rest), here) }
+  pub line_here : (printed : ℕ) → printed ≡ number + passed → IsLineOf number (lines_of text) printed (take end rest)
+  line_here printed e = record { before = p.before; rest = lines_of (drop at text); parts = p.lines; counted = e ∙ ap (λ n. number + n) p.counted; here = inl (lines_of (drop (end + 1) rest), here) }
 
-module _ (text : List ℕ) (number : ℕ) (first : Bool) (at passed told : ℕ) (is_first : Bool) (p : Passed text number first at passed is_first) (all : length text ≤ at) (e : told ≡ number + passed) where
+module _ (text : List ℕ) (number : ℕ) (first : Bool) (at passed printed : ℕ) (is_first : Bool) (p : Passed text number first at passed is_first) (all : length text ≤ at) (e : printed ≡ number + passed) where
   none : lines_of (drop at text) ≡ []
   none = ap lines_of (drop_all at text all)
 
-  lacks : (b : Bool) → (n : ℕ) (f : Fault) → if◌then◌else◌ {A = Option (ℕ × Fault)} b (Some (number + passed, OutOfPlace)) None ≡ Some (n, f) → (told ≡ n) × (OutOfPlace ≡ f)
+  lacks : (b : Bool) → (n : ℕ) (f : Fault) → if◌then◌else◌ {A = Option (ℕ × Fault)} b (Some (number + passed, OutOfPlace)) None ≡ Some (n, f) → (printed ≡ n) × (OutOfPlace ≡ f)
   lacks true n f h = let g = some_pair (number + passed) n OutOfPlace f h in (e ∙ g.0, g.1)
   lacks false n f h = absurd (let g : None ≡ Some (n, f) = h in cc)
 
-  pub fault_at_end : IsFirstFault number first (lines_of text) told OutOfPlace
+  pub fault_at_end : IsFirstFault number first (lines_of text) printed OutOfPlace
   fault_at_end n f h = lacks is_first n f (sym (p.same ∙ ap (first_fault (number + passed) is_first) none) ∙ h)
 
-  pub line_at_end : IsLineOf number (lines_of text) told []
+  pub line_at_end : IsLineOf number (lines_of text) printed []
   line_at_end = record { before = p.before; rest = lines_of (drop at text); parts = p.lines; counted = e ∙ ap (λ n. number + n) p.counted; here = inr (none, refl) }
 
 -- ---- a run

@@ -1,5 +1,6 @@
 -- What the words of the command line say, the program's name first. (this project's choice)
-use Rattle.std.specs.Prelude.{◌≡◌, ◌≢◌, ◌<◌, ◌≤◌, ◌^◌, ℕ, List, [], ◌∷◌, codes, map, Option, Some, None, true}
+use Rattle.std.specs.Prelude.{◌≡◌, ◌≢◌, ◌↔◌, ◌<◌, ◌≤◌, ◌^◌, ℕ, Bool, IsTrue, List, [], ◌∷◌, codes, map, Option, Some, None, true, false, option_map}
+use Rattle.std.specs.Option.{unwrap_or}
 use Rattle.clap.specs.Words.{App, Kinds, Text, fault_of, first_of, matches_of, new_app, new_rule, takes, with_rule}
 use Rattle.clap.specs.Simple.{on_top}
 use Rattle.clap.specs.Walk.{Rule}
@@ -9,7 +10,11 @@ use Rattle.clap.specs.declared.builder.value_parser.ValueParser.TheVariants.{Nam
 use Rattle.expected_answers.specs.declared.report.Format.{Format}
 use Rattle.expected_answers.specs.declared.report.Format.TheVariants as form
 use Rattle.mvsjob.specs.declared.options.Color.{Color}
+use Rattle.mvs_model.specs.declared.want.Placement.TheVariants.{High}
 use Rattle.mvsjob.specs.declared.options.Recipe.{Recipe}
+use Rattle.mvsjob.specs.declared.options.RunOutput.{RunOutput}
+use Rattle.mvsjob.specs.declared.options.RunOutput.TheVariants.{Replies, Json, Page, PageFile}
+use Rattle.mvsjob.specs.declared.options.Settings.{Settings}
 use Rattle.random_script.specs.declared.Profile.{Profile}
 use Rattle.reference.specs.Texts.{names}
 use Rattle.random_script.specs.declared.Profile.TheVariants.{Tasks, Pools, Tidy, Faults, Lists, Boundaries, Whole, All, Storage}
@@ -85,19 +90,23 @@ random_app a = with_rule (with_rule a (value_rule (codes "random") (Unsigned 0 1
 -- and with the options for the output of a run
 abbrev pub output_app : App → App
 output_app a =
-    with_rule (with_rule (with_rule (with_rule (with_rule (with_rule a (flag_rule (codes "explain"))) (flag_rule (codes "leaks"))) (flag_rule (codes "json"))) (flag_rule (codes "page")))
-    (flag_rule (codes "strict"))) (flag_rule (codes "interactive"))
+    with_rule (with_rule (with_rule (with_rule (with_rule (with_rule (with_rule a (flag_rule (codes "explain"))) (flag_rule (codes "leaks"))) (flag_rule (codes "json"))) (flag_rule (codes "page")))
+    (flag_rule (codes "open"))) (flag_rule (codes "strict"))) (flag_rule (codes "interactive"))
 
 -- and with the option for the text of a rule
 abbrev pub rule_app : App → App
 rule_app a = with_rule a (value_rule (codes "rule") (Unsigned 1 74))
 
--- the program's command: a word and twenty options, which may all be left out, and a version
+-- and with the option for the script of a second run
+abbrev pub second_app : App → App
+second_app a = with_rule a (value_rule (codes "with") NonEmptyString)
+
+-- the program's command: a word and twenty-two options, which may all be left out, and a version
 abbrev pub command : Parsers → App
 command ps =
-    rule_app (with_rule (with_rule (output_app (with_rule (random_app (judging_app (answers_app (with_rule (checking_app
+    second_app (rule_app (with_rule (with_rule (output_app (with_rule (random_app (judging_app (answers_app (with_rule (checking_app
     (with_rule (with_rule (versioned (new_app (codes "mvsjob"))) (new_rule (codes "FILE"))) (value_rule (codes "place") ps.place))) (value_rule (codes "format") ps.format)))))
-    (value_rule (codes "profile") ps.profile))) (value_rule (codes "color") ps.color)) (value_rule (codes "code") ps.code))
+    (value_rule (codes "profile") ps.profile))) (value_rule (codes "color") ps.color)) (value_rule (codes "code") ps.code)))
 
 -- what of the words clap gives to an argument
 abbrev pub assigned : Parsers → List Text → Text → Option Text
@@ -119,30 +128,52 @@ pub record IsProfile (said : Option Text) (profile : Profile) : Type 0 where
   pub all : said ≢ Some (codes "tasks") → said ≢ Some (codes "pools") → said ≢ Some (codes "tidy") → said ≢ Some (codes "faults") → said ≢ Some (codes "lists") → said ≢ Some (codes "boundaries") → said ≢ Some (codes "whole") → said ≡ Some (codes "all") → profile ≡ All
   pub storage : said ≢ Some (codes "tasks") → said ≢ Some (codes "pools") → said ≢ Some (codes "tidy") → said ≢ Some (codes "faults") → said ≢ Some (codes "lists") → said ≢ Some (codes "boundaries") → said ≢ Some (codes "whole") → said ≢ Some (codes "all") → profile ≡ Storage
 
+-- An option without a value is given.
+abbrev pub IsSet : (Text → Option Text) → Text → Type 0
+IsSet given name = given name ≡ Some (codes "true")
+
+-- It is not.
+abbrev pub IsUnset : (Text → Option Text) → Text → Type 0
+IsUnset given name = given name ≢ Some (codes "true")
+
 -- It has the seed that `--random` has, and the lines that `--lines` has, or 100.
-pub record IsRecipe (random lines profile : Option Text) (recipe : Recipe) : Type 0 where
-  pub seed : (text : Text) (n : ℕ) → random ≡ Some text → IsNumber text n → n < 2 ^ 64 → recipe.seed ≡ n
-  pub count : (text : Text) (n : ℕ) → lines ≡ Some text → IsNumber text n → n ≤ 1000000 → recipe.lines ≡ n
-  pub usual : lines ≡ None → recipe.lines ≡ 100
-  pub made : IsProfile profile recipe.profile
+pub record IsRecipe (given : Text → Option Text) (recipe : Recipe) : Type 0 where
+  pub seed : (text : Text) (n : ℕ) → given (codes "random") ≡ Some text → IsNumber text n → n < 2 ^ 64 → recipe.seed ≡ n
+  pub count : (text : Text) (n : ℕ) → given (codes "lines") ≡ Some text → IsNumber text n → n ≤ 1000000 → recipe.lines ≡ n
+  pub usual : given (codes "lines") ≡ None → recipe.lines ≡ 100
+  pub made : IsProfile (given (codes "profile")) recipe.profile
 
 -- A random script is made if `--random` is given; else an output is judged with `--judge`; else answers are compared with
 -- `--check`, removed with `--blank`, WHERE statements added with `--ask`, or a program written with `--assemble`; else the script
 -- is run.
-pub record IsScriptMode (random lines profile judge check blank ask assemble : Option Text) (mode : Mode) : Type 0 where
-  pub makes : (seed : Text) → random ≡ Some seed → (recipe : Recipe) × (mode ≡ Random recipe) × IsRecipe random lines profile recipe
-  pub judges : (output : Text) → random ≡ None → judge ≡ Some output → mode ≡ Judge
-  pub checks : random ≡ None → judge ≡ None → check ≡ Some (codes "true") → mode ≡ Check
-  pub blanks : random ≡ None → judge ≡ None → check ≢ Some (codes "true") → blank ≡ Some (codes "true") → mode ≡ Blank
-  pub asks : random ≡ None → judge ≡ None → check ≢ Some (codes "true") → blank ≢ Some (codes "true") → ask ≡ Some (codes "true") → mode ≡ Ask
-  pub assembles : random ≡ None → judge ≡ None → check ≢ Some (codes "true") → blank ≢ Some (codes "true") → ask ≢ Some (codes "true") → assemble ≡ Some (codes "true") → mode ≡ Assemble
-  pub runs : random ≡ None → judge ≡ None → check ≢ Some (codes "true") → blank ≢ Some (codes "true") → ask ≢ Some (codes "true") → assemble ≢ Some (codes "true") → mode ≡ Run
+pub record IsScriptMode (given : Text → Option Text) (mode : Mode) : Type 0 where
+  pub makes : (seed : Text) → given (codes "random") ≡ Some seed → (recipe : Recipe) × (mode ≡ Random recipe) × IsRecipe given recipe
+  pub judges : (output : Text) → given (codes "random") ≡ None → given (codes "judge") ≡ Some output → mode ≡ Judge
+  pub checks : given (codes "random") ≡ None → given (codes "judge") ≡ None → IsSet given (codes "check") → mode ≡ Check
+  pub blanks : given (codes "random") ≡ None → given (codes "judge") ≡ None → IsUnset given (codes "check") → IsSet given (codes "blank") → mode ≡ Blank
+  pub asks : given (codes "random") ≡ None → given (codes "judge") ≡ None → IsUnset given (codes "check") → IsUnset given (codes "blank") → IsSet given (codes "ask") → mode ≡ Ask
+  pub assembles : given (codes "random") ≡ None → given (codes "judge") ≡ None → IsUnset given (codes "check") → IsUnset given (codes "blank") → IsUnset given (codes "ask") → IsSet given (codes "assemble") → mode ≡ Assemble
+  pub runs : given (codes "random") ≡ None → given (codes "judge") ≡ None → IsUnset given (codes "check") → IsUnset given (codes "blank") → IsUnset given (codes "ask") → IsUnset given (codes "assemble") → mode ≡ Run
 
 -- The text of a code is printed if `--code` is given; else that of the rule that `--rule` names; else a script is served.
-pub record IsMode (code rule random lines profile judge check blank ask assemble : Option Text) (mode : Mode) : Type 0 where
-  pub coded : (name : Text) → code ≡ Some name → mode ≡ Code
-  pub ruled : (text : Text) (n : ℕ) → code ≡ None → rule ≡ Some text → IsNumber text n → n ≤ 74 → mode ≡ RuleOf n
-  pub scripted : code ≡ None → rule ≡ None → IsScriptMode random lines profile judge check blank ask assemble mode
+pub record IsMode (given : Text → Option Text) (mode : Mode) : Type 0 where
+  pub coded : (name : Text) → given (codes "code") ≡ Some name → mode ≡ Code
+  pub ruled : (text : Text) (n : ℕ) → given (codes "code") ≡ None → given (codes "rule") ≡ Some text → IsNumber text n → n ≤ 74 → mode ≡ RuleOf n
+  pub scripted : given (codes "code") ≡ None → given (codes "rule") ≡ None → IsScriptMode given mode
+
+-- whether a run writes a page
+abbrev pub is_page : RunOutput → Bool
+is_page Page = true
+is_page PageFile = true
+is_page Replies = false
+is_page Json = false
+
+-- A run writes a page if `--page` is given, and with `--open` a new file that has it; else lines of JSON with `--json`; else the replies.
+pub record IsOutput (given : Text → Option Text) (output : RunOutput) : Type 0 where
+  pub opened : IsSet given (codes "page") → IsSet given (codes "open") → output ≡ PageFile
+  pub page : IsSet given (codes "page") → IsUnset given (codes "open") → output ≡ Page
+  pub json : IsUnset given (codes "page") → IsSet given (codes "json") → output ≡ Json
+  pub replies : IsUnset given (codes "page") → IsUnset given (codes "json") → output ≡ Replies
 
 -- Answers are coloured where `--color` says `always`, not where it says `never`, and else as it is found out.
 pub record IsColor (said : Option Text) (color : Color) : Type 0 where
@@ -163,3 +194,20 @@ pub record IsFormat (said : Option Text) (format : Format) : Type 0 where
   pub tap : said ≡ Some (codes "tap") → format ≡ form.Tap
   pub junit : said ≢ Some (codes "tap") → said ≡ Some (codes "junit") → format ≡ form.Junit
   pub text : said ≢ Some (codes "tap") → said ≢ Some (codes "junit") → format ≡ form.Text
+
+-- The settings are those that the words say, of which this is what each option is given.
+pub record AreSettings (given : Text → Option Text) (s : Settings) : Type 0 where
+  pub file : s.file.now ≡ unwrap_or (given (codes "FILE")) (codes "-")
+  pub place : s.placement ≡ High ↔ given (codes "place") ≡ Some (codes "high")
+  pub judged : s.judged.now ≡ unwrap_or (given (codes "judge")) []
+  pub second : option_map (λ file. file.now) s.second ≡ given (codes "with")
+  pub code : s.code.now ≡ unwrap_or (given (codes "code")) []
+  pub mode : IsMode given s.mode
+  pub output : IsOutput given s.output
+  pub explains : IsTrue s.explains ↔ IsSet given (codes "explain")
+  pub leaks : IsTrue s.leaks ↔ IsSet given (codes "leaks")
+  pub strict : IsTrue s.strict ↔ IsSet given (codes "strict")
+  pub interactive : IsTrue s.interactive ↔ IsSet given (codes "interactive")
+  pub color : IsColor (given (codes "color")) s.color
+  pub format : IsFormat (given (codes "format")) s.form.format
+  pub hidden : IsTrue s.form.is_hidden ↔ IsSet given (codes "hide")

@@ -15,7 +15,7 @@ use Rattle.mvsjob.specs.declared.ending.Cause.TheVariants.{Missing, Forbidden, D
 use Rattle.mvsjob.specs.declared.ending.ExitReason.{ExitReason}
 use Rattle.mvsjob.specs.declared.ending.ExitReason.TheVariants.{Ran, NotServed, Leaked, Printed, Checked, Judged, Refused, GaveUp}
 use Rattle.mvsjob.specs.declared.ending.CliError.{CliError}
-use Rattle.mvsjob.specs.declared.ending.CliError.TheVariants.{Script, Output, Pipe, Job}
+use Rattle.mvsjob.specs.declared.ending.CliError.TheVariants.{Script, Output, Second, PageFile, Pipe, Job}
 
 abbrev pub status_of : ExitReason → ℕ
 status_of (Ran Clean) = 0
@@ -32,6 +32,8 @@ status_of Refused = 16
 status_of (GaveUp Pipe) = 141
 status_of (GaveUp (Script why)) = 16
 status_of (GaveUp (Output why)) = 16
+status_of (GaveUp (Second why)) = 16
+status_of (GaveUp (PageFile why)) = 16
 status_of (GaveUp (Job fault)) = 16
 
 -- how a strict run ends, in which each line was executed, or not
@@ -39,7 +41,7 @@ abbrev pub strict_ending : Outcome → Bool → ExitReason
 strict_ending Clean all = if all then Ran Clean else NotServed
 strict_ending outcome all = Ran outcome
 
--- how a run ends that ended so otherwise, of which a step ended with a leak, or none
+-- how the program ends after a run with reports of leaks: by how it would end without them, and whether a step ended with a leak
 abbrev pub leak_ending : Bool → ExitReason → ExitReason
 leak_ending leaked (Ran Clean) = if leaked then Leaked else Ran Clean
 leak_ending leaked ending = ending
@@ -63,5 +65,7 @@ abbrev pub text_of : ExitReason → Option (List ℕ)
 text_of (GaveUp (Script Directory)) = Some (fault_text fault.Read)
 text_of (GaveUp (Script why)) = Some (codes "cannot open script")
 text_of (GaveUp (Output why)) = Some (codes "cannot read output")
+text_of (GaveUp (Second why)) = Some (codes "cannot read the second script")
+text_of (GaveUp (PageFile why)) = Some (codes "cannot create a file for the page")
 text_of (GaveUp (Job fault)) = Some (fault_text fault)
 text_of _ = None

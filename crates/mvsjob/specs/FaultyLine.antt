@@ -14,7 +14,7 @@ pub record IsLineOf (from : ℕ) (lines : List (List ℕ)) (number : ℕ) (line 
   pub rest : List (List ℕ)
   pub parts : lines ≡ before ++ rest
   pub counted : number ≡ from + length before
-  pub here : ((behind : List (List ℕ)) × (rest ≡ line ∷ behind)) ⊎ ((rest ≡ []) × (line ≡ []))
+  pub here : ((following : List (List ℕ)) × (rest ≡ line ∷ following)) ⊎ ((rest ≡ []) × (line ≡ []))
 
 -- The events end with this fault, of the line of this number.
 abbrev pub EndsAt : ℕ → Fault → List Event → Type 0

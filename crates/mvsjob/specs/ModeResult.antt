@@ -1,8 +1,8 @@
 -- The effect of a mode on a script that was read whole: what it writes, how the program ends, and which line to report.
-use Rattle.std.specs.Prelude.{◌≡◌, ℕ, List, ◌∷◌, ◌++◌, ◌==◌, ◌&&◌, ◌||◌, nat_lt, not, position, Option, Some, None, Result, Ok, Err, Bool, true, false, codes}
+use Rattle.std.specs.Prelude.{◌⊎◌, ◌≡◌, ℕ, List, ◌∷◌, ◌++◌, ◌==◌, ◌&&◌, ◌||◌, nat_lt, not, position, Option, Some, None, Result, Ok, Err, Bool, true, false, codes}
 use Rattle.std.specs.List.{list_all}
 use Rattle.std.specs.Io.KnownBytes.{Appends}
-use Rattle.area_history.specs.declared.largest.Leaks.{Leaks}
+use Rattle.area_history.specs.declared.account.Leftovers.{Leftovers}
 use Rattle.area_history.specs.Reporting.{IsReported, with_leaks}
 use Rattle.expected_answers.specs.Blank.{blank}
 use Rattle.job_script.specs.Writing.{AppendsFront}
@@ -49,6 +49,14 @@ EndsAs script _ _ = ⊥
 abbrev pub Pages : Option (List ℕ) → Option (List ℕ) → List ℕ → List ℕ → Result ModeResult CliError → Type 0
 Pages before after frame script result = (ended : Result Outcome Stop) × WritesPage before after frame script ended × EndsAs script ended result
 
+-- The run is written as a page, and then, unless that stops, the run of another script after a line; it ends as the first run.
+abbrev pub PagesBoth : Option (List ℕ) → Option (List ℕ) → List ℕ → List ℕ → List ℕ → List ℕ → Result ModeResult CliError → Type 0
+PagesBoth before after frame line script other (Ok served) =
+    (mid : Option (List ℕ)) × (second : ModeResult) × Pages before mid frame script (Ok served) × Pages mid after line other (Ok second)
+PagesBoth before after frame line script other (Err why) =
+    Pages before after frame script (Err why)
+    ⊎ ((mid : Option (List ℕ)) × (first : ModeResult) × Pages before mid frame script (Ok first) × Pages mid after line other (Err why))
+
 -- Its run is printed, and an observer is called for exactly the lines that were not executed, or if the run stops for those among
 -- the first lines.
 abbrev pub RunsStrictly : Option (List ℕ) → Option (List ℕ) → Option (List Skipped) → Option (List Skipped) → List ℕ → Result ModeResult CliError → Type 0
@@ -64,7 +72,7 @@ ConsumesStrictly piece before after heard heard' script (Err why) = (stop : Stop
 
 -- It is run, and a consumer writes of it with a report of leaks of this form at the end of each step. If the run is strict, the mode ends by
 -- whether each line was executed.
-abbrev pub ReportsLeaks : (Leaks → List ℕ) → Bool → Piece → Option (List ℕ) → Option (List ℕ) → List ℕ → Result ModeResult CliError → Type 0
+abbrev pub ReportsLeaks : (Leftovers → List ℕ) → Bool → Piece → Option (List ℕ) → Option (List ℕ) → List ℕ → Result ModeResult CliError → Type 0
 ReportsLeaks report strict piece before after script (Ok served) =
     (entries : List Entry) × (outcome : Outcome) × (leaked : Bool) × IsReported report piece before after script outcome leaked entries
     × (served.ending ≡ leak_ending leaked (strict_ending outcome (not strict || list_all is_of_served (events_of entries)))) × IsFaultOf script outcome served.faulty

@@ -9,7 +9,7 @@ use Rattle.mvs_model.specs.declared.line.SourceRequest.TheVariants as written
 use Rattle.mvs_model.specs.declared.name.Name.{Name}
 use Rattle.mvs_model.specs.Name.{trimmed}
 use Rattle.mvs_model.specs.Reading.{line_meaning, is_blank_or_comment}
-use Rattle.mvsjob.specs.FaultFilter.{is_faulty}
+use Rattle.terminal_session.specs.Sessions.{is_faulty}
 
 -- the WHERE of a task for the area or cell of a name
 abbrev pub question : Name → Name → List ℕ

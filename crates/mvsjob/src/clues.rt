@@ -1,10 +1,10 @@
 //! What may help where a line of a script was not executed: the line that makes what is missing, or a name that is near.
 
 use diagnosis::{Suggestion, edits_between};
-use job_script::read_line;
 use job_script::split_once::split_once;
+use job_script::{names_set, read_line};
 use mvs_job::Job;
-use mvs_model::line::{Line, Location, SourceRequest, Statement};
+use mvs_model::line::{Line, SourceRequest, Statement};
 use mvs_model::name::Name;
 use std::alloc::{AllocError, Global};
 
@@ -43,22 +43,45 @@ struct StepLines {
     end: u32,
 }
 
+// Returns the task that a request is to attach.
+fn attached(written: &SourceRequest) -> Option<Name> {
+    match written {
+        SourceRequest::Attach { name, .. } => Some(*name),
+        SourceRequest::Obtain { .. }
+        | SourceRequest::ObtainList { .. }
+        | SourceRequest::Release { .. }
+        | SourceRequest::ReleaseArea { .. }
+        | SourceRequest::ReleaseList { .. }
+        | SourceRequest::ReleaseWhole { .. }
+        | SourceRequest::Build { .. }
+        | SourceRequest::Get { .. }
+        | SourceRequest::Free { .. }
+        | SourceRequest::Delete { .. }
+        | SourceRequest::Return
+        | SourceRequest::Abend(_)
+        | SourceRequest::Show { .. }
+        | SourceRequest::Put { .. }
+        | SourceRequest::Move { .. } => None,
+    }
+}
+
 // Returns the task that a statement is to begin.
 fn begun(task: &Name, statement: &Statement) -> Option<Name> {
     match statement {
         Statement::Region { .. } => Some(*task),
-        Statement::Request(SourceRequest::Attach { name, .. }) => Some(*name),
-        _ => None,
+        Statement::Request(written) => attached(written),
+        Statement::Where(_) | Statement::ReportSubpools | Statement::ReportMap => None,
     }
 }
 
 // Returns the names that a statement is to set.
 fn set_by(statement: &Statement) -> &[Name] {
     match statement {
-        Statement::Request(SourceRequest::Obtain { area, .. }) => std::slice::from_ref(area),
-        Statement::Request(SourceRequest::ObtainList { areas, .. }) => areas.as_slice(),
-        Statement::Request(SourceRequest::Get { cell, .. }) => std::slice::from_ref(cell),
-        _ => &[],
+        Statement::Request(written) => names_set(written),
+        Statement::Region { .. }
+        | Statement::Where(_)
+        | Statement::ReportSubpools
+        | Statement::ReportMap => &[],
     }
 }
 
@@ -97,11 +120,11 @@ impl Made {
                 return Suggestion::Before(line);
             }
         }
-        let behind = self
+        let after = self
             .by_name
             .partition_point(|made| *made <= (name, line_number));
-        match self.line_in(behind, name, step) {
-            Some(line) => Suggestion::Behind(line),
+        match self.line_in(after, name, step) {
+            Some(line) => Suggestion::After(line),
             None => Suggestion::Nothing,
         }
     }
@@ -231,40 +254,11 @@ impl Makers {
     }
 }
 
-// Returns the name of a location that is not set.
-fn unset_in(job: &Job, location: &Location) -> Option<Name> {
-    match location {
-        Location::Named(name, _) if job.place_of(name).is_none() => Some(*name),
-        _ => None,
-    }
-}
-
-// Returns the first name of some locations that is not set.
-fn unset_among(job: &Job, locations: &[Location]) -> Option<Name> {
-    for location in locations {
-        if let Some(name) = unset_in(job, location) {
-            return Some(name);
-        }
-    }
-    None
-}
-
 /// Returns the first name that a statement looks up and that is not set.
 pub fn unset(job: &Job, statement: &Statement) -> Option<Name> {
-    let Statement::Request(written) = statement else {
-        return match statement {
-            Statement::Where(name) => Some(*name),
-            _ => None,
-        };
-    };
-    match written {
-        SourceRequest::ReleaseArea { area, .. } => Some(*area),
-        SourceRequest::Release { location, .. }
-        | SourceRequest::Free { cell: location, .. }
-        | SourceRequest::Show { from: location, .. }
-        | SourceRequest::Put { to: location, .. } => unset_in(job, location),
-        SourceRequest::ReleaseList { locations, .. } => unset_among(job, locations.as_slice()),
-        SourceRequest::Move { to, from, .. } => unset_in(job, to).or(unset_in(job, from)),
-        _ => None,
+    match statement {
+        Statement::Request(written) => job.unset(written),
+        Statement::Where(name) => Some(*name),
+        Statement::Region { .. } | Statement::ReportSubpools | Statement::ReportMap => None,
     }
 }

@@ -18,7 +18,7 @@ pub struct Coloured<W> {
     is_on: bool,
 }
 
-// The colour of a line: `n TASK ABEND ..` and `n TASK RC 4` have one.
+// Returns the colour of a line: `n TASK ABEND ..` and `n TASK RC 4` have one.
 fn colour_of(line: &[u8]) -> Option<&'static [u8]> {
     let mut words = line.split(|byte| *byte == b' ').skip(2);
     match (words.next(), words.next()) {
@@ -31,10 +31,12 @@ fn colour_of(line: &[u8]) -> Option<&'static [u8]> {
 }
 
 impl<W> Coloured<W> {
+    /// Makes a writer that colours lines if it is switched on.
     pub fn new(inner: W, is_on: bool) -> Coloured<W> {
         Coloured { inner, is_on }
     }
 
+    /// Returns the writer below.
     pub fn get_ref(&self) -> &W {
         &self.inner
     }
@@ -68,7 +70,7 @@ fn forbids_colour(rt: &HostRuntime) -> bool {
     }
 }
 
-/// Whether the answers of a run are coloured.
+/// Returns whether the answers of a run are coloured.
 pub fn is_coloured(rt: &HostRuntime, color: Color) -> bool {
     match color {
         Color::Always => true,

@@ -1,15 +1,15 @@
 //! The words of the command line, which `clap` reads.
 
 ghost use Rattle.std.specs.Prelude.{◌≡◌, ◌↔◌, ◌⊎◌, ◌<◌, ◌≤◌, ◌^◌, ℕ, [], None, Some, IfOk, IfErr, IsTrue, codes, map, string_bytes};
-ghost use Rattle.std.specs.Option.{unwrap_or};
+ghost use Rattle.std.specs.Option.{option_map, unwrap_or};
 ghost use Rattle.clap.specs.Words.{IsAmong, Kinds, Text, app_of, first_value, found_of, kind_of, new_app, new_rule, with_rule};
 ghost use Rattle.clap.specs.declared.error.kind.ErrorKind.TheVariants.{OutOfMemory};
 ghost use Rattle.clap.specs.declared.builder.value_parser.ValueParser.{ValueParser as Parser};
-ghost use Rattle.mvsjob.specs.CommandLine.{AreParsers, FindsWrong, IsColor, IsFormat, IsMode, IsNumber, IsOneOf, IsProfile, IsRecipe, IsScriptMode, IsTaken, Parsers, answers_app, assigned, checking_app, colors, command, formats, flag_rule, judging_app, places, profiles, random_app, rule_app, output_app, value_rule, versioned};
+ghost use Rattle.mvsjob.specs.CommandLine.{AreParsers, AreSettings, FindsWrong, IsColor, IsFormat, IsMode, IsNumber, IsOneOf, IsOutput, IsProfile, IsRecipe, IsScriptMode, IsTaken, Parsers, answers_app, assigned, checking_app, colors, command, formats, flag_rule, judging_app, places, profiles, random_app, rule_app, output_app, second_app, value_rule, versioned};
 ghost use Rattle.reference.specs.Texts.{names};
 
 use crate::exclusions::apart;
-use crate::options::{Color, Mode, Recipe, Settings};
+use crate::options::{Color, Mode, Recipe, RunOutput, Settings};
 use clap::builder::ValueParser;
 use clap::{Arg, ArgAction, ArgMatches, Command};
 use expected_answers::{Format, ReportForm};
@@ -29,7 +29,7 @@ const LONG: &str = "Examples:
   mvsjob --explain leak.job          show why requests are refused, and what is freed
   mvsjob --leaks leak.job            show which areas were never released
   mvsjob --strict leak.job           report lines that were not executed
-  mvsjob                             run lines as you type them; Ctrl-D ends
+  mvsjob                             run lines as you type them; .help lists commands, Ctrl-D ends
   mvsjob --page a.job > a.html       show storage and tasks after each statement
   mvsjob --check homework.job        compare the answers after => with those of a run
   mvsjob --check --hide homework.job
@@ -53,7 +53,8 @@ Exit status:
 mvsjob-script(5) describes the script language.";
 
 /// The options that have a value, where it is a word of its own.
-static VALUED: [&str; 9] = [
+static VALUED: [&str; 10] = [
+    "--with",
     "--place",
     "--format",
     "--judge",
@@ -95,7 +96,7 @@ static CODES: [&str; 36] = [
     "NOT RUN", "NO NAME",
 ];
 
-// The command without its words: its name, its version, and what the help says around them.
+// Returns the command without its words: its name, its version, and what the help says around them.
 fn titled<'a>(alloc: Global) -> Command<'a>
     ensures { app_of result ≡ versioned (new_app (codes "mvsjob")) }
 {
@@ -142,7 +143,7 @@ fn with_option<'a>(
     command.arg(option)
 }
 
-// The command with the script.
+// Returns the command with the script.
 fn with_script<'a>(alloc: Global) -> Result<Command<'a>, AllocError>
     ensures { IfOk result
         (λ c. app_of c ≡ with_rule (versioned (new_app (codes "mvsjob"))) (new_rule (codes "FILE"))) }
@@ -219,7 +220,7 @@ fn with_answers<'a>(command: Command<'a>, alloc: Global) -> Result<Command<'a>, 
     )
 }
 
-// The command with what is asked of the output of another program.
+// Returns the command with what is asked of the output of another program.
 fn with_judging<'a>(command: Command<'a>, alloc: Global) -> Result<Command<'a>, AllocError>
     ensures { IfOk result (λ c. app_of c ≡ judging_app (app_of command.entry)) }
 {
@@ -239,7 +240,7 @@ fn with_judging<'a>(command: Command<'a>, alloc: Global) -> Result<Command<'a>, 
     )
 }
 
-// The command with a random script.
+// Returns the command with a random script.
 fn with_random<'a>(command: Command<'a>, alloc: Global) -> Result<Command<'a>, AllocError>
     ensures { IfOk result (λ c. app_of c ≡ random_app (app_of command.entry)) }
 {
@@ -261,7 +262,7 @@ fn with_random<'a>(command: Command<'a>, alloc: Global) -> Result<Command<'a>, A
     )
 }
 
-// The command with what a random script is made of.
+// Returns the command with what a random script is made of.
 fn with_profile<'a>(command: Command<'a>, alloc: Global) -> Result<Command<'a>, AllocError>
     ensures { IfOk result
         (λ c. (profile : Parser) × IsOneOf profiles profile
@@ -305,8 +306,14 @@ fn with_outputs<'a>(command: Command<'a>, alloc: Global) -> Result<Command<'a>, 
         "page",
         "Print the run as an HTML page that shows storage and tasks after each statement",
     )?;
-    let strict = with_flag(
+    let opening = with_flag(
         paging,
+        alloc,
+        "open",
+        "With --page, write the page to a new file in the folder for temporary files, and print the name of the file",
+    )?;
+    let strict = with_flag(
+        opening,
         alloc,
         "strict",
         "Report lines that were not executed (NOT RUN, NO NAME) on standard error, with a hint",
@@ -315,11 +322,11 @@ fn with_outputs<'a>(command: Command<'a>, alloc: Global) -> Result<Command<'a>, 
         strict,
         alloc,
         "interactive",
-        "Prompt for each line, and report and skip lines with a fault, as in a terminal",
+        "Prompt for each line, and report and skip lines with a fault, as in a terminal; .help lists commands",
     )
 }
 
-// The command with the colours of answers.
+// Returns the command with the colours of answers.
 fn with_color<'a>(command: Command<'a>, alloc: Global) -> Result<Command<'a>, AllocError>
     ensures { IfOk result
         (λ c. (color : Parser) × IsOneOf colors color
@@ -365,7 +372,21 @@ fn with_rule_text<'a>(command: Command<'a>, alloc: Global) -> Result<Command<'a>
     )
 }
 
-// Makes the command: a file and nineteen options, all optional.
+// Adds the option for the script of a second run.
+fn with_second<'a>(command: Command<'a>, alloc: Global) -> Result<Command<'a>, AllocError>
+    ensures { IfOk result (λ c. app_of c ≡ second_app (app_of command.entry)) }
+{
+    with_option(
+        command,
+        alloc,
+        "with",
+        "OTHER",
+        ValueParser::NonEmptyString,
+        "With --page, also run the script OTHER, and show what differs; with FILE itself, place its areas at the other end",
+    )
+}
+
+// Makes the command: a file and twenty-two options, all optional.
 fn command<'a>(alloc: Global) -> Result<Command<'a>, AllocError>
     ensures { IfOk result (λ c. (ps : Parsers) × AreParsers ps × (app_of c ≡ command ps)) }
 {
@@ -380,10 +401,11 @@ fn command<'a>(alloc: Global) -> Result<Command<'a>, AllocError>
     let telling = with_outputs(profiled, alloc)?;
     let colored = with_color(telling, alloc)?;
     let coded = with_code(colored, alloc)?;
-    with_rule_text(coded, alloc)
+    let ruled = with_rule_text(coded, alloc)?;
+    with_second(ruled, alloc)
 }
 
-// The word for the script.
+// Returns the word for the script.
 fn file<'a>(matches: &ArgMatches<'a>) -> &'a str
     ensures { result.now
         ≡ unwrap_or (first_value (found_of matches.now) (codes "FILE")) (codes "-") }
@@ -394,14 +416,14 @@ fn file<'a>(matches: &ArgMatches<'a>) -> &'a str
     }
 }
 
-// The word for the output that is judged.
+// Returns the word for the output that is judged.
 fn judged<'a>(matches: &ArgMatches<'a>) -> &'a str
     ensures { result.now ≡ unwrap_or (first_value (found_of matches.now) (codes "judge")) [] }
 {
     matches.get_str("judge").unwrap_or("")
 }
 
-// Which place is taken.
+// Returns which place is taken.
 fn placement(matches: &ArgMatches<'_>) -> Placement
     ensures { result ≡ Placement.High
         ↔ first_value (found_of matches.now) (codes "place") ≡ Some (codes "high") }
@@ -412,7 +434,7 @@ fn placement(matches: &ArgMatches<'_>) -> Placement
     }
 }
 
-// Whether a flag is set.
+// Returns whether a flag is set.
 fn is_set(matches: &ArgMatches<'_>, name: &str) -> bool
     ensures { IsTrue result ↔ first_value (found_of matches.now) name.now ≡ Some (codes "true") }
 {
@@ -422,7 +444,7 @@ fn is_set(matches: &ArgMatches<'_>, name: &str) -> bool
     }
 }
 
-// Whether an option has this value.
+// Returns whether an option has this value.
 fn has_value(matches: &ArgMatches<'_>, name: &str, value: &str) -> bool
     ensures { IsTrue result ↔ first_value (found_of matches.now) name.now ≡ Some value.now }
 {
@@ -432,7 +454,7 @@ fn has_value(matches: &ArgMatches<'_>, name: &str, value: &str) -> bool
     }
 }
 
-// Whether answers are coloured.
+// Returns whether answers are coloured.
 fn color(matches: &ArgMatches<'_>) -> Color
     ensures { IsColor (first_value (found_of matches.now) (codes "color")) result }
 {
@@ -508,9 +530,7 @@ fn lines_of(number: u64) -> u32
 
 // Returns the random script that is asked for.
 fn recipe(matches: &ArgMatches<'_>) -> Recipe
-    ensures { IsRecipe (first_value (found_of matches.now) (codes "random"))
-        (first_value (found_of matches.now) (codes "lines"))
-        (first_value (found_of matches.now) (codes "profile")) result }
+    ensures { IsRecipe (first_value (found_of matches.now)) result }
 {
     Recipe {
         seed: number_of(matches, "random", 0),
@@ -519,7 +539,7 @@ fn recipe(matches: &ArgMatches<'_>) -> Recipe
     }
 }
 
-// The code whose text is requested.
+// Returns the code whose text is requested.
 fn coded<'a>(matches: &ArgMatches<'a>) -> &'a str
     ensures { result.now ≡ unwrap_or (first_value (found_of matches.now) (codes "code")) [] }
 {
@@ -536,14 +556,7 @@ fn rule_number(matches: &ArgMatches<'_>) -> u32
 
 // Returns what to do with a script.
 fn script_mode(matches: &ArgMatches<'_>) -> Mode
-    ensures { IsScriptMode (first_value (found_of matches.now) (codes "random"))
-        (first_value (found_of matches.now) (codes "lines"))
-        (first_value (found_of matches.now) (codes "profile"))
-        (first_value (found_of matches.now) (codes "judge"))
-        (first_value (found_of matches.now) (codes "check"))
-        (first_value (found_of matches.now) (codes "blank"))
-        (first_value (found_of matches.now) (codes "ask"))
-        (first_value (found_of matches.now) (codes "assemble")) result }
+    ensures { IsScriptMode (first_value (found_of matches.now)) result }
 {
     match matches.get_str("random") {
         Some(_) => Mode::Random(recipe(matches)),
@@ -558,16 +571,7 @@ fn script_mode(matches: &ArgMatches<'_>) -> Mode
 
 // Returns what to do.
 fn mode(matches: &ArgMatches<'_>) -> Mode
-    ensures { IsMode (first_value (found_of matches.now) (codes "code"))
-        (first_value (found_of matches.now) (codes "rule"))
-        (first_value (found_of matches.now) (codes "random"))
-        (first_value (found_of matches.now) (codes "lines"))
-        (first_value (found_of matches.now) (codes "profile"))
-        (first_value (found_of matches.now) (codes "judge"))
-        (first_value (found_of matches.now) (codes "check"))
-        (first_value (found_of matches.now) (codes "blank"))
-        (first_value (found_of matches.now) (codes "ask"))
-        (first_value (found_of matches.now) (codes "assemble")) result }
+    ensures { IsMode (first_value (found_of matches.now)) result }
 {
     if matches.get_str("code").is_some() {
         Mode::Code
@@ -578,7 +582,24 @@ fn mode(matches: &ArgMatches<'_>) -> Mode
     }
 }
 
-/// Whether several words of a command line, the program's name first, name files.
+// Returns what a run writes.
+fn output(matches: &ArgMatches<'_>) -> RunOutput
+    ensures { IsOutput (first_value (found_of matches.now)) result }
+{
+    if is_set(matches, "page") {
+        if is_set(matches, "open") {
+            RunOutput::PageFile
+        } else {
+            RunOutput::Page
+        }
+    } else if is_set(matches, "json") {
+        RunOutput::Json
+    } else {
+        RunOutput::Replies
+    }
+}
+
+/// Returns whether several words of a command line, the program's name first, name files.
 pub fn names_files(words: &[String]) -> bool {
     let mut files = 0usize;
     let mut takes_value = true;
@@ -593,48 +614,14 @@ pub fn names_files(words: &[String]) -> bool {
 }
 
 /// Reads the words of a command line, the program's name first. An error is what `clap` has to say of them, a text for the user
-/// (where it is the help that the words ask for, `use_stderr` is false), or want of memory.
+/// (where it is the help that the words ask for, `use_stderr` is false), or memory is exhausted.
 pub fn settings<'a>(alloc: Global, words: &'a [String]) -> Result<Settings<'a>, clap::Error>
     // What clap assigns the words to.
     ensures ok { IfOk result
         (λ s. (ps : Parsers) × AreParsers ps
-        × (s.file.now
-        ≡ unwrap_or (assigned ps (map string_bytes words.entry.now) (codes "FILE")) (codes "-"))
-        × (s.placement ≡ Placement.High
-        ↔ assigned ps (map string_bytes words.entry.now) (codes "place") ≡ Some (codes "high"))
-        × (s.judged.now
-        ≡ unwrap_or (assigned ps (map string_bytes words.entry.now) (codes "judge")) [])
-        × (s.code.now
-        ≡ unwrap_or (assigned ps (map string_bytes words.entry.now) (codes "code")) [])
-        × IsMode (assigned ps (map string_bytes words.entry.now) (codes "code"))
-        (assigned ps (map string_bytes words.entry.now) (codes "rule"))
-        (assigned ps (map string_bytes words.entry.now) (codes "random"))
-        (assigned ps (map string_bytes words.entry.now) (codes "lines"))
-        (assigned ps (map string_bytes words.entry.now) (codes "profile"))
-        (assigned ps (map string_bytes words.entry.now) (codes "judge"))
-        (assigned ps (map string_bytes words.entry.now) (codes "check"))
-        (assigned ps (map string_bytes words.entry.now) (codes "blank"))
-        (assigned ps (map string_bytes words.entry.now) (codes "ask"))
-        (assigned ps (map string_bytes words.entry.now) (codes "assemble")) s.mode
-        × (IsTrue s.explains
-        ↔ assigned ps (map string_bytes words.entry.now) (codes "explain") ≡ Some (codes "true"))
-        × (IsTrue s.leaks
-        ↔ assigned ps (map string_bytes words.entry.now) (codes "leaks") ≡ Some (codes "true"))
-        × (IsTrue s.json
-        ↔ assigned ps (map string_bytes words.entry.now) (codes "json") ≡ Some (codes "true"))
-        × (IsTrue s.page
-        ↔ assigned ps (map string_bytes words.entry.now) (codes "page") ≡ Some (codes "true"))
-        × (IsTrue s.strict
-        ↔ assigned ps (map string_bytes words.entry.now) (codes "strict") ≡ Some (codes "true"))
-        × (IsTrue s.interactive
-        ↔ assigned ps (map string_bytes words.entry.now) (codes "interactive")
-        ≡ Some (codes "true"))
-        × IsColor (assigned ps (map string_bytes words.entry.now) (codes "color")) s.color
-        × IsFormat (assigned ps (map string_bytes words.entry.now) (codes "format")) s.form.format
-        × (IsTrue s.form.is_hidden
-        ↔ assigned ps (map string_bytes words.entry.now) (codes "hide") ≡ Some (codes "true"))) }
-    // Clap finds nothing wrong with words that are taken; an error is of a kind that it finds, or want of memory.
-    ensures taken { IfOk result (λ _. FindsWrong (map string_bytes words.entry.now) []) }
+        × AreSettings (assigned ps (map string_bytes words.entry.now)) s) }
+    // Clap finds nothing wrong with valid words; an error is of a kind that it finds, or memory is exhausted.
+    ensures valid { IfOk result (λ _. FindsWrong (map string_bytes words.entry.now) []) }
     ensures kinds { IfErr result
         (λ error. (kind_of error ≡ OutOfMemory)
         ⊎ ((kinds : Kinds) × FindsWrong (map string_bytes words.entry.now) kinds
@@ -648,12 +635,12 @@ pub fn settings<'a>(alloc: Global, words: &'a [String]) -> Result<Settings<'a>, 
         file: file(&matches),
         placement: placement(&matches),
         judged: judged(&matches),
+        second: matches.get_str("with"),
         code: coded(&matches),
         mode: mode(&matches),
+        output: output(&matches),
         explains: is_set(&matches, "explain"),
         leaks: is_set(&matches, "leaks"),
-        json: is_set(&matches, "json"),
-        page: is_set(&matches, "page"),
         strict: is_set(&matches, "strict"),
         interactive: is_set(&matches, "interactive"),
         color: color(&matches),

@@ -65,6 +65,12 @@ pub enum CliError {
     /// The output to judge cannot be read.
     #[error("cannot read output: {0}")]
     Output(Cause),
+    /// The script of a second run cannot be read.
+    #[error("cannot read the second script: {0}")]
+    Second(Cause),
+    /// The file for a page cannot be created.
+    #[error("cannot create a file for the page: {0}")]
+    PageFile(Cause),
     /// Nobody reads what is written.
     #[error("the pipe is closed")]
     Pipe,
@@ -87,6 +93,18 @@ impl CliError {
         match stop {
             Stop::Write => CliError::Job(RunFault::Write),
             Stop::Memory => CliError::Job(RunFault::Memory),
+        }
+    }
+
+    /// Returns what a message about a file says of the cause.
+    pub fn reason(self) -> &'static str {
+        match self {
+            CliError::Script(cause)
+            | CliError::Output(cause)
+            | CliError::Second(cause)
+            | CliError::PageFile(cause) => cause.text(),
+            CliError::Pipe => "the pipe is closed",
+            CliError::Job(fault) => fault.text(),
         }
     }
 
@@ -131,7 +149,7 @@ impl ExitReason {
         }
     }
 
-    /// Returns how a run ends that ended so otherwise, and reported leaks or none.
+    /// Returns how a run ends that has reported leaks, or none: from how it ends without a report.
     pub fn with_leaks(self, has_leaked: bool) -> ExitReason
         ensures { result ≡ leak_ending has_leaked self }
     {
@@ -168,6 +186,8 @@ impl ExitReason {
             ExitReason::GaveUp(CliError::Script(Cause::Directory)) => Some(RunFault::Read.text()),
             ExitReason::GaveUp(CliError::Script(_)) => Some("cannot open script"),
             ExitReason::GaveUp(CliError::Output(_)) => Some("cannot read output"),
+            ExitReason::GaveUp(CliError::Second(_)) => Some("cannot read the second script"),
+            ExitReason::GaveUp(CliError::PageFile(_)) => Some("cannot create a file for the page"),
             ExitReason::GaveUp(CliError::Job(fault)) => Some(fault.text()),
             ExitReason::GaveUp(CliError::Pipe)
             | ExitReason::Ran(_)

@@ -147,7 +147,9 @@ static EXCLUDING: [Excluding; 10] = [
 ];
 
 /// The options that have a meaning with another one only, and that one.
-static NEEDING: [(&str, &str); 4] = [
+static NEEDING: [(&str, &str); 6] = [
+    ("with", "page"),
+    ("open", "page"),
     ("lines", "random"),
     ("profile", "random"),
     ("hide", "check"),

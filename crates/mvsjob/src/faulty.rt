@@ -38,7 +38,7 @@ impl FaultyLine<'_> {
     }
 }
 
-/// Whether a line says nothing that says this.
+/// Returns whether a line says nothing that says this.
 pub fn is_blank_or_comment(read: &Line) -> bool
     ensures { (first : Bool) (bytes : List ℕ) → LineOf first bytes read.now
         → result ≡ is_blank_or_comment bytes }
@@ -94,7 +94,7 @@ pub fn first_faulty(text: &[u8], number: u32, first: bool) -> FaultyLine<'_>
     }
 }
 
-/// The line whose fault ends the runs of a script that end with one.
+/// Returns the line whose fault ends the runs of a script that end with one.
 pub fn faulty_in(script: &[u8]) -> FaultyLine<'_>
     requires { length script.now ≤ most_script_bytes }
     // If a run of the script ends with a fault, that is its last event.

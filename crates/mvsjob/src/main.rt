@@ -1,8 +1,9 @@
 //! Simulates the virtual storage services that an unauthorized program of MVS uses in its own region.
 #![tactic(auto)]
 
-ghost use Rattle.std.specs.Prelude.{◌≡◌, false, IfOk};
+ghost use Rattle.std.specs.Prelude.{◌≡◌, ◌≤◌, false, length, IfOk, IfSome};
 ghost use Rattle.std.specs.Process.{exit_status};
+ghost use Rattle.mvs_model.specs.Numbers.{most_script_bytes};
 ghost use Rattle.mvsjob.specs.Endings.{status_of};
 
 mod answers;
@@ -10,15 +11,16 @@ mod assembled;
 mod clues;
 mod coloured;
 mod command_line;
+mod desk;
 mod difference;
 mod ending;
 mod exclusions;
-mod faultless;
 mod faulty;
 mod front;
 mod judging;
 mod opened;
 mod options;
+mod page_file;
 mod piped;
 mod queries;
 mod recorder;
@@ -29,24 +31,27 @@ mod strict;
 mod terminal;
 mod through;
 
+use area_history::{Historian, JsonReport, TextReport};
 use coloured::{Coloured, is_coloured};
 use command_line::{names_files, settings};
 use diagnosis::{PlainName, diagnose};
 use ending::{Cause, CliError, ExitReason};
 use event_json::EventLines;
 use faulty::FaultyLine;
+use job_script::write_all;
 use mvs_job::{Explained, RunFault};
 use mvs_model::outcome::Outcome;
 use mvs_model::watched::Watched;
 use opened::OpenReader;
-use options::{Apart, Mode, Settings};
+use options::{Apart, Mode, RunOutput, Settings};
+use page_file::new_page_file;
 use piped::Piped;
 use recorder::LineRecorder;
 use script::{read_output, read_script};
 use served::serve_script;
 use std::env;
 use std::fs::File;
-use std::io::{self, BufWriter, ErrorKind, Read, Write};
+use std::io::{self, BufWriter, ErrorKind, IsTerminal, Read, Write};
 use std::process::ExitCode;
 use streamed::{run_streamed, stream_to};
 use strict::Teller;
@@ -132,11 +137,18 @@ fn run_lines<R: Read + Drop>(
         return Err(CliError::Job(RunFault::Memory));
     };
     let (alloc, placement) = (rt.alloc(), settings.placement);
-    let ran = if settings.json {
-        let mut lines = EventLines::new(alloc, settings.explains);
+    let is_json = settings.output == RunOutput::Json;
+    let ran = if is_json && settings.explains {
+        let mut lines = EventLines::new(alloc, true);
+        let mut historian = Historian::new(alloc, &mut lines, JsonReport);
+        stream_to(alloc, kept, writer, placement, &mut historian)
+    } else if is_json {
+        let mut lines = EventLines::new(alloc, false);
         stream_to(alloc, kept, writer, placement, &mut lines)
     } else if settings.explains {
-        stream_to(alloc, kept, writer, placement, &mut Explained::new(alloc))
+        let mut explained = Explained::new(alloc);
+        let mut historian = Historian::new(alloc, &mut explained, TextReport);
+        stream_to(alloc, kept, writer, placement, &mut historian)
     } else {
         run_streamed(alloc, kept, writer, placement)
     };
@@ -149,6 +161,28 @@ fn run_lines<R: Read + Drop>(
         kept.get_ref().failure(),
         &kept.faulty(),
     )
+}
+
+// Writes the page of a script to a new file, and prints the name of the file.
+fn write_page_file(
+    rt: &HostRuntime,
+    settings: &Settings<'_>,
+    script: &[u8],
+    other: &[u8],
+    writer: &mut Watched<Output<'_>>,
+) -> Result<ExitReason, CliError>
+    requires script { length script.now ≤ most_script_bytes }
+    requires other { IfSome settings.now.second (λ _. length other.now ≤ most_script_bytes) }
+{
+    let page = new_page_file(rt)?;
+    let mut file = Watched::new(page.file);
+    let mut teller = Teller::new(rt, settings.file, script);
+    let served = serve_script(rt.alloc(), settings, script, other, &mut file, &mut teller)?;
+    let name = page.name.as_bytes();
+    if write_all(writer, name).is_err() || write_all(writer, b"\n").is_err() {
+        return Err(CliError::Job(RunFault::Write));
+    }
+    Ok(served.ending)
 }
 
 // Serves the script that a reader has.
@@ -167,9 +201,12 @@ fn serve_reader<R: Read + Drop>(
         return run_lines(rt, OpenReader::new(reader), settings, writer);
     }
     let script = read_script(rt.alloc(), reader)?;
-    let output = judged(rt, settings)?;
+    let other = other_file(rt, settings)?;
+    if settings.output == RunOutput::PageFile {
+        return write_page_file(rt, settings, &script, &other, writer);
+    }
     let mut teller = Teller::new(rt, settings.file, &script);
-    let served = serve_script(rt.alloc(), settings, &script, &output, writer, &mut teller)?;
+    let served = serve_script(rt.alloc(), settings, &script, &other, writer, &mut teller)?;
     if let Some(faulty) = &served.faulty {
         if writer.flush().is_err() {
             return Err(CliError::Job(RunFault::Write));
@@ -179,8 +216,29 @@ fn serve_reader<R: Read + Drop>(
     Ok(served.ending)
 }
 
-// Reads the output that is judged; there is none without `--judge`.
-fn judged(rt: &HostRuntime, settings: &Settings<'_>) -> Result<Vec<u8>, CliError> {
+// Reads the script of a second run.
+fn second_script(rt: &HostRuntime, file: &str) -> Result<Vec<u8>, CliError>
+    ensures { IfOk result (λ script. length script.items ≤ most_script_bytes) }
+{
+    let script = match File::open(rt, file) {
+        Ok(script) => script,
+        Err(error) => return Err(CliError::Second(Cause::from(error.kind()))),
+    };
+    match read_script(rt.alloc(), script) {
+        Ok(script) => Ok(script),
+        Err(CliError::Script(cause)) => Err(CliError::Second(cause)),
+        Err(why) => Err(why),
+    }
+}
+
+// Reads the other file: the script of a second run, or the output that is judged. There is none without `--with` and `--judge`.
+fn other_file(rt: &HostRuntime, settings: &Settings<'_>) -> Result<Vec<u8>, CliError>
+    ensures { IfOk result
+        (λ other. IfSome settings.now.second (λ _. length other.items ≤ most_script_bytes)) }
+{
+    if let Some(second) = settings.second {
+        return second_script(rt, second);
+    }
     if settings.mode != Mode::Judge {
         return Ok(Vec::new(rt.alloc()));
     }
@@ -256,7 +314,7 @@ fn words(rt: &HostRuntime) -> Result<Vec<String>, CliError> {
 }
 
 // Says why the program stopped before its work was done, if it did. A failure to say so changes nothing.
-fn finish(rt: &HostRuntime, file: &str, judged: &str, ending: ExitReason) -> ExitCode
+fn finish(rt: &HostRuntime, file: &str, other: &str, ending: ExitReason) -> ExitCode
     ensures { exit_status result ≡ status_of ending }
 {
     if let Some(text) = ending.text() {
@@ -266,8 +324,11 @@ fn finish(rt: &HostRuntime, file: &str, judged: &str, ending: ExitReason) -> Exi
         let file = PlainName(if file == "-" { "standard input" } else { file });
         let _ = eprintln!(rt; "    {file}: {}", cause.text());
     }
-    if let ExitReason::GaveUp(CliError::Output(cause)) = ending {
-        let _ = eprintln!(rt; "    {}: {}", PlainName(judged), cause.text());
+    if let ExitReason::GaveUp(CliError::Output(cause) | CliError::Second(cause)) = ending {
+        let _ = eprintln!(rt; "    {}: {}", PlainName(other), cause.text());
+    }
+    if let ExitReason::GaveUp(CliError::PageFile(cause)) = ending {
+        let _ = eprintln!(rt; "    folder for temporary files: {}", cause.text());
     }
     ExitCode::from(ending.status())
 }
@@ -294,18 +355,29 @@ fn refuse(rt: &HostRuntime, apart: Apart) -> Result<ExitReason, CliError> {
     Ok(ExitReason::Refused)
 }
 
+// Refuses to print a page at a terminal. A failure to say so changes nothing.
+fn refuse_page(rt: &HostRuntime) -> ExitReason {
+    let _ = eprintln!(rt;
+        "mvsjob: --page prints HTML, which a terminal does not show: use `mvsjob --page FILE > page.html`, or --open"
+    );
+    ExitReason::Refused
+}
+
 // Does what the words ask for, and ends.
 fn serve_words(rt: &HostRuntime, words: &[String]) -> ExitCode {
     match settings(rt.alloc(), words) {
         Ok(settings) => {
             let ended = match settings.apart {
                 Some(apart) => refuse(rt, apart),
+                None if settings.output == RunOutput::Page && rt.stdout().is_terminal() => {
+                    Ok(refuse_page(rt))
+                }
                 None => serve_and_flush(rt, &settings),
             };
             finish(
                 rt,
                 settings.file,
-                settings.judged,
+                settings.second.unwrap_or(settings.judged),
                 ended.unwrap_or_else(|why| ExitReason::GaveUp(why)),
             )
         }

@@ -1,5 +1,8 @@
 //! What the words of the command line ask for.
 
+ghost use Rattle.std.specs.Prelude.{◌≡◌};
+ghost use Rattle.mvsjob.specs.CommandLine.{is_page};
+
 use expected_answers::ReportForm;
 use mvs_model::want::Placement;
 use random_script::Profile;
@@ -28,6 +31,31 @@ pub enum Apart {
     Excludes(&'static str, &'static str),
     /// The first can be used with the second only.
     Needs(&'static str, &'static str),
+}
+
+/// What a run writes.
+#[derive(Clone, Copy, Debug, PartialEq, Eq)]
+pub enum RunOutput {
+    /// The replies to the statements.
+    Replies,
+    /// A line of JSON for each event.
+    Json,
+    /// A page of HTML.
+    Page,
+    /// The name of a new file, which has the page.
+    PageFile,
+}
+
+impl RunOutput {
+    /// Returns whether a page is written.
+    pub fn is_page(self) -> bool
+        ensures { result ≡ is_page self }
+    {
+        match self {
+            RunOutput::Page | RunOutput::PageFile => true,
+            RunOutput::Replies | RunOutput::Json => false,
+        }
+    }
 }
 
 /// What to do.
@@ -62,6 +90,8 @@ pub struct Settings<'a> {
     pub placement: Placement,
     /// The name of the file with the output that is judged; empty where none is.
     pub judged: &'a str,
+    /// The name of the file with the script of a second run, which a page compares with the first, if there is one.
+    pub second: Option<&'a str>,
     /// The code whose text is written; empty if there is none.
     pub code: &'a str,
     pub mode: Mode,
@@ -71,10 +101,7 @@ pub struct Settings<'a> {
     pub explains: bool,
     /// Whether a run reports leaks at the end of each step.
     pub leaks: bool,
-    /// Whether a run prints its events as lines of JSON.
-    pub json: bool,
-    /// Whether a run is written as a page of HTML.
-    pub page: bool,
+    pub output: RunOutput,
     /// Whether a run reports each line that was not executed.
     pub strict: bool,
     /// Whether a run prompts for its lines, and skips those with a fault.
@@ -87,7 +114,7 @@ pub struct Settings<'a> {
 impl Settings<'_> {
     /// Returns whether answers of a run are printed, and not lines of JSON, a page or what other modes print.
     pub fn is_answers(&self) -> bool {
-        self.mode == Mode::Run && !self.json && !self.page
+        self.mode == Mode::Run && self.output == RunOutput::Replies
     }
 
     /// Returns whether no script is read.
@@ -98,6 +125,6 @@ impl Settings<'_> {
     /// Returns whether a run writes of each line before the next one is read, if the lines are not those of a script that is searched
     /// for hints.
     pub fn is_as_it_comes(&self) -> bool {
-        self.mode == Mode::Run && !self.page
+        self.mode == Mode::Run && !self.output.is_page()
     }
 }

@@ -10,6 +10,7 @@ pub struct Piped<W> {
 }
 
 impl<W> Piped<W> {
+    /// Makes a writer that notes a closed pipe.
     pub fn new(inner: W) -> Piped<W> {
         Piped {
             inner,
@@ -17,6 +18,7 @@ impl<W> Piped<W> {
         }
     }
 
+    /// Returns whether the pipe is closed.
     pub fn is_closed(&self) -> bool {
         self.is_closed
     }

@@ -48,7 +48,7 @@ pub fn is_silent(text: &[u8]) -> bool {
     }
 }
 
-// How many lines have ended in a few bytes, fewer than 256: a byte counts them, so that many are looked at together.
+// Returns how many lines have ended in a few bytes, fewer than 256: a byte counts them, so that many are looked at together.
 fn ended_in_block(block: &[u8]) -> u8 {
     let mut lines = 0u8;
     for byte in block {
@@ -103,9 +103,9 @@ impl RecordedLines {
     }
 
     // Keeps what was read, as far as there is space.
-    fn keep(&mut self, told: &[u8]) {
-        let count = told.len().min(ROOM.saturating_sub(self.bytes.len()));
-        let _ = self.bytes.extend_from_slice(&told[..count]);
+    fn keep(&mut self, written: &[u8]) {
+        let count = written.len().min(ROOM.saturating_sub(self.bytes.len()));
+        let _ = self.bytes.extend_from_slice(&written[..count]);
     }
 
     fn faulty(&self) -> FaultyLine<'_> {
@@ -124,12 +124,12 @@ impl<R: Drop> LineRecorder<R> {
         })
     }
 
-    /// The line whose fault has ended a job.
+    /// Returns the line whose fault has ended a job.
     pub fn faulty(&self) -> FaultyLine<'_> {
         self.lines.faulty()
     }
 
-    /// The reader below.
+    /// Returns the reader below.
     pub fn get_ref(&self) -> &R
         ensures { result.now ≡ self.now.inner }
     {

@@ -1,7 +1,10 @@
 //! Serves a script that was read whole: what each mode does with it.
 
-ghost use Rattle.std.specs.Prelude.{◌≡◌, ◌≤◌, ◌⊎◌, [], ℕ, Contains, IfOk, IfSome, IsTrue, None, Some, false, length, true};
+ghost use Rattle.std.specs.Prelude.{◌≡◌, ◌≤◌, ◌⊎◌, [], ℕ, Contains, IfOk, IfSome, IsSome, IsTrue, None, Some, false, length, true};
+ghost use Rattle.area_history.specs.JsonHistories.{json_findings};
 ghost use Rattle.area_history.specs.JsonReports.{json_report};
+ghost use Rattle.area_history.specs.Histories.{with_history};
+ghost use Rattle.area_history.specs.HistoryTexts.{findings_text};
 ghost use Rattle.area_history.specs.LeakTexts.{report_text};
 ghost use Rattle.event_json.specs.Lines.{event_lines};
 ghost use Rattle.mvs_model.specs.Numbers.{most_script_bytes};
@@ -9,8 +12,9 @@ ghost use Rattle.mvs_job.specs.Explained.{explained};
 ghost use Rattle.mvs_job.specs.Printed.{printed};
 ghost use Rattle.mvsjob.specs.declared.options.Recipe.{Recipe};
 ghost use Rattle.mvsjob.specs.Checking.{Checks};
+ghost use Rattle.mvsjob.specs.CommandLine.{is_page};
 ghost use Rattle.mvsjob.specs.Endings.{strict_ending};
-ghost use Rattle.mvsjob.specs.ModeResult.{Asks, Blanks, ConsumesStrictly, EndsAtFault, HasNoForeign, IsFaultOf, IsPrinted, Judges, Pages, ReportsLeaks, RunsStrictly, WritesAbout, WritesText};
+ghost use Rattle.mvsjob.specs.ModeResult.{Asks, Blanks, ConsumesStrictly, EndsAtFault, HasNoForeign, IsFaultOf, IsPrinted, Judges, Pages, PagesBoth, ReportsLeaks, RunsStrictly, WritesAbout, WritesText};
 ghost use Rattle.reference.specs.Texts.{IsRule, names, rule_name};
 
 use crate::answers::{check_answers, write_blanks, write_questions};
@@ -18,10 +22,10 @@ use crate::assembled::write_assembled;
 use crate::ending::{CliError, ExitReason};
 use crate::faulty::{FaultyLine, faulty_in};
 use crate::judging::judge_output;
-use crate::options::{Mode, Recipe, Settings};
+use crate::options::{Mode, Recipe, RunOutput, Settings};
 use crate::through::Through;
 use area_history::{
-    JsonReport, ReportFormat, TextReport, run_strictly_with_report, run_with_report,
+    Historian, JsonReport, ReportFormat, TextReport, run_strictly_with_report, run_with_report,
 };
 use event_json::EventLines;
 use job_script::write_all;
@@ -32,7 +36,7 @@ use mvs_job::{
 use mvs_model::outcome::Outcome;
 use mvs_model::want::Placement;
 use mvs_model::watched::Watched;
-use page::{FRAME, write_page};
+use page::{FRAME, SECOND_RUN, write_page};
 use random_script::{RandomFault, write_script};
 use reference::{code, rule};
 use std::alloc::Global;
@@ -90,23 +94,64 @@ pub fn fault_of(script: &[u8], outcome: Outcome) -> Option<FaultyLine<'_>>
     }
 }
 
-// Writes a run as a page.
+// Writes a run as a page with a fixed part.
 fn page<'a, W: Write>(
     alloc: Global,
+    frame: &str,
     script: &'a [u8],
     writer: &mut Watched<W>,
     placement: Placement,
 ) -> Result<ModeResult<'a>, CliError>
     requires { length script.now ≤ most_script_bytes }
-    ensures { Pages (W.contents writer.old.inner) (W.contents writer.new.inner) FRAME.now
+    ensures { Pages (W.contents writer.old.inner) (W.contents writer.new.inner) frame.now
         script.now result }
 {
-    match write_page(alloc, FRAME.as_bytes(), script, writer, placement) {
+    match write_page(alloc, frame.as_bytes(), script, writer, placement) {
         Ok(outcome) => Ok(ModeResult {
             ending: ExitReason::Ran(outcome),
             faulty: fault_of(script, outcome),
         }),
         Err(stop) => Err(CliError::of(stop)),
+    }
+}
+
+// Returns where the areas of a second run are placed: at the other end, if its script is that of the first run.
+fn second_placement(settings: &Settings<'_>, second: &str) -> Placement {
+    match settings.placement {
+        Placement::Low if second == settings.file => Placement::High,
+        Placement::High if second == settings.file => Placement::Low,
+        placement => placement,
+    }
+}
+
+// Writes a run as a page, and if there is a second one, that after it.
+fn pages<'a, W: Write>(
+    alloc: Global,
+    settings: &Settings<'_>,
+    script: &'a [u8],
+    other: &[u8],
+    writer: &mut Watched<W>,
+) -> Result<ModeResult<'a>, CliError>
+    requires script { length script.now ≤ most_script_bytes }
+    requires other { IfSome settings.now.second (λ _. length other.now ≤ most_script_bytes) }
+    ensures one { settings.now.second ≡ None
+        → Pages (W.contents writer.old.inner) (W.contents writer.new.inner) FRAME.now script.now
+        result }
+    ensures both { IsSome settings.now.second
+        → PagesBoth (W.contents writer.old.inner) (W.contents writer.new.inner) FRAME.now
+        SECOND_RUN.now script.now other.now result }
+{
+    let first = match page(alloc, FRAME, script, writer, settings.placement) {
+        Ok(first) => first,
+        Err(why) => return Err(why),
+    };
+    let Some(second) = settings.second else {
+        return Ok(first);
+    };
+    let placement = second_placement(settings, second);
+    match page(alloc, SECOND_RUN, other, writer, placement) {
+        Ok(_) => Ok(first),
+        Err(why) => Err(why),
     }
 }
 
@@ -258,13 +303,16 @@ fn run_with_leaks<'a, W: Write, H: SkipObserver>(
     hearer: &mut H,
 ) -> Result<ModeResult<'a>, CliError>
     requires { length script.now ≤ most_script_bytes }
-    ensures json { IsTrue settings.now.json
+    ensures json { settings.now.output ≡ RunOutput.Json → settings.now.explains ≡ false
         → ReportsLeaks json_report settings.now.strict event_lines (W.contents writer.old.inner)
         (W.contents writer.new.inner) script.now result }
-    ensures explain { settings.now.json ≡ false → IsTrue settings.now.explains
-        → ReportsLeaks report_text settings.now.strict explained (W.contents writer.old.inner)
+    ensures explained_json { settings.now.output ≡ RunOutput.Json → IsTrue settings.now.explains
+        → ReportsLeaks json_report settings.now.strict (with_history json_findings event_lines) (W.contents writer.old.inner)
         (W.contents writer.new.inner) script.now result }
-    ensures plain { settings.now.json ≡ false → settings.now.explains ≡ false
+    ensures explain { settings.now.output ≡ RunOutput.Replies → IsTrue settings.now.explains
+        → ReportsLeaks report_text settings.now.strict (with_history findings_text explained) (W.contents writer.old.inner)
+        (W.contents writer.new.inner) script.now result }
+    ensures plain { settings.now.output ≡ RunOutput.Replies → settings.now.explains ≡ false
         → ReportsLeaks report_text settings.now.strict printed (W.contents writer.old.inner)
         (W.contents writer.new.inner) script.now result }
 {
@@ -274,14 +322,47 @@ fn run_with_leaks<'a, W: Write, H: SkipObserver>(
         placement: settings.placement,
     };
     let strict = settings.strict;
-    if settings.json {
-        let mut lines = EventLines::new(alloc, settings.explains);
+    let is_json = settings.output == RunOutput::Json;
+    if is_json && settings.explains {
+        let mut lines = EventLines::new(alloc, true);
+        let mut historian = Historian::new(alloc, &mut lines, JsonReport);
+        report_leaks_as(whole, strict, writer, &mut historian, JsonReport, hearer)
+    } else if is_json {
+        let mut lines = EventLines::new(alloc, false);
         report_leaks_as(whole, strict, writer, &mut lines, JsonReport, hearer)
     } else if settings.explains {
         let mut explained = Explained::new(alloc);
-        report_leaks_as(whole, strict, writer, &mut explained, TextReport, hearer)
+        let mut historian = Historian::new(alloc, &mut explained, TextReport);
+        report_leaks_as(whole, strict, writer, &mut historian, TextReport, hearer)
     } else {
         report_leaks_as(whole, strict, writer, &mut Printer, TextReport, hearer)
+    }
+}
+
+// Runs a script, writes its events as lines of JSON, and reports each line that was not executed to an observer.
+fn run_as_json<'a, W: Write, H: SkipObserver>(
+    alloc: Global,
+    settings: &Settings<'_>,
+    script: &'a [u8],
+    writer: &mut Watched<W>,
+    hearer: &mut H,
+) -> Result<ModeResult<'a>, CliError>
+    requires { length script.now ≤ most_script_bytes }
+    ensures plain { settings.now.explains ≡ false
+        → ConsumesStrictly event_lines (W.contents writer.old.inner) (W.contents writer.new.inner)
+        (H.heard hearer.old) (H.heard hearer.new) script.now result }
+    ensures explained { IsTrue settings.now.explains
+        → ConsumesStrictly (with_history json_findings event_lines) (W.contents writer.old.inner) (W.contents writer.new.inner)
+        (H.heard hearer.old) (H.heard hearer.new) script.now result }
+{
+    let placement = settings.placement;
+    if settings.explains {
+        let mut lines = EventLines::new(alloc, true);
+        let mut explained = Historian::new(alloc, &mut lines, JsonReport);
+        consume_strict(alloc, script, writer, placement, &mut explained, hearer)
+    } else {
+        let mut lines = EventLines::new(alloc, false);
+        consume_strict(alloc, script, writer, placement, &mut lines, hearer)
     }
 }
 
@@ -328,89 +409,114 @@ fn run<'a, W: Write, H: SkipObserver>(
     alloc: Global,
     settings: &Settings<'_>,
     script: &'a [u8],
+    other: &[u8],
     writer: &mut Watched<W>,
     hearer: &mut H,
 ) -> Result<ModeResult<'a>, CliError>
-    requires { length script.now ≤ most_script_bytes }
-    ensures json { IsTrue settings.now.json → settings.now.leaks ≡ false
+    requires script { length script.now ≤ most_script_bytes }
+    requires other { IfSome settings.now.second (λ _. length other.now ≤ most_script_bytes) }
+    ensures json { settings.now.output ≡ RunOutput.Json → settings.now.leaks ≡ false
+        → settings.now.explains ≡ false
         → ConsumesStrictly event_lines (W.contents writer.old.inner) (W.contents writer.new.inner)
         (H.heard hearer.old) (H.heard hearer.new) script.now result }
-    ensures page { settings.now.json ≡ false → IsTrue settings.now.page
+    ensures explained_json { settings.now.output ≡ RunOutput.Json → settings.now.leaks ≡ false
+        → IsTrue settings.now.explains
+        → ConsumesStrictly (with_history json_findings event_lines) (W.contents writer.old.inner) (W.contents writer.new.inner)
+        (H.heard hearer.old) (H.heard hearer.new) script.now result }
+    ensures page { IsTrue (is_page settings.now.output)
+        → settings.now.second ≡ None
         → Pages (W.contents writer.old.inner) (W.contents writer.new.inner) FRAME.now script.now
         result }
-    ensures json_leaks { IsTrue settings.now.json → IsTrue settings.now.leaks
+    ensures pages { IsTrue (is_page settings.now.output)
+        → IsSome settings.now.second
+        → PagesBoth (W.contents writer.old.inner) (W.contents writer.new.inner) FRAME.now
+        SECOND_RUN.now script.now other.now result }
+    ensures json_leaks { settings.now.output ≡ RunOutput.Json → IsTrue settings.now.leaks
+        → settings.now.explains ≡ false
         → ReportsLeaks json_report settings.now.strict event_lines (W.contents writer.old.inner)
         (W.contents writer.new.inner) script.now result }
-    ensures leaks { settings.now.json ≡ false → settings.now.page ≡ false
+    ensures explained_json_leaks { settings.now.output ≡ RunOutput.Json → IsTrue settings.now.leaks
+        → IsTrue settings.now.explains
+        → ReportsLeaks json_report settings.now.strict (with_history json_findings event_lines) (W.contents writer.old.inner)
+        (W.contents writer.new.inner) script.now result }
+    ensures leaks { settings.now.output ≡ RunOutput.Replies
         → IsTrue settings.now.leaks → settings.now.explains ≡ false
         → ReportsLeaks report_text settings.now.strict printed (W.contents writer.old.inner)
         (W.contents writer.new.inner) script.now result }
-    ensures explained_leaks { settings.now.json ≡ false → settings.now.page ≡ false
+    ensures explained_leaks { settings.now.output ≡ RunOutput.Replies
         → IsTrue settings.now.leaks → IsTrue settings.now.explains
-        → ReportsLeaks report_text settings.now.strict explained (W.contents writer.old.inner)
+        → ReportsLeaks report_text settings.now.strict (with_history findings_text explained) (W.contents writer.old.inner)
         (W.contents writer.new.inner) script.now result }
-    ensures explain { settings.now.json ≡ false → settings.now.page ≡ false
+    ensures explain { settings.now.output ≡ RunOutput.Replies
         → settings.now.leaks ≡ false → IsTrue settings.now.explains
-        → ConsumesStrictly explained (W.contents writer.old.inner) (W.contents writer.new.inner)
+        → ConsumesStrictly (with_history findings_text explained) (W.contents writer.old.inner) (W.contents writer.new.inner)
         (H.heard hearer.old) (H.heard hearer.new) script.now result }
-    ensures strict { settings.now.json ≡ false → settings.now.page ≡ false
+    ensures strict { settings.now.output ≡ RunOutput.Replies
         → settings.now.leaks ≡ false → settings.now.explains ≡ false
         → RunsStrictly (W.contents writer.old.inner) (W.contents writer.new.inner)
         (H.heard hearer.old) (H.heard hearer.new) script.now result }
 {
     let placement = settings.placement;
-    if settings.page && !settings.json {
-        page(alloc, script, writer, placement)
-    } else if settings.leaks {
-        run_with_leaks(alloc, settings, script, writer, hearer)
-    } else if settings.json {
-        let mut lines = EventLines::new(alloc, settings.explains);
-        consume_strict(alloc, script, writer, placement, &mut lines, hearer)
-    } else if settings.explains {
-        let mut explained = Explained::new(alloc);
-        consume_strict(alloc, script, writer, placement, &mut explained, hearer)
-    } else {
-        run_strict(alloc, script, writer, placement, hearer)
+    match settings.output {
+        RunOutput::Page | RunOutput::PageFile => pages(alloc, settings, script, other, writer),
+        RunOutput::Replies | RunOutput::Json if settings.leaks => {
+            run_with_leaks(alloc, settings, script, writer, hearer)
+        }
+        RunOutput::Json => run_as_json(alloc, settings, script, writer, hearer),
+        RunOutput::Replies if settings.explains => {
+            let mut explained = Explained::new(alloc);
+            let mut historian = Historian::new(alloc, &mut explained, TextReport);
+            consume_strict(alloc, script, writer, placement, &mut historian, hearer)
+        }
+        RunOutput::Replies => run_strict(alloc, script, writer, placement, hearer),
     }
 }
 
-/// Serves a script that was read whole, and the output that is judged, as the settings have it.
+/// Serves a script that was read whole, and with it another file, as the settings have it: the output that is judged, or the script
+/// of a second run.
 pub fn serve_script<'a, W: Write, H: SkipObserver>(
     alloc: Global,
     settings: &Settings<'_>,
     script: &'a [u8],
-    output: &[u8],
+    other: &[u8],
     writer: &mut Watched<W>,
     hearer: &mut H,
 ) -> Result<ModeResult<'a>, CliError>
-    requires { length script.now ≤ most_script_bytes }
-    ensures page { settings.now.mode ≡ Mode.Run → settings.now.json ≡ false
-        → IsTrue settings.now.page
+    requires script { length script.now ≤ most_script_bytes }
+    requires other { IfSome settings.now.second (λ _. length other.now ≤ most_script_bytes) }
+    ensures page { settings.now.mode ≡ Mode.Run → IsTrue (is_page settings.now.output) → settings.now.second ≡ None
         → Pages (W.contents writer.old.inner) (W.contents writer.new.inner) FRAME.now script.now
         result }
-    ensures json_leaks { settings.now.mode ≡ Mode.Run → IsTrue settings.now.json
-        → IsTrue settings.now.leaks
+    ensures pages { settings.now.mode ≡ Mode.Run → IsTrue (is_page settings.now.output) → IsSome settings.now.second
+        → PagesBoth (W.contents writer.old.inner) (W.contents writer.new.inner) FRAME.now
+        SECOND_RUN.now script.now other.now result }
+    ensures json_leaks { settings.now.mode ≡ Mode.Run → settings.now.output ≡ RunOutput.Json
+        → IsTrue settings.now.leaks → settings.now.explains ≡ false
         → ReportsLeaks json_report settings.now.strict event_lines (W.contents writer.old.inner)
         (W.contents writer.new.inner) script.now result }
-    ensures leaks { settings.now.mode ≡ Mode.Run → settings.now.json ≡ false
-        → settings.now.page ≡ false → IsTrue settings.now.leaks → settings.now.explains ≡ false
+    ensures explained_json_leaks { settings.now.mode ≡ Mode.Run → settings.now.output ≡ RunOutput.Json
+        → IsTrue settings.now.leaks → IsTrue settings.now.explains
+        → ReportsLeaks json_report settings.now.strict (with_history json_findings event_lines) (W.contents writer.old.inner)
+        (W.contents writer.new.inner) script.now result }
+    ensures leaks { settings.now.mode ≡ Mode.Run → settings.now.output ≡ RunOutput.Replies → IsTrue settings.now.leaks → settings.now.explains ≡ false
         → ReportsLeaks report_text settings.now.strict printed (W.contents writer.old.inner)
         (W.contents writer.new.inner) script.now result }
-    ensures explained_leaks { settings.now.mode ≡ Mode.Run → settings.now.json ≡ false
-        → settings.now.page ≡ false → IsTrue settings.now.leaks → IsTrue settings.now.explains
-        → ReportsLeaks report_text settings.now.strict explained (W.contents writer.old.inner)
+    ensures explained_leaks { settings.now.mode ≡ Mode.Run → settings.now.output ≡ RunOutput.Replies → IsTrue settings.now.leaks → IsTrue settings.now.explains
+        → ReportsLeaks report_text settings.now.strict (with_history findings_text explained) (W.contents writer.old.inner)
         (W.contents writer.new.inner) script.now result }
-    ensures explain { settings.now.mode ≡ Mode.Run → settings.now.json ≡ false
-        → settings.now.page ≡ false → settings.now.leaks ≡ false → IsTrue settings.now.explains
-        → ConsumesStrictly explained (W.contents writer.old.inner) (W.contents writer.new.inner)
+    ensures explain { settings.now.mode ≡ Mode.Run → settings.now.output ≡ RunOutput.Replies → settings.now.leaks ≡ false → IsTrue settings.now.explains
+        → ConsumesStrictly (with_history findings_text explained) (W.contents writer.old.inner) (W.contents writer.new.inner)
         (H.heard hearer.old) (H.heard hearer.new) script.now result }
-    ensures strict { settings.now.mode ≡ Mode.Run → settings.now.json ≡ false
-        → settings.now.page ≡ false → settings.now.leaks ≡ false → settings.now.explains ≡ false
+    ensures strict { settings.now.mode ≡ Mode.Run → settings.now.output ≡ RunOutput.Replies → settings.now.leaks ≡ false → settings.now.explains ≡ false
         → RunsStrictly (W.contents writer.old.inner) (W.contents writer.new.inner)
         (H.heard hearer.old) (H.heard hearer.new) script.now result }
-    ensures json { settings.now.mode ≡ Mode.Run → IsTrue settings.now.json
-        → settings.now.leaks ≡ false
+    ensures json { settings.now.mode ≡ Mode.Run → settings.now.output ≡ RunOutput.Json
+        → settings.now.leaks ≡ false → settings.now.explains ≡ false
         → ConsumesStrictly event_lines (W.contents writer.old.inner) (W.contents writer.new.inner)
+        (H.heard hearer.old) (H.heard hearer.new) script.now result }
+    ensures explained_json { settings.now.mode ≡ Mode.Run → settings.now.output ≡ RunOutput.Json
+        → settings.now.leaks ≡ false → IsTrue settings.now.explains
+        → ConsumesStrictly (with_history json_findings event_lines) (W.contents writer.old.inner) (W.contents writer.new.inner)
         (H.heard hearer.old) (H.heard hearer.new) script.now result }
     ensures check { settings.now.mode ≡ Mode.Check
         → Checks (W.contents writer.old.inner) (W.contents writer.new.inner) settings.now.form settings.now.file.now script.now result }
@@ -429,13 +535,13 @@ pub fn serve_script<'a, W: Write, H: SkipObserver>(
         → WritesAbout (W.contents writer.old.inner) (W.contents writer.new.inner) (rule_name n)
         result }
     ensures judge { settings.now.mode ≡ Mode.Judge
-        → Judges (W.contents writer.old.inner) (W.contents writer.new.inner) script.now output.now
+        → Judges (W.contents writer.old.inner) (W.contents writer.new.inner) script.now other.now
         result }
 {
     match settings.mode {
-        Mode::Run => run(alloc, settings, script, writer, hearer),
+        Mode::Run => run(alloc, settings, script, other, writer, hearer),
         Mode::Check => check_answers(alloc, settings, script, writer),
-        Mode::Judge => judge_output(alloc, script, output, writer),
+        Mode::Judge => judge_output(alloc, script, other, writer),
         Mode::Blank => write_blanks(script, writer),
         Mode::Ask => write_questions(script, writer),
         Mode::Assemble => write_assembled(alloc, script, writer),

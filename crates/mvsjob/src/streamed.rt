@@ -7,7 +7,7 @@ ghost use Rattle.mvs_model.specs.Numbers.{most_script_bytes};
 ghost use Rattle.mvs_model.specs.Runs.{IsAnswered, IsPrinting, IsPrintingFront};
 ghost use Rattle.mvs_job.specs.Consuming.{WritesText};
 ghost use Rattle.mvs_job.specs.Streams.{StopsText};
-ghost use Rattle.mvsjob.specs.FaultFilter.{Writes, WritesPart};
+ghost use Rattle.mvsjob.specs.Streaming.{Writes, WritesPart};
 
 use crate::recorder::LineRecorder;
 use mvs_job::{AddressHints, Consumer, RunFault, run_job, run_source};

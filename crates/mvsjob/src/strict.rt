@@ -19,6 +19,7 @@ pub struct Teller<'a> {
 }
 
 impl<'a> Teller<'a> {
+    /// Makes an observer that reports skipped lines of a script.
     pub fn new(rt: &'a HostRuntime, name: &'a str, script: &'a [u8]) -> Teller<'a> {
         Teller {
             rt,
@@ -77,7 +78,7 @@ impl<'a> Teller<'a> {
 impl SkipObserver for Teller<'_> {
     ghost heard = { λ _. None };
 
-    // A failure to report changes nothing.
+    // Reports a line that was not executed. A failure to report changes nothing.
     fn on_skipped(&mut self, walk: &Walk, line_number: u32, line: &[u8], why: SkipReason) {
         let Some(job) = walk.job() else {
             return;

@@ -10,6 +10,7 @@ pub struct Through<'a, W> {
 }
 
 impl<'a, W> Through<'a, W> {
+    /// Makes a writer that passes bytes on.
     pub fn new(writer: &'a mut Watched<W>) -> Through<'a, W> {
         Through { writer }
     }

@@ -31,7 +31,7 @@ pub struct Options<'a> {
     pub choices: Choices,
 }
 
-// An option with a value.
+// Makes an option with a value.
 fn valued<'a>(alloc: Global, name: &'a str, value: &'a str, help: &'a str) -> Arg<'a> {
     Arg::new(alloc, name)
         .long(name)
@@ -39,7 +39,7 @@ fn valued<'a>(alloc: Global, name: &'a str, value: &'a str, help: &'a str) -> Ar
         .help(help)
 }
 
-// The options that choose the path.
+// Returns the options that choose the path.
 fn with_paths<'a>(command: Command<'a>, alloc: Global) -> Result<Command<'a>, AllocError> {
     let path = valued(
         alloc,
@@ -64,7 +64,7 @@ fn with_paths<'a>(command: Command<'a>, alloc: Global) -> Result<Command<'a>, Al
     command.arg(path)?.arg(repeat)?.arg(schedule)
 }
 
-// The options for what is read and how it is written.
+// Returns the options for what is read and how it is written.
 fn with_files<'a>(command: Command<'a>, alloc: Global) -> Result<Command<'a>, AllocError> {
     let folder = Arg::new(alloc, "include")
         .short('I')
@@ -81,7 +81,7 @@ fn with_files<'a>(command: Command<'a>, alloc: Global) -> Result<Command<'a>, Al
     command.arg(folder)?.arg(json)
 }
 
-// The command.
+// Returns the command.
 fn command<'a>(alloc: Global) -> Result<Command<'a>, AllocError> {
     let file = Arg::new(alloc, "FILE").help("The source; standard input if it is left out or -");
     let region = valued(
@@ -99,7 +99,7 @@ fn command<'a>(alloc: Global) -> Result<Command<'a>, AllocError> {
     with_files(with_paths(command, alloc)?, alloc)
 }
 
-// The labels of a path.
+// Returns the labels of a path.
 fn labels(alloc: Global, text: &str) -> Result<Vec<String>, AllocError> {
     let mut labels = Vec::new(alloc);
     for label in text.split(',') {
@@ -108,7 +108,7 @@ fn labels(alloc: Global, text: &str) -> Result<Vec<String>, AllocError> {
     Ok(labels)
 }
 
-// A label in upper case.
+// Returns a label in upper case.
 fn upper(alloc: Global, label: &str) -> Result<String, AllocError> {
     label
         .chars()
@@ -116,7 +116,7 @@ fn upper(alloc: Global, label: &str) -> Result<String, AllocError> {
         .collect(alloc)
 }
 
-// A loop that is repeated.
+// Reads a loop that is repeated.
 fn repeat(alloc: Global, text: &str) -> Result<Option<Repeat>, AllocError> {
     let Some((label, count)) = text.split_once('=') else {
         return Ok(None);
@@ -130,7 +130,7 @@ fn repeat(alloc: Global, text: &str) -> Result<Option<Repeat>, AllocError> {
     }
 }
 
-// Why a value of an option is refused.
+// Returns why a value of an option is refused.
 fn refusal(
     command: &mut Command<'_>,
     alloc: Global,
@@ -142,7 +142,7 @@ fn refusal(
     command.error(ErrorKind::ValueValidation, &text)
 }
 
-// The loops that are repeated.
+// Returns the loops that are repeated.
 fn repeats(
     command: &mut Command<'_>,
     alloc: Global,
@@ -164,7 +164,7 @@ fn repeats(
     Ok(repeats)
 }
 
-// The region, if it is written.
+// Returns the region, if it is written.
 fn region(
     command: &mut Command<'_>,
     alloc: Global,
@@ -183,7 +183,7 @@ fn region(
     }
 }
 
-// What is chosen of the paths.
+// Returns what is chosen of the paths.
 fn choices(
     command: &mut Command<'_>,
     alloc: Global,
@@ -205,7 +205,7 @@ fn choices(
     })
 }
 
-// The folders of members.
+// Returns the folders of members.
 fn folders<'a>(alloc: Global, matches: &ArgMatches<'a>) -> Result<Vec<&'a str>, AllocError> {
     let mut folders = Vec::new(alloc);
     if let Some(values) = matches.get_strs("include") {

@@ -30,7 +30,7 @@ fn convert(rt: &HostRuntime, options: &Options<'_>) -> Result<Sum, ConversionErr
     }
 }
 
-// The words of the command line, the program's name first.
+// Returns the words of the command line, the program's name first.
 fn words(rt: &HostRuntime) -> Result<Vec<String>, ConversionError> {
     let mut words = Vec::new(rt.alloc());
     let Ok(args) = env::args(rt) else {

@@ -15,7 +15,7 @@ const MOST_MEMBERS: u32 = 1000;
 /// What the name of the file of a member may end in.
 const ENDINGS: [&str; 6] = ["", ".asm", ".mac", ".cpy", ".copy", ".hlasm"];
 
-// The bytes that a reader gives.
+// Returns the bytes that a reader gives.
 fn bytes_of<R: Read + Drop>(rt: &HostRuntime, reader: R) -> Result<Vec<u8>, ConversionError> {
     let mut bytes = Vec::new(rt.alloc());
     match reader.take(MOST_BYTES).read_to_end(&mut bytes) {

@@ -218,7 +218,7 @@ LineFits (line.Statement t s) = AreasFit s
 row_found : (operation : List ℕ) (operands : List (List ℕ)) (row : Row) → row_of operation operands ≡ Some row → IsFit row
 row_found operation operands row e = found_has IsFit _ (rows_of operation) row (passing_have IsFit (λ row. bytes_eq row.operation operation) table all_fit) e
 
--- the checks behind those of the operands
+-- the checks after those of the operands
 abbrev last_checks : Row → ByKey → List (Fault × Bool)
 last_checks row os = MissingOperand when (lacks_positional row os || lacks_keyword row os || list_any (is_half os) row.rules) ∷ Conflicting when list_any (is_conflict os) row.rules ∷ []
 

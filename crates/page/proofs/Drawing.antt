@@ -1,11 +1,11 @@
 -- Pictures and states that are changed alike.
 use Rattle.std.proofs.Common.{◌≡◌, ℕ, Bool, true, false, cond, Option, Some, None, option_map, refl, sym, ap, ◌∙◌, subst}
 use Rattle.std.specs.FinMap.{get}
-use Rattle.mvs_model.specs.Finite.{Changes, kept}
+use Rattle.mvs_model.specs.Finite.{Changes, Keeps, kept}
 use Rattle.mvs_model.specs.Job.{JobValue}
 use Rattle.mvs_model.specs.Owners.{entry}
 use Rattle.mvs_model.specs.State.{State}
-use Rattle.page.specs.Picture.{Both, IsDrawn, IsMark, Label, Means, Picture, ShowsBy, changed, mark_moved, pool_moved}
+use Rattle.page.specs.Picture.{AreBytes, Both, IsDrawn, IsMark, Label, Means, Picture, ShowsBy, changed, mark_moved, pool_moved}
 
 -- ---- values that are both there and fit, or both not there
 
@@ -41,6 +41,37 @@ module _ {X Y : Type 0} (P : X → Y → Type 0) where
     at true = h
     at false = all k
 
+-- ---- bytes
+
+module _ (drawn : ℕ → ℕ) (old new : ℕ → Option ℕ) (all : AreBytes drawn old) where
+  -- none has changed
+  pub bytes_same : ((a : ℕ) → new a ≡ old a) → AreBytes drawn new
+  bytes_same same a b is = all a b (sym (same a) ∙ is)
+
+  -- those that pass the test are gone
+  pub bytes_gone : (test : ℕ → Bool) → Changes old test None new → AreBytes drawn new
+  bytes_gone test changes a b is = at (test a) (sym (changes a) ∙ is) where
+    at : (c : Bool) → cond c None (old a) ≡ Some b → drawn a ≡ b
+    at true e = absurd (cc)
+    at false e = all a b e
+
+  -- those that pass the test stay
+  pub bytes_kept : (test : ℕ → ℕ → Bool) → Keeps old test new → AreBytes drawn new
+  bytes_kept test keeps a b is = at (old a) refl (sym (keeps a) ∙ is) where
+    at : (v : Option ℕ) → old a ≡ v → kept (test a) v ≡ Some b → drawn a ≡ b
+    at None e f = absurd (cc)
+    at (Some x) e f = by (test a x) f where
+      by : (c : Bool) → cond c (Some x) None ≡ Some b → drawn a ≡ b
+      by true g = all a x e ∙ (let is : x ≡ b = cc in is)
+      by false g = absurd (cc)
+
+  -- those that pass the test are others
+  pub bytes_set : (test : ℕ → Bool) (byte : ℕ → ℕ) (value : ℕ → Option ℕ) → ((a : ℕ) → new a ≡ cond (test a) (value a) (old a)) → ((a b : ℕ) → test a ≡ true → new a ≡ Some b → byte a ≡ b) → AreBytes (λ a. cond (test a) (byte a) (drawn a)) new
+  bytes_set test byte value changes known a b is = at (test a) refl (sym (changes a) ∙ is) where
+    at : (c : Bool) → test a ≡ c → cond c (value a) (old a) ≡ Some b → cond c (byte a) (drawn a) ≡ b
+    at true t e = known a b t is
+    at false t e = all a b e
+
 -- ---- what labels mean
 
 module _ (R S : Label → ℕ → Type 0) (move : Label → Label) (f : (l : Label) (s : ℕ) → R l s → S (move l) s) where
@@ -63,6 +94,7 @@ pub same_shown : (old new : JobValue) (p : Picture) → new.state ≡ old.state 
 same_shown old new p e names shows = record {
   regions = shows.regions ∙ sym (ap (λ s. s.regions) e);
   held = λ d. subst (λ (s : State). Both (IsMark (Means s.owners)) (p.held d) (get s.held d)) (sym e) (shows.held d);
+  bytes = bytes_same p.bytes (get old.state.bytes) (get new.state.bytes) shows.bytes (λ a. ap (λ s. get s.bytes a) e);
   tasks = λ t. shows.tasks t ∙ sym (ap (λ s. get s.owners.tasks t) e);
   subpools = λ t n. subst (λ (s : State). Both (Means s.owners) (p.subpools t n) (entry s.owners t n)) (sym e) (shows.subpools t n);
   names = λ n. shows.names n ∙ sym (ap (λ m. get m n) names);

@@ -83,29 +83,29 @@ alone : (st new : State) (t : Name) (e : End st t new) → has_subtask st.owners
 alone st new t e none x = false_from_ne_true (list_any (same_name x) e.fallen) (λ h.
     true_false (sym (descends_child st.owners t x ((e.is_fallen.descendants x).0 (Contains-from_any same_name_is x e.fallen h))) ∙ none))
 
-module _ (old new : JobValue) (t : Name) (said : Answer) (p : Picture) (shows : ShowsBy (Means old.state.owners) p old) where
-  -- the picture behind a request that is answered so shows the step
+module _ (carries : Change → List ℕ) (old new : JobValue) (t : Name) (said : Answer) (p : Picture) (shows : ShowsBy (Means old.state.owners) p old) where
+  -- the picture after a request that is answered so shows the step
   abbrev pub Shown : SourceRequest → Answer → Type 0
-  Shown a x = ShowsBy (Means new.state.owners) (replayed_all p (answer_changes t a x new)) new
+  Shown a x = ShowsBy (Means new.state.owners) (replayed_all carries p (answer_changes t a x new)) new
 
   module _ (a : SourceRequest) (r : Request) (m : Makes Any old t a r said new) where
     pub names_same : places_in m.reply ≡ [] → new.names ≡ old.names
     names_same e = m.names ∙ ap (all_set old.names (names_set a)) e ∙ set_none old.names (names_set a)
 
     pub abends_shown : (code : Code) → Abends old.state t code m.reply new.state → Shown a said
-    abends_shown code h = subst (Shown a) (sym (m.told ∙ ap (answer_of old.state a r) h.1)) (ends_shown old new t h.0 (names_same (ap places_in h.1)) p _ (abend_left t h.0.fallen p) shows)
+    abends_shown code h = subst (Shown a) (sym (m.answer_is ∙ ap (answer_of old.state a r) h.1)) (ends_shown old new t h.0 (names_same (ap places_in h.1)) p _ (abend_left carries t h.0.fallen p) shows)
 
     pub refuses_shown : (reply : Reply) → places_in reply ≡ [] → answer_changes t a (answer_of old.state a r reply) new ≡ [] → Refuses old.state reply m.reply new.state → Shown a said
     refuses_shown reply none nothing h =
-        subst (Shown a) (sym (m.told ∙ ap (answer_of old.state a r) h.0)) (subst (λ cs. ShowsBy (Means new.state.owners) (replayed_all p cs) new) (sym nothing) (same_shown old new p h.1 (names_same (ap places_in h.0 ∙ none)) shows))
+        subst (Shown a) (sym (m.answer_is ∙ ap (answer_of old.state a r) h.0)) (subst (λ cs. ShowsBy (Means new.state.owners) (replayed_all carries p cs) new) (sym nothing) (same_shown old new p h.1 (names_same (ap places_in h.0 ∙ none)) shows))
 
     pub fails_shown : (c : Bool) (code : Code) → Fails c old.state t code m.reply new.state → Shown a said
     fails_shown true code h = refuses_shown Rc4 refl refl h
     fails_shown false code h = abends_shown code h
 
     -- a reply that says that it was done
-    pub done_shown : (reply : Reply) (cs : List Change) → m.reply ≡ reply → answer_changes t a (answer_of old.state a r reply) new ≡ cs → ShowsBy (Means new.state.owners) (replayed_all p cs) new → Shown a said
-    done_shown reply cs is told s = subst (Shown a) (sym (m.told ∙ ap (answer_of old.state a r) is)) (subst (λ cs. ShowsBy (Means new.state.owners) (replayed_all p cs) new) (sym told) s)
+    pub done_shown : (reply : Reply) (cs : List Change) → m.reply ≡ reply → answer_changes t a (answer_of old.state a r reply) new ≡ cs → ShowsBy (Means new.state.owners) (replayed_all carries p cs) new → Shown a said
+    done_shown reply cs is changes_are s = subst (Shown a) (sym (m.answer_is ∙ ap (answer_of old.state a r) is)) (subst (λ cs. ShowsBy (Means new.state.owners) (replayed_all carries p cs) new) (sym changes_are) s)
 
     -- what an active task does
     pub act_shown : is_active old.state.owners t ≡ true → (Acts old.state t r m.reply new.state → Shown a said) → Shown a said
@@ -164,9 +164,9 @@ module _ (old new : JobValue) (t : Name) (said : Answer) (p : Picture) (shows : 
       places t (n ∷ ns) (q ∷ ps) st last h = ap suc (places t ns ps h.0 last h.2)
 
       areas_granted : is_invalid number ≡ false → (ns : List ℕ) (ps : List PlaceValue) → length areas ≡ length ps → new.names ≡ all_set old.names areas ps → ListGrant old.state (effective_task old.state.owners t number) number (map want ns) ps new.state
-          → ShowsBy (Means new.state.owners) (replayed_all p (area_changes new t number areas)) new
+          → ShowsBy (Means new.state.owners) (replayed_all carries p (area_changes new t number areas)) new
       areas_granted valid [] [] same names h = none areas same names where
-        none : (xs : List Name) → length xs ≡ 0 → new.names ≡ all_set old.names xs [] → ShowsBy (Means new.state.owners) (replayed_all p (area_changes new t number xs)) new
+        none : (xs : List Name) → length xs ≡ 0 → new.names ≡ all_set old.names xs [] → ShowsBy (Means new.state.owners) (replayed_all carries p (area_changes new t number xs)) new
         none [] e n = same_shown old new p h n shows
         none (x ∷ xs) e n = absurd (omega (arith, e))
       areas_granted valid [] (q ∷ ps) same names h = absurd h
@@ -178,7 +178,7 @@ module _ (old new : JobValue) (t : Name) (said : Answer) (p : Picture) (shows : 
           let owners : new.state.owners ≡ h.0.owners = owners_same k number g.subpool (map want ns) ps h.0 new.state here h.2 in
           let now : entry new.state.owners k number ≡ Some g.subpool = ap (λ o. entry o k number) owners ∙ here in
           let l = label_told number g.subpool (ap (λ o. o.tasks) owners ∙ enters_tasks old.state.owners k number g.subpool h.0.owners g.owners) valid now in
-          areas_shown new k t number g.subpool l.0 behind.numbered l.2 now l.1 (want n ∷ map want ns) (q ∷ ps) areas old p h same once names shows
+          areas_shown carries new k t number g.subpool l.0 behind.numbered l.2 now l.1 (want n ∷ map want ns) (q ∷ ps) areas old p h same once names shows
 
       granted_list : is_invalid number ≡ false → (ps : List PlaceValue) → m.reply ≡ Listed ps → ListGrant old.state (effective_task old.state.owners t number) number (map want lengths) ps new.state → Shown list said
       granted_list valid ps is g =
@@ -194,11 +194,11 @@ module _ (old new : JobValue) (t : Name) (said : Answer) (p : Picture) (shows : 
           ]))
 
     -- places that are released
-    module _ (a : SourceRequest) (r : Request) (m : Makes Any old t a r said new) (form : Form) (number : ℕ) (ps : List PlaceValue) (told : new.names ≡ old.names → answer_changes t a (answer_of old.state a r Rc0) new ≡ free_changes ps) where
+    module _ (a : SourceRequest) (r : Request) (m : Makes Any old t a r said new) (form : Form) (number : ℕ) (ps : List PlaceValue) (changes_are : new.names ≡ old.names → answer_changes t a (answer_of old.state a r Rc0) new ≡ free_changes ps) where
       freed : (o : Option ℕ) → MayRelease old.state o (map whole ps) × (m.reply ≡ Rc0) × Frees old.state (map whole ps) new.state → list_all on_doubleword ps ≡ true → Shown a said
       freed o h whole =
           let names = names_same a r m (ap places_in h.1) in
-          done_shown a r m Rc0 (free_changes ps) h.1 (told names) (frees_shown old new ps p whole h.2 names shows)
+          done_shown a r m Rc0 (free_changes ps) h.1 (changes_are names) (frees_shown carries old new ps p whole h.2 names shows)
 
       pub release_shown : (Acts old.state t r m.reply new.state → ReleaseStep old.state t form number ps m.reply new.state) → Shown a said
       release_shown step = act_shown a r m active (λ k.
@@ -236,7 +236,7 @@ module _ (old new : JobValue) (t : Name) (said : Answer) (p : Picture) (shows : 
       attached (Some code) e h = abends_shown (written.Attach name gifts residence) (request.Attach name gifts residence) m code h
       attached None e h =
           done_shown (written.Attach name gifts residence) (request.Attach name gifts residence) m Attached _ h.0 refl
-          (attach_shown old new t name gifts residence h.1 before.well.owners.owned before.numbered active e behind.well.owners.owned behind.numbered (names_same (written.Attach name gifts residence) (request.Attach name gifts residence) m (ap places_in h.0)) p shows)
+          (attach_shown carries old new t name gifts residence h.1 before.well.owners.owned before.numbered active e behind.well.owners.owned behind.numbered (names_same (written.Attach name gifts residence) (request.Attach name gifts residence) m (ap places_in h.0)) p shows)
 
       pub attach_step_shown : Shown (written.Attach name gifts residence) said
       attach_step_shown = act_shown (written.Attach name gifts residence) (request.Attach name gifts residence) m active (λ k. attached (attach_refusal old.state.owners t name gifts) refl k)
@@ -245,7 +245,7 @@ module _ (old new : JobValue) (t : Name) (said : Answer) (p : Picture) (shows : 
     pub return_shown : Makes Any old t written.Return request.Return said new → Shown written.Return said
     return_shown m = act_shown written.Return request.Return m active (λ k.
         by_test (has_subtask old.state.owners t) k (λ _ x. abends_shown written.Return request.Return m active_subtask x)
-        (λ none x. done_shown written.Return request.Return m Ended (change.Return t ∷ []) x.0 refl (ends_shown old new t x.1 (names_same written.Return request.Return m (ap places_in x.0)) p _ (return_left t x.1.fallen p (alone old.state new.state t x.1 none)) shows)))
+        (λ none x. done_shown written.Return request.Return m Ended (change.Return t ∷ []) x.0 refl (ends_shown old new t x.1 (names_same written.Return request.Return m (ap places_in x.0)) p _ (return_left carries t x.1.fallen p (alone old.state new.state t x.1 none)) shows)))
 
     pub abend_shown : (n : ℕ) → Makes Any old t (written.Abend n) (request.Abend n) said new → Shown (written.Abend n) said
     abend_shown n m = act_shown (written.Abend n) (request.Abend n) m active (λ k. abends_shown (written.Abend n) (request.Abend n) m (User n) k)

@@ -9,11 +9,13 @@ use Rattle.mvs_model.specs.Finite.{has, kept}
 use Rattle.mvs_model.specs.Job.{JobValue}
 use Rattle.mvs_model.specs.Name.{same_name}
 use Rattle.mvs_model.specs.Owners.{ends_with, entry, is_among_ended}
+use Rattle.mvs_model.specs.State.{granted}
 use Rattle.mvs_model.proofs.Orders.{same_name_sym}
+use Rattle.page.specs.declared.change.Change.{Change}
 use Rattle.page.specs.declared.change.Change.TheVariants as change
 use Rattle.page.specs.Changes.{fall_changes}
 use Rattle.page.specs.Picture.{Both, IsDrawn, IsMark, Label, Means, Picture, ShowsBy, ended, replayed_all}
-use Rattle.page.proofs.Drawing.{both_kept}
+use Rattle.page.proofs.Drawing.{both_kept, bytes_kept}
 
 -- ---- what is left of a picture
 
@@ -25,7 +27,7 @@ kept_twice s t u same (Some x) = at (t x) (same x) where
   at true e = ap (λ c. cond c (Some x) None) (sym e)
   at false e = ap (λ c. cond c (Some x) None) (sym e)
 
--- tests whose names are told apart from more names
+-- tests whose names differ from more names
 both_out : (y x : Name) (xs : List Name) → not (same_name y x || list_any (same_name y) xs) ≡ (not (same_name y x) && not (list_any (same_name y) xs))
 both_out y x xs = grind (arith, nat_tests)
 
@@ -33,6 +35,7 @@ both_out y x xs = grind (arith, nat_tests)
 pub record IsLeft (gone : Name → Bool) (p q : Picture) : Type 0 where
   pub regions : q.regions ≡ p.regions
   pub held : (d : ℕ) → q.held d ≡ kept (λ m. not (gone m.label.owner)) (p.held d)
+  pub bytes : (a : ℕ) → q.bytes a ≡ p.bytes a
   pub tasks : (t : Name) → q.tasks t ≡ kept (λ _. not (gone t)) (p.tasks t)
   pub subpools : (t : Name) (n : ℕ) → q.subpools t n ≡ kept (λ l. not (gone t || gone l.owner)) (p.subpools t n)
   pub names : (n : Name) → q.names n ≡ p.names n
@@ -43,6 +46,7 @@ one_ended : (p : Picture) (t : Name) → IsLeft (λ x. same_name x t) p (ended t
 one_ended p t = record {
   regions = refl;
   held = λ d. refl;
+  bytes = λ a. refl;
   tasks = λ x. ap (λ b. cond b None (p.tasks x)) (same_name_sym t x) ∙ at (same_name x t) (p.tasks x);
   subpools = λ x n. refl;
   names = λ n. refl;
@@ -63,6 +67,7 @@ then_left : (one two both : Name → Bool) (p q r : Picture) → ((x : Name) →
 then_left one two both p q r same a b = record {
   regions = b.regions ∙ a.regions;
   held = λ d. b.held d ∙ ap (kept (λ m. not (two m.label.owner))) (a.held d) ∙ kept_twice (λ m. not (two m.label.owner)) (λ m. not (one m.label.owner)) (λ m. not (both m.label.owner)) (λ m. same m.label.owner) (p.held d);
+  bytes = λ c. b.bytes c ∙ a.bytes c;
   tasks = λ t. b.tasks t ∙ ap (kept (λ _. not (two t))) (a.tasks t) ∙ kept_twice (λ _. not (two t)) (λ _. not (one t)) (λ _. not (both t)) (λ _. same t) (p.tasks t);
   subpools = λ t n. b.subpools t n ∙ ap (kept (λ l. not (two t || two l.owner))) (a.subpools t n)
       ∙ kept_twice (λ l. not (two t || two l.owner)) (λ l. not (one t || one l.owner)) (λ l. not (both t || both l.owner)) (λ l. both_twice (both t) (one t) (two t) (both l.owner) (one l.owner) (two l.owner) (same t) (same l.owner)) (p.subpools t n);
@@ -77,19 +82,19 @@ passes test all (Some x) = ap (λ b. cond b (Some x) None) (sym (all x))
 
 -- no task ends
 all_left : (p : Picture) → IsLeft (λ _. false) p p
-all_left p = record { regions = refl; held = λ d. passes _ (λ m. refl) (p.held d); tasks = λ t. passes _ (λ x. refl) (p.tasks t); subpools = λ t n. passes _ (λ l. refl) (p.subpools t n); names = λ n. refl; pools = λ n. passes _ (λ q. refl) (p.pools n) }
+all_left p = record { regions = refl; held = λ d. passes _ (λ m. refl) (p.held d); bytes = λ a. refl; tasks = λ t. passes _ (λ x. refl) (p.tasks t); subpools = λ t n. passes _ (λ l. refl) (p.subpools t n); names = λ n. refl; pools = λ n. passes _ (λ q. refl) (p.pools n) }
 
-falls_left : (t : Name) (xs : List Name) (p : Picture) → IsLeft (λ x. list_any (same_name x) xs) p (replayed_all p (fall_changes t xs))
-falls_left t [] p = all_left p
-falls_left t (y ∷ xs) p = then_left (λ x. same_name x y) (λ x. list_any (same_name x) xs) (λ x. same_name x y || list_any (same_name x) xs) p (ended y p) _ (λ x. both_out x y xs) (one_ended p y) (falls_left t xs (ended y p))
+falls_left : (carries : Change → List ℕ) (t : Name) (xs : List Name) (p : Picture) → IsLeft (λ x. list_any (same_name x) xs) p (replayed_all carries p (fall_changes t xs))
+falls_left carries t [] p = all_left p
+falls_left carries t (y ∷ xs) p = then_left (λ x. same_name x y) (λ x. list_any (same_name x) xs) (λ x. same_name x y || list_any (same_name x) xs) p (ended y p) _ (λ x. both_out x y xs) (one_ended p y) (falls_left carries t xs (ended y p))
 
 -- the task that abends, and those that fall with it
-pub abend_left : (t : Name) (fallen : List Name) (p : Picture) → IsLeft (is_among_ended t fallen) p (replayed_all p (change.Abend t ∷ fall_changes t fallen))
-abend_left t fallen p = then_left (λ x. same_name x t) (λ x. list_any (same_name x) fallen) (is_among_ended t fallen) p (ended t p) _ (λ x. both_out x t fallen) (one_ended p t) (falls_left t fallen (ended t p))
+pub abend_left : (carries : Change → List ℕ) (t : Name) (fallen : List Name) (p : Picture) → IsLeft (is_among_ended t fallen) p (replayed_all carries p (change.Abend t ∷ fall_changes t fallen))
+abend_left carries t fallen p = then_left (λ x. same_name x t) (λ x. list_any (same_name x) fallen) (is_among_ended t fallen) p (ended t p) _ (λ x. both_out x t fallen) (one_ended p t) (falls_left carries t fallen (ended t p))
 
 -- the task that returns, with which none falls
-pub return_left : (t : Name) (fallen : List Name) (p : Picture) → ((x : Name) → list_any (same_name x) fallen ≡ false) → IsLeft (is_among_ended t fallen) p (replayed_all p (change.Return t ∷ []))
-return_left t fallen p none = then_left (λ x. same_name x t) (λ _. false) (is_among_ended t fallen) p (ended t p) (ended t p) (λ x. (λ i. not (same_name x t || none x i)) ∙ at (same_name x t)) (one_ended p t) (all_left (ended t p)) where
+pub return_left : (carries : Change → List ℕ) (t : Name) (fallen : List Name) (p : Picture) → ((x : Name) → list_any (same_name x) fallen ≡ false) → IsLeft (is_among_ended t fallen) p (replayed_all carries p (change.Return t ∷ []))
+return_left carries t fallen p none = then_left (λ x. same_name x t) (λ _. false) (is_among_ended t fallen) p (ended t p) (ended t p) (λ x. (λ i. not (same_name x t || none x i)) ∙ at (same_name x t)) (one_ended p t) (all_left (ended t p)) where
   at : (b : Bool) → not (b || false) ≡ (not b && true)
   at true = refl
   at false = refl
@@ -126,6 +131,7 @@ module _ (old new : JobValue) (t : Name) (e : End old.state t new.state) (names 
     held = λ d. subst (λ x. Both (IsMark (Means new.state.owners)) x (get new.state.held d)) (sym (left.held d)) (subst (Both (IsMark (Means new.state.owners)) _) (sym (e.drops.held d))
         (both_kept (IsMark (Means old.state.owners)) (IsMark (Means new.state.owners)) _ _ (λ m h k. alike m.label h.subpool k.label)
         (λ m h b k. record { label = stays m.label h.subpool (stayed h.subpool b) k.label; pooled = k.pooled }) (p.held d) (get old.state.held d) (shows.held d)));
+    bytes = λ a b is. left.bytes a ∙ bytes_kept p.bytes (get old.state.bytes) (get new.state.bytes) shows.bytes (λ a _. granted new.state a) e.drops.bytes a b is;
     tasks = λ x. left.tasks x ∙ ap (kept (λ _. not (is_among_ended t e.fallen x))) (shows.tasks x) ∙ sym (e.owners.tasks x);
     subpools = λ x n. subst (λ y. Both (Means new.state.owners) y (entry new.state.owners x n)) (sym (left.subpools x n)) (subst (Both (Means new.state.owners) _) (sym (e.owners.table (x, n)))
         (both_kept (Means old.state.owners) (Means new.state.owners) _ _ (λ l s m. both_not (is_among_ended t e.fallen x) _ _ (alike l s m))

@@ -19,17 +19,17 @@ use Rattle.request_forms.specs.Facts.{listed}
 use Rattle.page.specs.declared.change.Change.{Change}
 use Rattle.page.specs.declared.change.Change.TheVariants as change
 use Rattle.page.specs.Changes.{held_change}
-use Rattle.page.specs.Picture.{Both, IsDrawn, IsMark, Label, Means, Picture, ShowsBy, handed_over, replayed, replayed_all}
-use Rattle.page.proofs.Drawing.{both_mapped, both_weaker, marks_move, marks_stay, pools_move, pools_stay}
+use Rattle.page.specs.Picture.{AreBytes, Both, IsDrawn, IsMark, Label, Means, Picture, ShowsBy, handed_over, replayed, replayed_all}
+use Rattle.page.proofs.Drawing.{both_mapped, both_weaker, bytes_same, marks_move, marks_stay, pools_move, pools_stay}
 use Rattle.page.proofs.Handed.{entry_kept, entry_new, entry_none, entry_old, from_mother, given_means, kept_means, made, owned_given, owner_given, shared_kept}
 use Rattle.page.proofs.Labels.{had, labelled_entry}
 use Rattle.page.proofs.Numbered.{Numbered}
 
 -- ---- lines one after another
 
-pub replayed_both : (xs ys : List Change) (p : Picture) → replayed_all p (xs ++ ys) ≡ replayed_all (replayed_all p xs) ys
-replayed_both [] ys p = refl
-replayed_both (x ∷ xs) ys p = replayed_both xs ys (replayed p x)
+pub replayed_both : (carries : Change → List ℕ) (xs ys : List Change) (p : Picture) → replayed_all carries p (xs ++ ys) ≡ replayed_all carries (replayed_all carries p xs) ys
+replayed_both carries [] ys p = refl
+replayed_both carries (x ∷ xs) ys p = replayed_both carries xs ys (replayed carries p x)
 
 each_none : {X : Type 0} (f : ℕ → List X) → each_below zero f ≡ []
 unfolding each_below
@@ -50,12 +50,13 @@ entry_midway o w k u n = cond (nat_lt n k) (entry w u n) (entry o u n)
 pub record ShowsMidway (old new : JobValue) (k : ℕ) (p : Picture) : Type 0 where
   pub regions : p.regions ≡ old.state.regions
   pub held : (d : ℕ) → Both (IsMark (Midway old.state.owners new.state.owners k)) (p.held d) (get old.state.held d)
+  pub bytes : AreBytes p.bytes (get old.state.bytes)
   pub tasks : (t : Name) → p.tasks t ≡ get new.state.owners.tasks t
   pub subpools : (u : Name) (n : ℕ) → Both (Midway old.state.owners new.state.owners k) (p.subpools u n) (entry_midway old.state.owners new.state.owners k u n)
   pub names : (n : Name) → p.names n ≡ get old.names n
   pub pools : (n : Name) → Both (IsDrawn (Midway old.state.owners new.state.owners k)) (p.pools n) (get old.state.pools n)
 
-module _ (old new : JobValue) (t name : Name) (gifts : GiftsValue) (residence : Residence) (a : Attaches old.state t name gifts residence new.state) (own : Owned old.state.owners) (numbered : Numbered old.state.owners)
+module _ (carries : Change → List ℕ) (old new : JobValue) (t name : Name) (gifts : GiftsValue) (residence : Residence) (a : Attaches old.state t name gifts residence new.state) (own : Owned old.state.owners) (numbered : Numbered old.state.owners)
     (active : is_active old.state.owners t ≡ true) (refusal : attach_refusal old.state.owners t name gifts ≡ None) (later_own : Owned new.state.owners) (later_numbered : Numbered new.state.owners) (names : new.names ≡ old.names) where
   abbrev o : Owners
   o = old.state.owners
@@ -121,10 +122,11 @@ module _ (old new : JobValue) (t name : Name) (gifts : GiftsValue) (residence : 
   now_active = ap is_some (a.owners.tasks name) ∙ ap (λ b. is_some (cond b (Some (record { mother = Some t; residence = residence })) (get o.tasks name))) (same_name_self name)
 
   -- the subtask has nothing under it
-  none_here : (k : ℕ) (p : Picture) → entry w name k ≡ None → ShowsMidway old new k p → ShowsMidway old new (suc k) (replayed_all p (line k))
-  none_here k p none m = subst (λ v. ShowsMidway old new (suc k) (replayed_all p (listed v))) (sym no_line) record {
+  none_here : (k : ℕ) (p : Picture) → entry w name k ≡ None → ShowsMidway old new k p → ShowsMidway old new (suc k) (replayed_all carries p (line k))
+  none_here k p none m = subst (λ v. ShowsMidway old new (suc k) (replayed_all carries p (listed v))) (sym no_line) record {
     regions = m.regions;
     held = λ d. marks_stay (Midway o w k) (Midway o w (suc k)) stay (p.held d) (get old.state.held d) (m.held d);
+    bytes = m.bytes;
     tasks = m.tasks;
     subpools = λ u n. both_weaker (Midway o w k) (Midway o w (suc k)) stay (p.subpools u n) (entry_midway o w (suc k) u n) (subst (Both (Midway o w k) (p.subpools u n)) (same u n) (m.subpools u n));
     names = m.names;
@@ -180,10 +182,11 @@ module _ (old new : JobValue) (t name : Name) (gifts : GiftsValue) (residence : 
     given_entry u n false e false f true g = moved u n (at_others k u n e)
     given_entry u n false e false f false g = moved u n (at_others k u n e)
 
-    given_here : ShowsMidway old new (suc k) (replayed p (change.Given name k t))
+    given_here : ShowsMidway old new (suc k) (replayed carries p (change.Given name k t))
     given_here = record {
       regions = m.regions;
       held = λ d. marks_move (Midway o w k) (Midway o w (suc k)) move moves (p.held d) (get old.state.held d) (m.held d);
+      bytes = m.bytes;
       tasks = m.tasks;
       subpools = λ u n. given_entry u n (n == k) refl (same_name u name) refl (same_name u t) refl;
       names = m.names;
@@ -246,10 +249,11 @@ module _ (old new : JobValue) (t name : Name) (gifts : GiftsValue) (residence : 
     shared_entry u n false e false f true g = stays u n (at_others k u n e)
     shared_entry u n false e false f false g = stays u n (at_others k u n e)
 
-    shared_here : ShowsMidway old new (suc k) (replayed p (change.Shared name k k u0))
+    shared_here : ShowsMidway old new (suc k) (replayed carries p (change.Shared name k k u0))
     shared_here = record {
       regions = m.regions;
       held = λ d. marks_stay (Midway o w k) (Midway o w (suc k)) stay (p.held d) (get old.state.held d) (m.held d);
+      bytes = m.bytes;
       tasks = m.tasks;
       subpools = λ u n. shared_entry u n (n == k) refl (same_name u name) refl (same_name u u0) refl;
       names = m.names;
@@ -258,34 +262,35 @@ module _ (old new : JobValue) (t name : Name) (gifts : GiftsValue) (residence : 
 
   -- ---- all numbers
 
-  number_shown : (k : ℕ) (p : Picture) → ShowsMidway old new k p → ShowsMidway old new (suc k) (replayed_all p (line k))
+  number_shown : (k : ℕ) (p : Picture) → ShowsMidway old new k p → ShowsMidway old new (suc k) (replayed_all carries p (line k))
   number_shown k p m = at (entry w name k) refl where
     held_is : (l : ℕ × Name) (s : ℕ) → entry w name k ≡ Some s → label_of w (Some s) ≡ Some l → held_change new t name k ≡ Some (cond (same_name l.1 name) (change.Given name l.0 t) (change.Shared name k l.0 l.1))
     held_is l s is label = ap (option_map (λ l. cond (same_name l.1 name) (change.Given name l.0 t) (change.Shared name k l.0 l.1))) (had w name k (Some l) now_active (ap (label_of w) is ∙ label))
 
-    by : (l : ℕ × Name) (s : ℕ) → entry w name k ≡ Some s → Means w (record { number = k; owner = l.1 }) s → l.0 ≡ k → (c : Bool) → same_name l.1 name ≡ c → ShowsMidway old new (suc k) (replayed p (cond c (change.Given name l.0 t) (change.Shared name k l.0 l.1)))
-    by l s is means e true f = subst (λ n. ShowsMidway old new (suc k) (replayed p (change.Given name n t))) (sym e) (given_here k s p is (means.owned ∙ ap Some (same_name_is l.1 name f)) m)
-    by l s is means e false f = subst (λ n. ShowsMidway old new (suc k) (replayed p (change.Shared name k n l.1))) (sym e) (shared_here k s l.1 p is means (differs l.1 name f) m)
+    by : (l : ℕ × Name) (s : ℕ) → entry w name k ≡ Some s → Means w (record { number = k; owner = l.1 }) s → l.0 ≡ k → (c : Bool) → same_name l.1 name ≡ c → ShowsMidway old new (suc k) (replayed carries p (cond c (change.Given name l.0 t) (change.Shared name k l.0 l.1)))
+    by l s is means e true f = subst (λ n. ShowsMidway old new (suc k) (replayed carries p (change.Given name n t))) (sym e) (given_here k s p is (means.owned ∙ ap Some (same_name_is l.1 name f)) m)
+    by l s is means e false f = subst (λ n. ShowsMidway old new (suc k) (replayed carries p (change.Shared name k n l.1))) (sym e) (shared_here k s l.1 p is means (differs l.1 name f) m)
 
-    at : (v : Option ℕ) → entry w name k ≡ v → ShowsMidway old new (suc k) (replayed_all p (line k))
+    at : (v : Option ℕ) → entry w name k ≡ v → ShowsMidway old new (suc k) (replayed_all carries p (line k))
     at None is = none_here k p is m
     at (Some s) is =
         let l = labelled_entry w name k s later_own later_numbered is in
         let e : l.0.0 ≡ k = later_numbered.one_number l.0.1 name l.0.0 k s l.2.under is in
-        subst (λ v. ShowsMidway old new (suc k) (replayed_all p (listed v))) (sym (held_is l.0 s is l.1))
+        subst (λ v. ShowsMidway old new (suc k) (replayed_all carries p (listed v))) (sym (held_is l.0 s is l.1))
         (by l.0 s is (subst (λ n. Means w (record { number = n; owner = l.0.1 }) s) e l.2) e (same_name l.0.1 name) refl)
 
-  numbers_shown : (k : ℕ) (p : Picture) → ShowsMidway old new 0 p → ShowsMidway old new k (replayed_all p (each_below k line))
-  numbers_shown zero p m = subst (λ xs. ShowsMidway old new 0 (replayed_all p xs)) (sym (each_none line)) m
+  numbers_shown : (k : ℕ) (p : Picture) → ShowsMidway old new 0 p → ShowsMidway old new k (replayed_all carries p (each_below k line))
+  numbers_shown zero p m = subst (λ xs. ShowsMidway old new 0 (replayed_all carries p xs)) (sym (each_none line)) m
   numbers_shown (suc k) p m =
-      subst (λ xs. ShowsMidway old new (suc k) (replayed_all p xs)) (sym (each_more k line)) (subst (ShowsMidway old new (suc k)) (sym (replayed_both (each_below k line) (line k) p)) (number_shown k (replayed_all p (each_below k line)) (numbers_shown k p m)))
+      subst (λ xs. ShowsMidway old new (suc k) (replayed_all carries p xs)) (sym (each_more k line)) (subst (ShowsMidway old new (suc k)) (sym (replayed_both carries (each_below k line) (line k) p)) (number_shown k (replayed_all carries p (each_below k line)) (numbers_shown k p m)))
 
-  -- ---- before the first number and behind the last
+  -- ---- before the first number and after the last
 
-  begun : (p : Picture) → ShowsBy (Means o) p old → ShowsMidway old new 0 (replayed p (change.Task name t residence))
+  begun : (p : Picture) → ShowsBy (Means o) p old → ShowsMidway old new 0 (replayed carries p (change.Task name t residence))
   begun p shows = record {
     regions = shows.regions;
     held = λ d. marks_stay (Means o) (Midway o w 0) first (p.held d) (get old.state.held d) (shows.held d);
+    bytes = shows.bytes;
     tasks = λ x. ap (cond (same_name name x) (Some (record { mother = Some t; residence = residence }))) (shows.tasks x) ∙ sym (a.owners.tasks x);
     subpools = λ u n. subst (Both (Midway o w 0) (p.subpools u n)) (sym (ap (λ b. cond b (entry w u n) (entry o u n)) (let e : nat_lt n 0 ≡ false = grind (arith, nat_tests) in e)))
         (both_weaker (Means o) (Midway o w 0) first (p.subpools u n) (entry o u n) (shows.subpools u n));
@@ -318,15 +323,16 @@ module _ (old new : JobValue) (t name : Name) (gifts : GiftsValue) (residence : 
         sym (entry_none o t name gifts residence w a.owners own numbered active refusal u n (entry_new o t name gifts residence w a.owners own numbered active refusal n ∙ (λ i. cond (k.0 i || k.1 i) (entry a.owners.ready t n) None)))
 
   -- a subtask is attached
-  pub attach_shown : (p : Picture) → ShowsBy (Means o) p old → ShowsBy (Means w) (replayed_all p (change.Task name t residence ∷ each_below 128 (λ n. listed (held_change new t name n)))) new
+  pub attach_shown : (p : Picture) → ShowsBy (Means o) p old → ShowsBy (Means w) (replayed_all carries p (change.Task name t residence ∷ each_below 128 (λ n. listed (held_change new t name n)))) new
   attach_shown p shows =
-      let q : Picture = replayed_all (replayed p (change.Task name t residence)) (each_below 128 line) in
-      let m : ShowsMidway old new 128 q = numbers_shown 128 (replayed p (change.Task name t residence)) (begun p shows) in
+      let q : Picture = replayed_all carries (replayed carries p (change.Task name t residence)) (each_below 128 line) in
+      let m : ShowsMidway old new 128 q = numbers_shown 128 (replayed carries p (change.Task name t residence)) (begun p shows) in
       ended q m where
         ended : (q : Picture) → ShowsMidway old new 128 q → ShowsBy (Means w) q new
         ended q m = record {
           regions = m.regions ∙ sym a.regions;
           held = λ d. subst (λ h. Both (IsMark (Means w)) (q.held d) (get h d)) (sym a.held) (marks_stay (Midway o w 128) (Means w) last (q.held d) (get old.state.held d) (m.held d));
+          bytes = bytes_same q.bytes (get old.state.bytes) (get new.state.bytes) m.bytes (λ x. ap (λ f. get f x) a.bytes);
           tasks = m.tasks;
           subpools = λ u n. both_weaker (Midway o w 128) (Means w) last (q.subpools u n) (entry w u n) (subst (Both (Midway o w 128) (q.subpools u n)) (last_entry u n) (m.subpools u n));
           names = λ n. m.names n ∙ sym (ap (λ f. get f n) names);

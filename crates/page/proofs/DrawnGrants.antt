@@ -13,16 +13,17 @@ use Rattle.mvs_model.specs.Place.{PlaceValue}
 use Rattle.mvs_model.specs.Reading.{is_twice}
 use Rattle.mvs_model.specs.Resolving.{all_set}
 use Rattle.mvs_model.specs.State.{State}
-use Rattle.mvs_model.specs.Storage.{covers}
+use Rattle.mvs_model.specs.Storage.{covers, has_address}
 use Rattle.mvs_model.specs.Want.{WantValue}
 use Rattle.mvs_laws.proofs.Kept.{enters_tasks}
 use Rattle.mvs_model.proofs.Orders.{name_cmp_total, same_name_self}
 use Rattle.request_forms.specs.Facts.{listed}
 use Rattle.request_forms.specs.SubpoolLabels.{resolved_owner}
+use Rattle.page.specs.declared.change.Change.{Change}
 use Rattle.page.specs.declared.change.Change.TheVariants as change
 use Rattle.page.specs.Changes.{area_change, area_changes}
 use Rattle.page.specs.Picture.{Both, IsDrawn, IsMark, Label, Means, Picture, ShowsBy, changed, replayed_all, with_area, with_name}
-use Rattle.page.proofs.Drawing.{both_changed, both_weaker, marks_stay, pools_stay, same_shown}
+use Rattle.page.proofs.Drawing.{both_changed, both_weaker, bytes_set, marks_stay, pools_stay, same_shown}
 use Rattle.page.proofs.Labels.{enters_stay, entered, enters_had, entered_table}
 use Rattle.page.proofs.Numbered.{Numbered}
 
@@ -46,6 +47,7 @@ grant_shown old new t area number want place g l p k m names shows = record {
   regions = shows.regions ∙ sym g.regions;
   held = both_changed (IsMark (Means new.state.owners)) p.held (get old.state.held) (get new.state.held) (covers place) _ _ (record { label = m; pooled = refl }) g.held
       (λ d. marks_stay (Means old.state.owners) (Means new.state.owners) stay (p.held d) (get old.state.held d) (shows.held d));
+  bytes = bytes_set p.bytes (get old.state.bytes) (get new.state.bytes) shows.bytes (has_address place) (λ a. p.regions.fill) (λ a. Some old.state.regions.fill) g.bytes filled;
   tasks = λ x. shows.tasks x ∙ sym (ap (λ f. get f x) (enters_tasks old.state.owners t number g.subpool new.state.owners g.owners));
   subpools = entries_shown old.state.owners new.state.owners t number g.subpool g.is_subpool g.owners k l m p.subpools shows.subpools;
   names = λ n. set_shown p.names old.names area place shows.names n ∙ sym (ap (λ f. get f n) names);
@@ -53,6 +55,12 @@ grant_shown old new t area number want place g l p k m names shows = record {
 } where
   stay : (l : Label) (s : ℕ) → Means old.state.owners l s → Means new.state.owners l s
   stay = enters_stay old.state.owners t number g.subpool new.state.owners g.is_subpool g.owners
+
+  -- each byte of the area is the fill byte
+  filled : (a b : ℕ) → has_address place a ≡ true → get new.state.bytes a ≡ Some b → p.regions.fill ≡ b
+  filled a b here is =
+      let fill : Some old.state.regions.fill ≡ Some b = sym (g.bytes a ∙ ap (λ c. cond c (Some old.state.regions.fill) (get old.state.bytes a)) here) ∙ is in
+      ap (λ r. r.fill) shows.regions ∙ (let same : old.state.regions.fill ≡ b = cc in same)
 
 -- ---- areas of a list
 
@@ -77,7 +85,7 @@ area_told new t area number l p label place =
     ap (option_and_then (λ p. option_map (λ l. change.Take p l.0 l.1 area) (resolved_owner new.state.owners t number))) place
     ∙ ap (option_map (λ l. change.Take p l.0 l.1 area)) label
 
--- no grant behind one makes a subpool
+-- no grant after one makes a subpool
 pub owners_same : (t : Name) (number s : ℕ) (wants : List WantValue) (ps : List PlaceValue) (mid new : State) → entry mid.owners t number ≡ Some s → ListGrant mid t number wants ps new → new.owners ≡ mid.owners
 owners_same t number s [] [] mid new is h = ap (λ st. st.owners) h
 owners_same t number s [] (p ∷ ps) mid new is h = absurd h
@@ -86,9 +94,9 @@ owners_same t number s (want ∷ wants) (p ∷ ps) mid new is h =
     let same : h.0.owners ≡ mid.owners = enters_had mid.owners t number h.1.subpool h.0.owners s is h.1.owners in
     owners_same t number s wants ps h.0 new (ap (λ o. entry o t number) same ∙ is) h.2 ∙ same
 
-module _ (new : JobValue) (t u : Name) (number s : ℕ) (l : Label) (k : Numbered new.state.owners) (m : Means new.state.owners l s) (here : entry new.state.owners t number ≡ Some s) (told : resolved_owner new.state.owners u number ≡ Some (l.number, l.owner)) where
+module _ (carries : Change → List ℕ) (new : JobValue) (t u : Name) (number s : ℕ) (l : Label) (k : Numbered new.state.owners) (m : Means new.state.owners l s) (here : entry new.state.owners t number ≡ Some s) (changes_are : resolved_owner new.state.owners u number ≡ Some (l.number, l.owner)) where
   pub areas_shown : (wants : List WantValue) (ps : List PlaceValue) (areas : List Name) (old : JobValue) (p : Picture) → ListGrant old.state t number wants ps new.state → length areas ≡ length ps → is_twice same_name areas ≡ false
-      → new.names ≡ all_set old.names areas ps → ShowsBy (Means old.state.owners) p old → ShowsBy (Means new.state.owners) (replayed_all p (area_changes new u number areas)) new
+      → new.names ≡ all_set old.names areas ps → ShowsBy (Means old.state.owners) p old → ShowsBy (Means new.state.owners) (replayed_all carries p (area_changes new u number areas)) new
   areas_shown [] [] [] old p h size once names shows = same_shown old new p h names shows
   areas_shown [] [] (area ∷ areas) old p h size once names shows = absurd (omega (arith, size))
   areas_shown [] (q ∷ ps) areas old p h size once names shows = absurd h
@@ -104,5 +112,5 @@ module _ (new : JobValue) (t u : Name) (number s : ℕ) (l : Label) (k : Numbere
       let mid : JobValue = record { state = h.0; names = insert old.names area q; abended = old.abended; former = old.former } in
       let place : get new.names area ≡ Some q = ap (λ f. get f area) names ∙ set_first area areas q ps old.names apart.0 in
       let one = grant_shown old mid t area number want q g l p (subst Numbered owners k) (subst (λ r. Means h.0.owners l r) subpool_is (subst (λ o. Means o l s) owners m)) refl shows in
-      subst (λ o. ShowsBy (Means new.state.owners) (replayed_all p (listed o ++ area_changes new u number areas)) new) (sym (area_told new u area number l q told place))
+      subst (λ o. ShowsBy (Means new.state.owners) (replayed_all carries p (listed o ++ area_changes new u number areas)) new) (sym (area_told new u area number l q changes_are place))
       (areas_shown wants ps areas mid (with_name area q (with_area q l p)) h.2 (omega (arith, size)) apart.1 names one)

@@ -15,16 +15,15 @@ use Rattle.mvs_model.specs.Job.{JobValue}
 use Rattle.mvs_model.specs.Name.{same_name}
 use Rattle.mvs_model.specs.Owners.{entry}
 use Rattle.mvs_model.specs.Place.{PlaceValue}
-use Rattle.mvs_model.specs.Pools.{Part, Pool, in_parts, part_want}
+use Rattle.mvs_model.specs.Pools.{Part, Pool, cell_at, in_parts, in_taken, part_want}
 use Rattle.mvs_model.specs.State.{State, holder, pooled}
-use Rattle.mvs_model.specs.Storage.{Chosen, covers}
+use Rattle.mvs_model.specs.Storage.{Chosen, covers, has_address}
 use Rattle.mvs_model.specs.WellFormed.{Apart}
 use Rattle.mvs_model.proofs.Elements.{any_found}
 use Rattle.mvs_model.proofs.PartsFewer.{none_held}
 use Rattle.mvs_model.proofs.Tests.{none_some, same_self}
-use Rattle.page.specs.declared.change.Change.TheVariants as change
-use Rattle.page.specs.Picture.{Both, DrawnPool, IsDrawn, IsMark, Label, Means, Picture, ShowsBy, changed, covered_by, has_part_at, replayed, with_cell, with_part, with_pool}
-use Rattle.page.proofs.Drawing.{both_changed}
+use Rattle.page.specs.Picture.{AreBytes, Both, DrawnPool, IsDrawn, IsMark, Label, Means, Picture, ShowsBy, changed, covered_by, filled, has_part_at, with_cell, with_part, with_pool}
+use Rattle.page.proofs.Drawing.{both_changed, bytes_gone, bytes_same, bytes_set}
 
 -- ---- lists
 
@@ -69,11 +68,11 @@ no_part_there st name pool count p q means apart is chosen drawn = false_from_ne
       let free = none_held (get st.held (p.addr / 8)) (chosen.placed.0.each (p.addr / 8) (omega arith, omega arith)).free in
       none_some (sym free ∙ held)
 
-module _ (old new : JobValue) (name : Name) (pool : Pool) (count : ℕ) (place : PlaceValue) (p : Picture) (regions : new.state.regions ≡ old.state.regions) (owners : new.state.owners ≡ old.state.owners) (names : new.names ≡ old.names) where
+module _ (old new : JobValue) (name : Name) (pool : Pool) (count : ℕ) (place : PlaceValue) (p : Picture) (regions : new.state.regions ≡ old.state.regions) (bytes : new.state.bytes ≡ old.state.bytes) (owners : new.state.owners ≡ old.state.owners) (names : new.names ≡ old.names) where
   -- the pool is drawn, and the part is not
   pub part_shown : (q : DrawnPool) → p.pools name ≡ Some q → IsDrawn (Means old.state.owners) q pool → has_part_at place.addr q ≡ false
       → Changes (get old.state.held) (covers place) (Some (pooled pool.subpool)) (get new.state.held) → Changes (get old.state.pools) (λ n. same_name n name) (Some (model.with_part pool count place)) (get new.state.pools)
-      → ShowsBy (Means old.state.owners) p old → ShowsBy (Means new.state.owners) (replayed p (change.Part name place count)) new
+      → ShowsBy (Means old.state.owners) p old → ShowsBy (Means new.state.owners) (with_part name (record { place = place; count = count }) (p.pools name) p) new
   part_shown q is drawn fresh held pools shows =
       subst (λ o. ShowsBy (Means new.state.owners) (with_part name (record { place = place; count = count }) o p) new) (sym is)
       (subst (λ c. ShowsBy (Means new.state.owners) (cond c p grown) new) (sym fresh) done) where
@@ -91,6 +90,7 @@ module _ (old new : JobValue) (name : Name) (pool : Pool) (count : ℕ) (place :
           regions = shows.regions ∙ sym regions;
           held = both_changed (IsMark (Means new.state.owners)) p.held (get old.state.held) (get new.state.held) (covers place) _ _ (record { label = means; pooled = refl }) held
               (λ d. subst (λ o. Both (IsMark (Means o)) (p.held d) (get old.state.held d)) (sym owners) (shows.held d));
+          bytes = bytes_same p.bytes (get old.state.bytes) (get new.state.bytes) shows.bytes (λ a. ap (λ m. get m a) bytes);
           tasks = λ t. shows.tasks t ∙ sym (ap (λ o. get o.tasks t) owners);
           subpools = λ t n. subst (λ o. Both (Means o) (p.subpools t n) (entry o t n)) (sym owners) (shows.subpools t n);
           names = λ n. shows.names n ∙ sym (ap (λ m. get m n) names);
@@ -101,7 +101,7 @@ module _ (old new : JobValue) (name : Name) (pool : Pool) (count : ℕ) (place :
 
 -- a part that is drawn is drawn no second time
 pub part_drawn : (means : Label → ℕ → Type 0) (name : Name) (pool : Pool) (place : PlaceValue) (cells : ℕ) (p : Picture) (q : DrawnPool) → p.pools name ≡ Some q → IsDrawn means q pool
-    → (i : ℕ) → slice_get pool.parts i ≡ Some (record { place = place; count = cells }) → replayed p (change.Part name place cells) ≡ p
+    → (i : ℕ) → slice_get pool.parts i ≡ Some (record { place = place; count = cells }) → with_part name (record { place = place; count = cells }) (p.pools name) p ≡ p
 part_drawn means name pool place cells p q is drawn i there =
     ap (λ o. with_part name (record { place = place; count = cells }) o p) is
     ∙ ap (λ c. cond c p (with_pool name (Some (record q { parts = q.parts ++ record { place = place; count = cells } ∷ [] })) (record p { held = changed p.held (covers place) (Some (record { label = q.label; pooled = true })) })))
@@ -122,13 +122,14 @@ taken_less q pool c all x = ap (cond (x == c) false) (all x) ∙ at (x == c) ∙
   at false = refl
 
 -- the cells of a pool are others
-module _ (old new : JobValue) (name : Name) (pool : Pool) (taken : set.FinSet nat_cmp) (p : Picture) (c : ℕ) (on : Bool) (is : get old.state.pools name ≡ Some pool)
-    (told : (q : DrawnPool) → ((x : ℕ) → q.taken x ≡ set.contains pool.taken x) → (x : ℕ) → (with_cell c on q).taken x ≡ set.contains taken x)
+module _ (old new : JobValue) (name : Name) (pool : Pool) (taken : set.FinSet nat_cmp) (p : Picture) (byte : ℕ → ℕ) (c : ℕ) (on : Bool) (is : get old.state.pools name ≡ Some pool)
+    (changes_are : (q : DrawnPool) → ((x : ℕ) → q.taken x ≡ set.contains pool.taken x) → (x : ℕ) → (with_cell c on q).taken x ≡ set.contains taken x)
     (regions : new.state.regions ≡ old.state.regions) (held : new.state.held ≡ old.state.held) (owners : new.state.owners ≡ old.state.owners) (pools : Changes (get old.state.pools) (λ n. same_name n name) (Some (record pool { taken = taken })) (get new.state.pools)) where
-  pub cells_shown : new.names ≡ old.names → ShowsBy (Means old.state.owners) p old → ShowsBy (Means new.state.owners) (with_pool name (option_map (with_cell c on) (p.pools name)) p) new
-  cells_shown names shows = record {
+  pub cells_shown : new.names ≡ old.names → ShowsBy (Means old.state.owners) p old → AreBytes byte (get new.state.bytes) → ShowsBy (Means new.state.owners) (record (with_pool name (option_map (with_cell c on) (p.pools name)) p) { bytes = byte }) new
+  cells_shown names shows bytes = record {
     regions = shows.regions ∙ sym regions;
     held = λ d. subst (λ o. Both (IsMark (Means o)) (p.held d) (get new.state.held d)) (sym owners) (subst (λ m. Both (IsMark (Means old.state.owners)) (p.held d) (get m d)) (sym held) (shows.held d));
+    bytes = bytes;
     tasks = λ t. shows.tasks t ∙ sym (ap (λ o. get o.tasks t) owners);
     subpools = λ t n. subst (λ o. Both (Means o) (p.subpools t n) (entry o t n)) (sym owners) (shows.subpools t n);
     names = λ n. shows.names n ∙ sym (ap (λ m. get m n) names);
@@ -138,26 +139,36 @@ module _ (old new : JobValue) (name : Name) (pool : Pool) (taken : set.FinSet na
     here =
         let d = drawn_there (Means old.state.owners) (p.pools name) (get old.state.pools name) pool is (shows.pools name) in
         subst (λ o. Both (IsDrawn (Means new.state.owners)) (option_map (with_cell c on) o) (Some (record pool { taken = taken }))) (sym d.1)
-        (record { label = subst (λ o. Means o d.0.label pool.subpool) (sym owners) d.2.label; cell_size = d.2.cell_size; parts = d.2.parts; taken = told d.0 d.2.taken })
+        (record { label = subst (λ o. Means o d.0.label pool.subpool) (sym owners) d.2.label; cell_size = d.2.cell_size; parts = d.2.parts; taken = changes_are d.0 d.2.taken })
 
 -- a cell is taken
 pub taken_shown : (old new : JobValue) (name : Name) (pool : Pool) (c : ℕ) (p : Picture) → get old.state.pools name ≡ Some pool → TakesCell old.state name pool c new.state → new.names ≡ old.names
-    → ShowsBy (Means old.state.owners) p old → ShowsBy (Means new.state.owners) (with_pool name (option_map (with_cell c true) (p.pools name)) p) new
-taken_shown old new name pool c p is g = cells_shown old new name pool (set.insert pool.taken c) p c true is (λ q all. taken_more q pool c all) g.regions g.held g.owners g.pools
+    → ShowsBy (Means old.state.owners) p old → ShowsBy (Means new.state.owners) (filled (cell_at pool c) (with_pool name (option_map (with_cell c true) (p.pools name)) p)) new
+taken_shown old new name pool c p is g names shows =
+    cells_shown old new name pool (set.insert pool.taken c) p _ c true is (λ q all. taken_more q pool c all) g.regions g.held g.owners g.pools names shows
+    (bytes_set p.bytes (get old.state.bytes) (get new.state.bytes) shows.bytes (has_address (cell_at pool c)) (λ a. p.regions.fill) (λ a. Some old.state.regions.fill) g.bytes here) where
+      -- each byte of the cell is the fill byte
+      here : (a b : ℕ) → has_address (cell_at pool c) a ≡ true → get new.state.bytes a ≡ Some b → p.regions.fill ≡ b
+      here a b there is =
+          let fill : Some old.state.regions.fill ≡ Some b = sym (g.bytes a ∙ ap (λ c. cond c (Some old.state.regions.fill) (get old.state.bytes a)) there) ∙ is in
+          ap (λ r. r.fill) shows.regions ∙ (let same : old.state.regions.fill ≡ b = cc in same)
 
 -- a cell is given back
 pub given_shown : (old new : JobValue) (name : Name) (pool : Pool) (c : ℕ) (p : Picture) → get old.state.pools name ≡ Some pool → GivesCell old.state name pool c new.state → new.names ≡ old.names
-    → ShowsBy (Means old.state.owners) p old → ShowsBy (Means new.state.owners) (replayed p (change.Back name c)) new
-given_shown old new name pool c p is g = cells_shown old new name pool (set.remove pool.taken c) p c false is (λ q all. taken_less q pool c all) g.regions g.held g.owners g.pools
+    → ShowsBy (Means old.state.owners) p old → ShowsBy (Means new.state.owners) (with_pool name (option_map (with_cell c false) (p.pools name)) p) new
+given_shown old new name pool c p is g names shows =
+    cells_shown old new name pool (set.remove pool.taken c) p p.bytes c false is (λ q all. taken_less q pool c all) g.regions g.held g.owners g.pools names shows
+    (bytes_gone p.bytes (get old.state.bytes) (get new.state.bytes) shows.bytes (has_address (cell_at pool c)) g.bytes)
 
 -- ---- a pool goes
 
 pub dropped_shown : (old new : JobValue) (name : Name) (pool : Pool) (p : Picture) → get old.state.pools name ≡ Some pool → DropsPool old.state name pool new.state → new.names ≡ old.names
-    → ShowsBy (Means old.state.owners) p old → ShowsBy (Means new.state.owners) (replayed p (change.Delete name)) new
+    → ShowsBy (Means old.state.owners) p old → ShowsBy (Means new.state.owners) (with_pool name None (record p { held = changed p.held (λ d. has (λ q. covered_by q d) (p.pools name)) None })) new
 dropped_shown old new name pool p is g names shows = record {
   regions = shows.regions ∙ sym g.regions;
   held = both_changed (IsMark (Means new.state.owners)) p.held (get old.state.held) (get new.state.held) (λ d. has (λ q. covered_by q d) (p.pools name)) None None tt
       (λ d. g.held d ∙ ap (λ b. cond b None (get old.state.held d)) (sym (covers_same d))) (λ d. subst (λ o. Both (IsMark (Means o)) (p.held d) (get old.state.held d)) (sym g.owners) (shows.held d));
+  bytes = bytes_gone p.bytes (get old.state.bytes) (get new.state.bytes) shows.bytes (in_taken pool) g.bytes;
   tasks = λ t. shows.tasks t ∙ sym (ap (λ o. get o.tasks t) g.owners);
   subpools = λ t n. subst (λ o. Both (Means o) (p.subpools t n) (entry o t n)) (sym g.owners) (shows.subpools t n);
   names = λ n. shows.names n ∙ sym (ap (λ m. get m n) names);

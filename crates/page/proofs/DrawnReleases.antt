@@ -5,18 +5,20 @@ use Rattle.std.specs.FinMap.{get}
 use Rattle.std.proofs.lemmas.Bool.{and_parts}
 use Rattle.std.proofs.lemmas.Bool.Decides.{nat_tests}
 use Rattle.mvs_model.specs.declared.name.Name.{Name}
-use Rattle.mvs_model.specs.Changes.{Empties, Frees, any_covers}
+use Rattle.mvs_model.specs.Changes.{Empties, Frees, any_covers, any_has}
 use Rattle.mvs_model.specs.Job.{JobValue}
 use Rattle.mvs_model.specs.Name.{same_name}
 use Rattle.mvs_model.specs.Owners.{Owners, entry}
 use Rattle.mvs_model.specs.Place.{PlaceValue, round8}
 use Rattle.mvs_model.specs.Requests.{on_doubleword, whole}
+use Rattle.mvs_model.specs.State.{granted}
 use Rattle.mvs_model.specs.Storage.{covers}
 use Rattle.mvs_model.proofs.Orders.{same_name_is, same_name_self}
 use Rattle.mvs_model.proofs.Tests.{same_self, same_test}
+use Rattle.page.specs.declared.change.Change.{Change}
 use Rattle.page.specs.Changes.{free_changes}
 use Rattle.page.specs.Picture.{Both, IsDrawn, IsMark, Label, Means, Picture, ShowsBy, changed, replayed_all, same_label, without}
-use Rattle.page.proofs.Drawing.{both_changed, both_kept}
+use Rattle.page.proofs.Drawing.{both_changed, both_kept, bytes_gone, bytes_kept}
 use Rattle.page.proofs.Numbered.{Numbered}
 
 -- ---- places
@@ -33,34 +35,36 @@ all_cover (p ∷ ps) d e = let k = and_parts (on_doubleword p) (list_all on_doub
 record IsFreed (test : ℕ → Bool) (p q : Picture) : Type 0 where
   regions : q.regions ≡ p.regions
   held : (d : ℕ) → q.held d ≡ changed p.held test None d
+  bytes : (a : ℕ) → q.bytes a ≡ p.bytes a
   tasks : (t : Name) → q.tasks t ≡ p.tasks t
   subpools : (t : Name) (n : ℕ) → q.subpools t n ≡ p.subpools t n
   names : (n : Name) → q.names n ≡ p.names n
   pools : (n : Name) → q.pools n ≡ p.pools n
 
-frees : (ps : List PlaceValue) (p : Picture) → IsFreed (any_covers ps) p (replayed_all p (free_changes ps))
-frees [] p = record { regions = refl; held = λ d. refl; tasks = λ t. refl; subpools = λ t n. refl; names = λ n. refl; pools = λ n. refl }
-frees (x ∷ xs) p =
-    let more = frees xs (record p { held = changed p.held (covers x) None }) in
-    record { regions = more.regions; held = λ d. more.held d ∙ at (covers x d) (any_covers xs d) (p.held d); tasks = more.tasks; subpools = more.subpools; names = more.names; pools = more.pools } where
+frees : (carries : Change → List ℕ) (ps : List PlaceValue) (p : Picture) → IsFreed (any_covers ps) p (replayed_all carries p (free_changes ps))
+frees carries [] p = record { regions = refl; held = λ d. refl; bytes = λ a. refl; tasks = λ t. refl; subpools = λ t n. refl; names = λ n. refl; pools = λ n. refl }
+frees carries (x ∷ xs) p =
+    let more = frees carries xs (record p { held = changed p.held (covers x) None }) in
+    record { regions = more.regions; held = λ d. more.held d ∙ at (covers x d) (any_covers xs d) (p.held d); bytes = more.bytes; tasks = more.tasks; subpools = more.subpools; names = more.names; pools = more.pools } where
       at : {X : Type 0} (b c : Bool) (o : Option X) → cond c None (cond b None o) ≡ cond (b || c) None o
       at true true o = refl
       at true false o = refl
       at false c o = refl
 
 -- places are released
-pub frees_shown : (old new : JobValue) (ps : List PlaceValue) (p : Picture) → list_all on_doubleword ps ≡ true → Frees old.state (map whole ps) new.state → new.names ≡ old.names
-    → ShowsBy (Means old.state.owners) p old → ShowsBy (Means new.state.owners) (replayed_all p (free_changes ps)) new
-frees_shown old new ps p whole f names shows =
-    let q = frees ps p in
+pub frees_shown : (carries : Change → List ℕ) (old new : JobValue) (ps : List PlaceValue) (p : Picture) → list_all on_doubleword ps ≡ true → Frees old.state (map whole ps) new.state → new.names ≡ old.names
+    → ShowsBy (Means old.state.owners) p old → ShowsBy (Means new.state.owners) (replayed_all carries p (free_changes ps)) new
+frees_shown carries old new ps p on f names shows =
+    let q = frees carries ps p in
     record {
       regions = q.regions ∙ shows.regions ∙ sym f.regions;
-      held = λ d. subst (λ o. Both (IsMark (Means o)) ((replayed_all p (free_changes ps)).held d) (get new.state.held d)) (sym f.owners) (subst (λ x. Both (IsMark (Means old.state.owners)) x (get new.state.held d)) (sym (q.held d))
-          (both_changed (IsMark (Means old.state.owners)) p.held (get old.state.held) (get new.state.held) (any_covers ps) None None tt (λ d. f.held d ∙ ap (λ b. cond b None (get old.state.held d)) (all_cover ps d whole)) shows.held d));
+      held = λ d. subst (λ o. Both (IsMark (Means o)) ((replayed_all carries p (free_changes ps)).held d) (get new.state.held d)) (sym f.owners) (subst (λ x. Both (IsMark (Means old.state.owners)) x (get new.state.held d)) (sym (q.held d))
+          (both_changed (IsMark (Means old.state.owners)) p.held (get old.state.held) (get new.state.held) (any_covers ps) None None tt (λ d. f.held d ∙ ap (λ b. cond b None (get old.state.held d)) (all_cover ps d on)) shows.held d));
+      bytes = λ a b is. q.bytes a ∙ bytes_gone p.bytes (get old.state.bytes) (get new.state.bytes) shows.bytes (any_has (map whole ps)) f.bytes a b is;
       tasks = λ t. q.tasks t ∙ shows.tasks t ∙ sym (ap (λ o. get o.tasks t) f.owners);
-      subpools = λ t n. subst (λ o. Both (Means o) ((replayed_all p (free_changes ps)).subpools t n) (entry o t n)) (sym f.owners) (subst (λ x. Both (Means old.state.owners) x (entry old.state.owners t n)) (sym (q.subpools t n)) (shows.subpools t n));
+      subpools = λ t n. subst (λ o. Both (Means o) ((replayed_all carries p (free_changes ps)).subpools t n) (entry o t n)) (sym f.owners) (subst (λ x. Both (Means old.state.owners) x (entry old.state.owners t n)) (sym (q.subpools t n)) (shows.subpools t n));
       names = λ n. q.names n ∙ shows.names n ∙ sym (ap (λ m. get m n) names);
-      pools = λ n. subst (λ o. Both (IsDrawn (Means o)) ((replayed_all p (free_changes ps)).pools n) (get new.state.pools n)) (sym f.owners) (subst (λ x. Both (IsDrawn (Means old.state.owners)) x (get new.state.pools n)) (sym (q.pools n))
+      pools = λ n. subst (λ o. Both (IsDrawn (Means o)) ((replayed_all carries p (free_changes ps)).pools n) (get new.state.pools n)) (sym f.owners) (subst (λ x. Both (IsDrawn (Means old.state.owners)) x (get new.state.pools n)) (sym (q.pools n))
           (subst (Both (IsDrawn (Means old.state.owners)) (p.pools n)) (sym (ap (λ m. get m n) f.pools)) (shows.pools n)));
     }
 
@@ -90,6 +94,7 @@ empties_shown old new l s p k m e names shows = record {
   regions = shows.regions ∙ sym e.drops.regions;
   held = λ d. subst (λ o. Both (IsMark (Means o)) ((without (same_label l) p).held d) (get new.state.held d)) (sym e.owners) (subst (Both (IsMark (Means old.state.owners)) _) (sym (e.drops.held d))
       (both_kept (IsMark (Means old.state.owners)) (IsMark (Means old.state.owners)) _ _ (λ x h i. same x.label h.subpool i.label) (λ x h b i. i) (p.held d) (get old.state.held d) (shows.held d)));
+  bytes = bytes_kept p.bytes (get old.state.bytes) (get new.state.bytes) shows.bytes (λ a _. granted new.state a) e.drops.bytes;
   tasks = λ t. shows.tasks t ∙ sym (ap (λ o. get o.tasks t) e.owners);
   subpools = λ t n. subst (λ o. Both (Means o) (p.subpools t n) (entry o t n)) (sym e.owners) (shows.subpools t n);
   names = λ n. shows.names n ∙ sym (ap (λ m. get m n) names);

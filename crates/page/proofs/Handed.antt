@@ -70,7 +70,7 @@ module _ (o : Owners) (t name : Name) (gifts : GiftsValue) (residence : Residenc
       at true e = named (get o.owner s) e
       at false e = true_false (sym (some_below (λ n. gives gifts n && has (λ s. not (owns o t s)) (entry o t n)) 128 n (low n g) ((λ i. g i && has (λ s. not (owns o t s)) (h i)) ∙ ap not e)) ∙ (accepted o t name gifts refusal).1)
 
-  -- ---- owners and entries behind the ATTACH
+  -- ---- owners and entries after the ATTACH
 
   pub owner_given : (s : ℕ) → is_given a.ready t gifts s ≡ true → get w.owner s ≡ Some name
   owner_given s e = a.owner s ∙ ap (λ b. cond b (Some name) (get a.ready.owner s)) e

@@ -1,6 +1,7 @@
 pub mod Plain
 pub mod Paged
 pub mod Served
+mod GrantedPlaces
 mod Drawing
 mod Labels
 mod Numbered

@@ -37,7 +37,7 @@ module _ (start before after : Option (List ℕ)) (frame script left : List ℕ)
   both : (x : List ℕ) → Appends before after x → Appends start after (frame ++ (s.0 ++ x))
   both x a = subst (Appends start after) (append_assoc frame s.0 x) (Appends-trans start before after (frame ++ s.0) x s.1 a)
 
-  -- what ends behind the lines so far is a page
+  -- what ends after the lines so far is a page
   ends : (how : Result Outcome Stop) (x : List ℕ) → Appends before after x → Items how 1 None no_lines (lines_of script) (s.0 ++ x) → WritesPage start after frame script how
   ends how x a h = (frame ++ (s.0 ++ x), both x a, inl (s.0 ++ x, refl, h))
 
@@ -137,17 +137,17 @@ item_shown number l read [] new behind = note_of_shown number l
 item_shown number l read (e ∷ events) new behind =
     let how = class_of (e ∷ events) in
     let printed = printing (e ∷ events) in
-    let changes = change_lines (changes_of read (e ∷ events) new) in
+    let changes = change_lines new (changes_of read (e ∷ events) new) in
     both_shown (head_of number how l) (reply_of printed ++ tail_of behind changes) [] (escaped printed) (head_shown number how l (class_of_plain (e ∷ events)))
     (reply_then printed (tail_of behind changes) (tail_shown behind changes))
 
 fault_shown : (number : ℕ) (l : List ℕ) (events : List Event) → Shows (fault_of number l events) (shown_of events)
 fault_shown number l events =
-    let told = codes "The job ends here." in
+    let notice = codes "The job ends here." in
     let close = codes "</p>\n</article>\n" in
-    let end = codes "<p>" ++ (told ++ close) in
+    let end = codes "<p>" ++ (notice ++ close) in
     both_shown (head_of number (codes "js") l) (reply_of (printing events) ++ end) [] (shown_of events) (head_shown number (codes "js") l refl)
-    (reply_then (printing events) end (none_shown (codes "<p>") (told ++ close) (λ rest. refl) (none_shown told close (plain_shown told refl) (λ rest. refl))))
+    (reply_then (printing events) end (none_shown (codes "<p>") (notice ++ close) (λ rest. refl) (none_shown notice close (plain_shown notice refl) (λ rest. refl))))
 
 shown_both : (events more : List Event) → shown_of (events ++ more) ≡ shown_of events ++ shown_of more
 shown_both events more = ap escaped (printed_both events more) ∙ flat_map-append escaped_byte (printing events) (printing more)

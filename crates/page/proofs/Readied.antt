@@ -9,7 +9,7 @@ use Rattle.mvs_model.proofs.Tests.{true_false}
 use Rattle.page.specs.Picture.{Label, Means}
 use Rattle.page.proofs.Labels.{enters_else, enters_entry, enters_own, enters_owner, enters_stay}
 
--- What is so behind them: what was there stays, only the mother has more, under the numbers that are wanted, and that she owns.
+-- What is so after them: what was there stays, only the mother has more, under the numbers that are wanted, and that she owns.
 pub record Readied (o : Owners) (t : Name) (wanted : ℕ → Bool) (ready : Owners) : Type 0 where
   pub stay : (l : Label) (s : ℕ) → Means o l s → Means ready l s
   pub owner : (s : ℕ) (u : Name) → get o.owner s ≡ Some u → get ready.owner s ≡ Some u

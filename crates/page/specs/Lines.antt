@@ -1,11 +1,14 @@
 -- The lines of change: what a statement did to the step, in the manner of the printing. (this project's own notation)
-use Rattle.std.specs.Prelude.{ℕ, List, ◌++◌, codes, decimal}
+use Rattle.std.specs.Prelude.{ℕ, List, [], ◌++◌, Option, Some, None, codes, decimal, if◌then◌else◌}
 use Rattle.std.specs.List.{flat_map}
 use Rattle.mvs_model.specs.declared.name.Name.{Name}
 use Rattle.mvs_model.specs.declared.want.Residence.{Residence}
 use Rattle.mvs_model.specs.declared.want.Residence.TheVariants as resides
+use Rattle.mvs_model.specs.Job.{JobValue}
 use Rattle.mvs_model.specs.Name.{trimmed}
 use Rattle.mvs_model.specs.Place.{PlaceValue}
+use Rattle.mvs_model.specs.Replies.{bytes_at}
+use Rattle.mvs_model.specs.Requests.{all_granted}
 use Rattle.mvs_model.specs.Texts.{hex}
 use Rattle.page.specs.declared.change.Change.{Change}
 use Rattle.page.specs.declared.change.Change.TheVariants as change
@@ -43,16 +46,25 @@ change_text (change.Cell pool place name) = codes "CELL " ++ trimmed pool ++ cod
 change_text (change.Back pool cell) = codes "BACK " ++ trimmed pool ++ codes " " ++ hex 8 cell
 change_text (change.Delete pool) = codes "DROP " ++ trimmed pool
 change_text (change.Read place) = codes "READ " ++ place_text place
-change_text (change.Write place) = codes "WRITE " ++ place_text place
+change_text (change.Write place) = codes "WRITE " ++ place_text place ++ codes " "
 change_text (change.Look place) = codes "LOOK " ++ place_text place
 change_text (change.Return task) = codes "END " ++ trimmed task ++ codes " RETURN"
 change_text (change.Abend task) = codes "END " ++ trimmed task ++ codes " ABEND"
 change_text (change.Fall task other) = codes "END " ++ trimmed task ++ codes " WITH " ++ trimmed other
 
+-- the bytes of a place that may be read
+abbrev pub read_bytes : JobValue → PlaceValue → List ℕ
+read_bytes job p = if all_granted job.state p then bytes_at job.state p.addr p.len else []
+
+-- the bytes that the line of a change carries: what it wrote, as it is in the step after the line
+abbrev pub carried : Option JobValue → Change → List ℕ
+carried (Some job) (change.Write place) = read_bytes job place
+carried new c = []
+
 -- the line of it
-abbrev pub change_line : Change → List ℕ
-change_line c = change_text c ++ codes "\n"
+abbrev pub change_line : Option JobValue → Change → List ℕ
+change_line new c = change_text c ++ flat_map (hex 2) (carried new c) ++ codes "\n"
 
 -- the lines of changes, one after another
-abbrev pub change_lines : List Change → List ℕ
-change_lines cs = flat_map change_line cs
+abbrev pub change_lines : Option JobValue → List Change → List ℕ
+change_lines new cs = flat_map (change_line new) cs

@@ -59,7 +59,17 @@ answer_class answer.NoName = codes "no"
 answer_class answer.Rc4 = codes "no"
 answer_class answer.NoCell = codes "no"
 answer_class (answer.Abended code fallen) = codes "ab"
-answer_class _ = codes "ok"
+answer_class (answer.At addr) = codes "ok"
+answer_class answer.Rc0 = codes "ok"
+answer_class (answer.Granted n) = codes "ok"
+answer_class answer.Cell = codes "ok"
+answer_class answer.Attached = codes "ok"
+answer_class answer.Ended = codes "ok"
+answer_class answer.Done = codes "ok"
+answer_class (answer.Data bytes) = codes "ok"
+answer_class (answer.Subpools lines) = codes "ok"
+answer_class (answer.Map runs) = codes "ok"
+answer_class (answer.Region card) = codes "ok"
 
 -- the result of the events of a line
 abbrev pub class_of : List Event → List ℕ
@@ -75,7 +85,7 @@ shown_line l = escaped (take most_of_line l)
 
 -- the explanations of an answer, without the asterisk and the blank before each line
 abbrev pub words_of : List ℕ → List ℕ
-words_of behind = flat_map (λ l. escaped (drop 2 l) ++ codes "\n") (lines_of behind)
+words_of explanation = flat_map (λ l. escaped (drop 2 l) ++ codes "\n") (lines_of explanation)
 
 -- the tag that begins the item of a statement: its number, and how it went
 abbrev pub article_tag : ℕ → List ℕ → List ℕ
@@ -92,7 +102,7 @@ reply_of printed = codes "<pre>" ++ (escaped printed ++ codes "</pre>\n")
 
 -- the words of an item, and its lines of change
 abbrev pub tail_of : List ℕ → List ℕ → List ℕ
-tail_of behind changes = codes "<p>" ++ (words_of behind ++ (codes "</p>\n<pre class=\"d\">" ++ (escaped changes ++ codes "</pre>\n</article>\n")))
+tail_of explanation changes = codes "<p>" ++ (words_of explanation ++ (codes "</p>\n<pre class=\"d\">" ++ (escaped changes ++ codes "</pre>\n</article>\n")))
 
 -- the tag that begins the item of a line that says nothing
 abbrev pub note_tag : ℕ → List ℕ
@@ -104,9 +114,9 @@ note_of number l = note_tag number ++ (shown_line l ++ codes "</p>\n")
 
 -- the item of an executed line: from its number and its bytes, its meaning and its events, the step after it, and the explanations
 abbrev pub item_of : ℕ → List ℕ → Line → List Event → Option JobValue → List ℕ → List ℕ
-item_of number l read [] new behind = note_of number l
-item_of number l read (e ∷ events) new behind =
-    head_of number (class_of (e ∷ events)) l ++ (reply_of (printing (e ∷ events)) ++ tail_of behind (change_lines (changes_of read (e ∷ events) new)))
+item_of number l read [] new explanation = note_of number l
+item_of number l read (e ∷ events) new explanation =
+    head_of number (class_of (e ∷ events)) l ++ (reply_of (printing (e ∷ events)) ++ tail_of explanation (change_lines new (changes_of read (e ∷ events) new)))
 
 -- the item of a line with a fault
 abbrev pub fault_of : ℕ → List ℕ → List Event → List ℕ

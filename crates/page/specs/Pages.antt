@@ -27,9 +27,9 @@ IsReadAs old l read = LineOf (is_first old) l read ⊎ ((fault : Fault) × Fault
 -- set names before it to those after it.
 abbrev pub IsItem : ℕ → Option JobValue → NameOrigins → List ℕ → Option JobValue → NameOrigins → List ℕ → Type 0
 IsItem number old set l new later item =
-    (read : Line) × (events : List Event) × (behind : List ℕ)
-    × IsReadAs old l read × ServesLine machine number old l events new × AreNamesAfter number old set l events later × IsExplanationText old set l events new behind
-    × (item ≡ item_of number l read events new behind)
+    (read : Line) × (events : List Event) × (explanation : List ℕ)
+    × IsReadAs old l read × ServesLine machine number old l events new × AreNamesAfter number old set l events later × IsExplanationText old set l events new explanation
+    × (item ≡ item_of number l read events new explanation)
 
 -- The item is that of the line of this number, which has a fault.
 abbrev pub IsFaultItem : ℕ → Option JobValue → List ℕ → List ℕ → Type 0

@@ -1,6 +1,6 @@
 -- The picture that a reader of the lines of change has of a step, and that it is the step's.
-use Rattle.std.specs.Prelude.{◌≡◌, ℕ, ◌+◌, Bool, true, false, not, ◌&&◌, ◌||◌, ◌==◌, List, [], ◌∷◌, ◌++◌, Option, Some, None, if◌then◌else◌}
-use Rattle.std.specs.List.{list_any}
+use Rattle.std.specs.Prelude.{◌≡◌, ℕ, ◌+◌, ◌-◌, Bool, true, false, not, ◌&&◌, ◌||◌, ◌==◌, List, [], ◌∷◌, ◌++◌, Option, Some, None, unwrap_or, if◌then◌else◌}
+use Rattle.std.specs.List.{list_any, slice_get}
 use Rattle.std.specs.Option.{option_map}
 use Rattle.std.specs.FinMap.{get}
 use Rattle.std.specs.FinSet as set
@@ -15,11 +15,12 @@ use Rattle.mvs_model.specs.Place.{PlaceValue}
 use Rattle.mvs_model.specs.Pools.{Part, Pool}
 use Rattle.mvs_model.specs.Runs.{machine}
 use Rattle.mvs_model.specs.State.{Holding}
-use Rattle.mvs_model.specs.Storage.{Regions, covers}
+use Rattle.mvs_model.specs.Storage.{Regions, covers, has_address}
 use Rattle.mvs_model.specs.Walk.{Leads, ServesLine}
 use Rattle.page.specs.declared.change.Change.{Change}
 use Rattle.page.specs.declared.change.Change.TheVariants as change
 use Rattle.page.specs.Changes.{changes_of}
+use Rattle.page.specs.Lines.{carried}
 use Rattle.page.specs.Pages.{IsReadAs}
 
 -- ---- the picture
@@ -41,11 +42,12 @@ pub record DrawnPool : Type 0 where
   pub parts : List Part
   pub taken : ℕ → Bool
 
--- The regions, what holds a doubleword, the active tasks, the subpool that a task has under a number, the places of the names that are
--- set, and the pools.
+-- The regions, what holds a doubleword, the byte at an address, the active tasks, the subpool that a task has under a number, the places
+-- of the names that are set, and the pools.
 pub record Picture : Type 0 where
   pub regions : Regions
   pub held : ℕ → Option Mark
+  pub bytes : ℕ → ℕ
   pub tasks : Name → Option Task
   pub subpools : Name → ℕ → Option Label
   pub names : Name → Option PlaceValue
@@ -53,7 +55,7 @@ pub record Picture : Type 0 where
 
 -- nothing is drawn
 abbrev pub blank : Picture
-blank = record { regions = record { below = 0; above = 0; fill = 0 }; held = λ d. None; tasks = λ t. None; subpools = λ t n. None; names = λ n. None; pools = λ n. None }
+blank = record { regions = record { below = 0; above = 0; fill = 0 }; held = λ d. None; bytes = λ a. 0; tasks = λ t. None; subpools = λ t n. None; names = λ n. None; pools = λ n. None }
 
 -- ---- what a line of change does to it
 
@@ -83,6 +85,18 @@ relabelled f p = record p { held = λ d. option_map (mark_moved f) (p.held d); s
 -- the label of a subpool once this one has a new owner
 abbrev pub handed_over : Label → Name → Label → Label
 handed_over given owner l = if same_label l given then record { number = l.number; owner = owner } else l
+
+-- the picture with these bytes at the addresses of a place
+abbrev pub with_bytes : PlaceValue → (ℕ → ℕ) → Picture → Picture
+with_bytes place byte p = record p { bytes = λ a. if has_address place a then byte a else p.bytes a }
+
+-- the picture with the fill byte all over a place
+abbrev pub filled : PlaceValue → Picture → Picture
+filled place p = with_bytes place (λ a. p.regions.fill) p
+
+-- the picture with the bytes of a list from the address of a place on
+abbrev pub written : PlaceValue → List ℕ → Picture → Picture
+written place bytes p = with_bytes place (λ a. unwrap_or (slice_get bytes (a - place.addr)) 0) p
 
 -- the picture with another task, or without the task
 abbrev pub with_task : Name → Option Task → Picture → Picture
@@ -129,7 +143,7 @@ ended task p =
 
 -- the picture where an area is held by a subpool
 abbrev pub with_area : PlaceValue → Label → Picture → Picture
-with_area place label p = record (with_subpool label p) { held = changed p.held (covers place) (Some (record { label = label; pooled = false })) }
+with_area place label p = filled place (record (with_subpool label p) { held = changed p.held (covers place) (Some (record { label = label; pooled = false })) })
 
 -- the picture where a name is set
 abbrev pub with_name : Name → PlaceValue → Picture → Picture
@@ -140,30 +154,31 @@ abbrev pub with_gift : Name → ℕ → Name → Picture → Picture
 with_gift task number mother p =
     with_subpool (record { number = number; owner = task }) (with_entry mother number None (relabelled (handed_over (record { number = number; owner = mother }) task) p))
 
--- what a line of change does
-abbrev pub replayed : Picture → Change → Picture
-replayed p (change.Step below above fill) = record blank { regions = record { below = below; above = above; fill = fill } }
-replayed p (change.First name residence) = with_task name (Some (record { mother = None; residence = residence })) p
-replayed p (change.Task name mother residence) = with_task name (Some (record { mother = Some mother; residence = residence })) p
-replayed p (change.Given task number mother) = with_gift task number mother p
-replayed p (change.Shared task held number owner) = with_entry task held (Some (record { number = number; owner = owner })) (with_subpool (record { number = number; owner = owner }) p)
-replayed p (change.Take place number owner name) = with_name name place (with_area place (record { number = number; owner = owner }) p)
-replayed p (change.Free place) = record p { held = changed p.held (covers place) None }
-replayed p (change.Empty number owner) = without (same_label (record { number = number; owner = owner })) p
-replayed p (change.Pool name number owner size) = with_new_pool name (record { number = number; owner = owner }) size p
-replayed p (change.Part pool place cells) = with_part pool (record { place = place; count = cells }) (p.pools pool) p
-replayed p (change.Cell pool place name) = with_name name place (with_pool pool (option_map (with_cell place.addr true) (p.pools pool)) p)
-replayed p (change.Back pool cell) = with_pool pool (option_map (with_cell cell false) (p.pools pool)) p
-replayed p (change.Delete pool) = with_pool pool None (record p { held = changed p.held (λ d. has (λ q. covered_by q d) (p.pools pool)) None })
-replayed p (change.Return task) = ended task p
-replayed p (change.Abend task) = ended task p
-replayed p (change.Fall task other) = ended task p
-replayed p c = p
+-- what a line of change does that carries these bytes
+abbrev pub replayed : (Change → List ℕ) → Picture → Change → Picture
+replayed carries p (change.Step below above fill) = record blank { regions = record { below = below; above = above; fill = fill } }
+replayed carries p (change.First name residence) = with_task name (Some (record { mother = None; residence = residence })) p
+replayed carries p (change.Task name mother residence) = with_task name (Some (record { mother = Some mother; residence = residence })) p
+replayed carries p (change.Given task number mother) = with_gift task number mother p
+replayed carries p (change.Shared task held number owner) = with_entry task held (Some (record { number = number; owner = owner })) (with_subpool (record { number = number; owner = owner }) p)
+replayed carries p (change.Take place number owner name) = with_name name place (with_area place (record { number = number; owner = owner }) p)
+replayed carries p (change.Free place) = record p { held = changed p.held (covers place) None }
+replayed carries p (change.Empty number owner) = without (same_label (record { number = number; owner = owner })) p
+replayed carries p (change.Pool name number owner size) = with_new_pool name (record { number = number; owner = owner }) size p
+replayed carries p (change.Part pool place cells) = with_part pool (record { place = place; count = cells }) (p.pools pool) p
+replayed carries p (change.Cell pool place name) = with_name name place (filled place (with_pool pool (option_map (with_cell place.addr true) (p.pools pool)) p))
+replayed carries p (change.Back pool cell) = with_pool pool (option_map (with_cell cell false) (p.pools pool)) p
+replayed carries p (change.Delete pool) = with_pool pool None (record p { held = changed p.held (λ d. has (λ q. covered_by q d) (p.pools pool)) None })
+replayed carries p (change.Return task) = ended task p
+replayed carries p (change.Abend task) = ended task p
+replayed carries p (change.Fall task other) = ended task p
+replayed carries p (change.Write place) = written place (carries (change.Write place)) p
+replayed carries p c = p
 
 -- what lines of change do, one after another
-abbrev pub replayed_all : Picture → List Change → Picture
-replayed_all p [] = p
-replayed_all p (c ∷ cs) = replayed_all (replayed p c) cs
+abbrev pub replayed_all : (Change → List ℕ) → Picture → List Change → Picture
+replayed_all carries p [] = p
+replayed_all carries p (c ∷ cs) = replayed_all carries (replayed carries p c) cs
 
 -- ---- that it shows the step
 
@@ -190,11 +205,16 @@ pub record IsDrawn (means : Label → ℕ → Type 0) (drawn : DrawnPool) (pool 
   pub parts : drawn.parts ≡ pool.parts
   pub taken : (c : ℕ) → drawn.taken c ≡ set.contains pool.taken c
 
+-- At each address with a byte it is this one.
+abbrev pub AreBytes : (ℕ → ℕ) → (ℕ → Option ℕ) → Type 0
+AreBytes drawn bytes = (a b : ℕ) → bytes a ≡ Some b → drawn a ≡ b
+
 -- The picture has just the regions, the held doublewords, the active tasks with what they have under numbers, the names that are set and
--- the pools of the step, where labels mean subpools so.
+-- the pools of the step, and each byte that may be read, where labels mean subpools so.
 pub record ShowsBy (means : Label → ℕ → Type 0) (p : Picture) (job : JobValue) : Type 0 where
   pub regions : p.regions ≡ job.state.regions
   pub held : (d : ℕ) → Both (IsMark means) (p.held d) (get job.state.held d)
+  pub bytes : AreBytes p.bytes (get job.state.bytes)
   pub tasks : (t : Name) → p.tasks t ≡ get job.state.owners.tasks t
   pub subpools : (t : Name) (n : ℕ) → Both means (p.subpools t n) (entry job.state.owners t n)
   pub names : (n : Name) → p.names n ≡ get job.names n
@@ -213,7 +233,7 @@ Draws number old before [] new after = (new ≡ old) × (after ≡ before)
 Draws number old before (l ∷ lines) new after =
     (read : Line) × (events : List Event) × (mid : Option JobValue)
     × IsReadAs old l read × ServesLine machine number old l events mid
-    × Draws (number + 1) mid (replayed_all before (changes_of read events mid)) lines new after
+    × Draws (number + 1) mid (replayed_all (carried mid) before (changes_of read events mid)) lines new after
 
 -- The lines of each run draw a picture, from a blank one on.
 abbrev pub EachIsDrawn : Type 0

@@ -2,9 +2,12 @@
 
 ghost use Rattle.std.specs.Prelude.{◌≡◌, ◌≤◌, ◌+◌, ◌++◌, OnOk, codes, decimal, length};
 ghost use Rattle.mvs_model.specs.Name.{trimmed};
-ghost use Rattle.page.specs.Lines.{change_line, change_lines, change_text, has_text, place_text, residence_text, subpool_text_of};
+ghost use Rattle.std.specs.List.{flat_map};
+ghost use Rattle.mvs_model.specs.Texts.{hex};
+ghost use Rattle.page.specs.Lines.{carried, change_line, change_lines, change_text, has_text, place_text, read_bytes, residence_text, subpool_text_of};
 
 use job_script::text::LineText;
+use mvs_job::{Job, Walk};
 use mvs_model::name::Name;
 use mvs_model::place::{Addr, Place};
 use mvs_model::subpool::SubNo;
@@ -93,7 +96,7 @@ pub enum Change {
     Read {
         place: Place,
     },
-    /// Bytes are written.
+    /// Bytes are written. The line carries them, as the step has them after it.
     Write {
         place: Place,
     },
@@ -105,11 +108,11 @@ pub enum Change {
     Return {
         task: Name,
     },
-    /// The same by an abend.
+    /// A task has ended, by an abend; its subpools go.
     Abend {
         task: Name,
     },
-    /// The same with another task, that abended.
+    /// A task has ended because another one, above it, abended; its subpools go.
     Fall {
         task: Name,
         other: Name,
@@ -331,7 +334,10 @@ fn push_change(text: &mut LineText, change: &Change)
         }
         Change::Delete { pool } => push_of(text, b"DROP ", pool),
         Change::Read { place } => push_at(text, b"READ ", *place),
-        Change::Write { place } => push_at(text, b"WRITE ", *place),
+        Change::Write { place } => {
+            push_at(text, b"WRITE ", *place);
+            text.push_str(b" ");
+        }
         Change::Look { place } => push_at(text, b"LOOK ", *place),
         Change::Return { task } => {
             push_of(text, b"END ", task);
@@ -348,22 +354,78 @@ fn push_change(text: &mut LineText, change: &Change)
     }
 }
 
+// Returns the bytes of a place, or none if they may not be read.
+fn read_bytes(job: &Job, place: Place) -> &[u8]
+    ensures { result.now ≡ read_bytes job.now place }
+{
+    match job.step().bytes(place) {
+        Some(bytes) => bytes,
+        None => &[],
+    }
+}
+
+// Returns the bytes that the line of a change carries.
+fn carried<'a>(walk: &'a Walk, change: &Change) -> &'a [u8]
+    ensures { result.now ≡ carried walk.now.step change.now }
+{
+    match (walk.job(), change) {
+        (Some(job), Change::Write { place }) => read_bytes(job, *place),
+        (None, Change::Write { .. }) => &[],
+        (
+            _,
+            Change::Step { .. }
+            | Change::First { .. }
+            | Change::Task { .. }
+            | Change::Given { .. }
+            | Change::Shared { .. }
+            | Change::Take { .. }
+            | Change::Free { .. }
+            | Change::Empty { .. }
+            | Change::Pool { .. }
+            | Change::Part { .. }
+            | Change::Cell { .. }
+            | Change::Back { .. }
+            | Change::Delete { .. }
+            | Change::Read { .. }
+            | Change::Look { .. }
+            | Change::Return { .. }
+            | Change::Abend { .. }
+            | Change::Fall { .. },
+        ) => &[],
+    }
+}
+
+// Appends bytes, each as two hexadecimal digits.
+fn push_bytes(lines: &mut Vec<u8>, bytes: &[u8]) -> Result<(), AllocError>
+    ensures { OnOk result (lines.new.items ≡ lines.old.items ++ flat_map (hex 2) bytes.now) }
+{
+    for byte in bytes {
+        let mut text = LineText::new();
+        text.push_byte(*byte);
+        lines.extend_from_slice(text.as_slice())?;
+    }
+    Ok(())
+}
+
 // Appends the line of a change.
-fn push_line(lines: &mut Vec<u8>, change: &Change) -> Result<(), AllocError>
-    ensures { OnOk result (lines.new.items ≡ lines.old.items ++ change_line change.now) }
+fn push_line(lines: &mut Vec<u8>, change: &Change, walk: &Walk) -> Result<(), AllocError>
+    ensures { OnOk result
+        (lines.new.items ≡ lines.old.items ++ change_line walk.now.step change.now) }
 {
     let mut text = LineText::new();
     push_change(&mut text, change);
-    text.push_str(b"\n");
-    lines.extend_from_slice(text.as_slice())
+    lines.extend_from_slice(text.as_slice())?;
+    push_bytes(lines, carried(walk, change))?;
+    lines.extend_from_slice(b"\n")
 }
 
-/// Appends the lines of changes.
-pub fn push_lines(lines: &mut Vec<u8>, changes: &[Change]) -> Result<(), AllocError>
-    ensures { OnOk result (lines.new.items ≡ lines.old.items ++ change_lines changes.now) }
+/// Appends the lines of changes of the last line that the walk served.
+pub fn push_lines(lines: &mut Vec<u8>, changes: &[Change], walk: &Walk) -> Result<(), AllocError>
+    ensures { OnOk result
+        (lines.new.items ≡ lines.old.items ++ change_lines walk.now.step changes.now) }
 {
     for change in changes {
-        push_line(lines, change)?;
+        push_line(lines, change, walk)?;
     }
     Ok(())
 }

@@ -2,7 +2,6 @@
 
 ghost use Rattle.std.specs.Prelude.{◌≡◌, ◌≤◌, ◌<◌, ◌+◌, ◌++◌, ◌∷◌, [], List, ℕ, Some, length};
 ghost use Rattle.mvs_model.specs.FullAnswers.{ended_with_in, full_answer};
-ghost use Rattle.mvs_model.specs.Name.{same_name};
 ghost use Rattle.mvs_model.specs.Numbers.{task_numbers};
 ghost use Rattle.mvs_model.specs.declared.name.Name.{Name as TaskName};
 ghost use Rattle.mvs_model.specs.Reports.{each_below};
@@ -13,6 +12,7 @@ ghost use Rattle.mvs_job.specs.LineEvents.{IsAvailable, events_of_line};
 ghost use Rattle.page.specs.Changes.{answer_changes, area_change, area_changes, begin_changes, cell_change, changes_of, done_changes, empty_change, fall_changes, free_changes, held_change, part_change, pool_change, request_changes, statement_changes, where_changes};
 
 use crate::change::Change;
+use job_script::is_same_name;
 use mvs_job::{Job, LineEvent, Walk};
 use mvs_model::answer::Answer;
 use mvs_model::card::Card;
@@ -29,7 +29,7 @@ const MOST_CHANGES: usize = 160;
 /// What a line did.
 pub type Changes = ShortList<Change, 0, MOST_CHANGES>;
 
-// No change.
+// Makes an empty list of changes.
 fn no_changes() -> Changes
     ensures { result ≡ [] }
 {
@@ -49,7 +49,7 @@ fn push_some(changes: &mut Changes, change: Option<Change>)
     }
 }
 
-// An area that was obtained.
+// Returns the change of an area that was obtained.
 fn area_change(job: &Job, task: &Name, number: u8, area: &Name) -> Option<Change>
     ensures { result ≡ area_change job.now task.now number area.now }
 {
@@ -120,7 +120,7 @@ fn empty_change(job: &Job, task: &Name, number: u8) -> Option<Change>
     Some(Change::Empty { number, owner })
 }
 
-// A pool that was built in that subpool.
+// Returns the change of a pool that was built in that subpool.
 fn pool_change(job: &Job, task: &Name, number: u8, pool: &Name, size: u32) -> Option<Change>
     ensures { result ≡ pool_change job.now task.now number pool.now size }
 {
@@ -135,7 +135,7 @@ fn pool_change(job: &Job, task: &Name, number: u8, pool: &Name, size: u32) -> Op
     })
 }
 
-// The last part of a pool.
+// Returns the last part of a pool.
 fn part_change(job: &Job, pool: &Name) -> Option<Change>
     ensures { result ≡ part_change job.now pool.now }
 {
@@ -149,7 +149,7 @@ fn part_change(job: &Job, pool: &Name) -> Option<Change>
     })
 }
 
-// A cell that was taken.
+// Returns the change of a cell that was taken.
 fn cell_change(job: &Job, pool: &Name, cell: &Name) -> Option<Change>
     ensures { result ≡ cell_change job.now pool.now cell.now }
 {
@@ -163,21 +163,14 @@ fn cell_change(job: &Job, pool: &Name, cell: &Name) -> Option<Change>
     })
 }
 
-// Whether two names are the same.
-fn is_same(one: &Name, other: &Name) -> bool
-    ensures { result ≡ same_name one.now other.now }
-{
-    *one == *other
-}
-
-// What a subtask has under a number.
+// Returns what a subtask has under a number.
 fn held_change(job: &Job, mother: &Name, subtask: &Name, held: SubNo) -> Option<Change>
     ensures { result ≡ held_change job.now mother.now subtask.now held }
 {
     let Some((number, owner)) = job.step().machine().entry_owner(subtask, held) else {
         return None;
     };
-    if is_same(&owner, subtask) {
+    if is_same_name(&owner, subtask) {
         return Some(Change::Given {
             task: *subtask,
             number,
@@ -204,7 +197,7 @@ fn push_held(changes: &mut Changes, job: &Job, mother: &Name, subtask: &Name)
     }
 }
 
-// What a request did that names places.
+// Returns what a request did that names places.
 fn request_changes(request: &Request) -> Changes
     ensures { result ≡ request_changes (Some request.now) }
 {
@@ -253,7 +246,7 @@ fn named_changes(written: &SourceRequest, job: &Job, request: &mut Request) -> C
     }
 }
 
-// What a task's request did that was granted.
+// Returns what a task's request did that was granted.
 fn done_changes(task: &Name, written: &SourceRequest, job: &Job, request: &mut Request) -> Changes
     ensures { result ≡ done_changes task.now written.now job.now }
 {
@@ -310,7 +303,7 @@ fn done_changes(task: &Name, written: &SourceRequest, job: &Job, request: &mut R
     changes
 }
 
-// A task that abended, and those that ended with it.
+// Returns the change of a task that abended, and those that ended with it.
 fn abend_changes(task: &Name, fallen: &[Name]) -> Changes
     requires { length fallen.now ≤ 31 }
     ensures { result ≡ Change.Abend task.now ∷ fall_changes task.now fallen.now }
@@ -321,7 +314,7 @@ fn abend_changes(task: &Name, fallen: &[Name]) -> Changes
     changes
 }
 
-// A task that returned.
+// Returns the change of a task that returned.
 fn return_changes(task: &Name) -> Changes
     ensures { result ≡ Change.Return task.now ∷ [] }
 {
@@ -330,7 +323,7 @@ fn return_changes(task: &Name) -> Changes
     changes
 }
 
-// What a request did that is answered so.
+// Returns what a request did that is answered so.
 fn answer_changes(
     task: &Name,
     written: &SourceRequest,
@@ -377,7 +370,7 @@ fn where_changes(name: &Name, answer: &Answer, job: &Job) -> Changes
     changes
 }
 
-// A step that begins.
+// Returns the change of a step that begins.
 fn begin_changes(card: &Card) -> Changes
     ensures { result ≡ begin_changes card.now }
 {
@@ -394,7 +387,7 @@ fn begin_changes(card: &Card) -> Changes
     changes
 }
 
-// What a statement did that is answered so.
+// Returns what a statement did that is answered so.
 fn statement_changes(
     task: &Name,
     statement: &Statement,
@@ -418,30 +411,44 @@ fn statement_changes(
     }
 }
 
-// The tasks that ended with the one that abended, where the last request abended.
+// Returns the tasks that ended with the one that abended, where the last request abended.
 fn fallen(walk: &Walk) -> &[Name]
     ensures names { result.now ≡ ended_with_in walk.now.reply }
     ensures most { length result.now ≤ 31 }
 {
     match walk.reply() {
         Reply::Abended(_, fallen) => fallen.names(),
-        _ => &[],
+        Reply::NotRun
+        | Reply::Rc0
+        | Reply::Rc4
+        | Reply::Obtained(_)
+        | Reply::Listed(_)
+        | Reply::Cell(_)
+        | Reply::NoCell
+        | Reply::Attached
+        | Reply::Ended
+        | Reply::Done => &[],
     }
 }
 
 /// Returns the changes of a line with this meaning and these events. Its request is written over `request`.
-pub fn changes_of(read: &Line, walk: &Walk, told: &LineEvent, request: &mut Request) -> Changes
-    requires { IsAvailable walk.now told.now }
+pub fn changes_of(
+    read: &Line,
+    walk: &Walk,
+    line_event: &LineEvent,
+    request: &mut Request,
+) -> Changes
+    requires { IsAvailable walk.now line_event.now }
     ensures { (number : ℕ)
-        → result ≡ changes_of read.now (events_of_line number walk.now told.now) walk.now.step }
+        → result ≡ changes_of read.now (events_of_line number walk.now line_event.now) walk.now.step }
 {
-    match told {
+    match line_event {
         LineEvent::StepBegan { card, .. } => begin_changes(card),
         LineEvent::Answered { task, answer } => match (read, walk.job()) {
             (Line::Statement(_, statement), Some(job)) => {
                 statement_changes(task, statement, answer, job, fallen(walk), request)
             }
-            _ => no_changes(),
+            (Line::Statement(..), None) | (Line::Nothing, _) => no_changes(),
         },
         LineEvent::Nothing | LineEvent::Faulted(_) => no_changes(),
     }

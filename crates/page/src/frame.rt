@@ -1,5 +1,5 @@
-//! The fixed part of a page: its style, and its script, which draws only from the lines of change. It is written to be read,
-//! depends on nothing outside, and is ASCII.
+//! The fixed part of a page: its style and its script, which draws only from the lines of change. tools/page_frame makes this file
+//! from the files in crates/page/frame; change those. It depends on nothing outside, and is ASCII.
 
 /// The text before the items. It is the beginning of an HTML file; the items follow it, and nothing follows them.
 pub const FRAME: &str = r##"<!doctype html>
@@ -7,12 +7,11 @@ pub const FRAME: &str = r##"<!doctype html>
 <head>
 <meta charset="utf-8">
 <meta name="viewport" content="width=device-width, initial-scale=1">
+<meta http-equiv="Content-Security-Policy" content="default-src 'none'; style-src 'sha256-PyeMq2910WhkY8QfF4XyQBMesqKyiaE6OePGVadVIbk='; script-src 'sha256-5iyWFPUjCNgNbLmFQEKeGZN63AoIMygHAZNPZ8n38FM='; base-uri 'none'; form-action 'none'">
 <title>mvsjob: a job, statement by statement</title>
 <!--
-The page of a job. mvsjob prints this fixed part, and behind it an item for each line of the script: a note, or an article with the
-line, what it printed, why, and its lines of change. Without a script they are the page. docs/PAGE.md says how to read both.
-The script (1) has helpers, (2) reads the items, (3) makes the state anew from the lines of change alone, (4) draws storage,
-(5) the tasks and names, (6) the time line, and compares what REPORT and WHERE printed, (7) and builds the page around it.
+The page of a job, printed by mvsjob --page. After this fixed part comes an item for each line of the script: a note, or an article with
+the line, its reply, the explanation, and the lines of change. Without JavaScript the items are the page. docs/PAGE.md describes both.
 -->
 <style>
 /* Colours and fonts */
@@ -25,7 +24,7 @@ The script (1) has helpers, (2) reads the items, (3) makes the state anew from t
  --paper:#14161a;--ink:#eceae3;--soft:#a3a7ae;--line:#4a4e56;--bar:#1a211c;--here:#3a3212;--bad:#ff8a7a;
  --hue0:#4aa8e8;--hue1:#f0b030;--hue2:#2cc295;--hue3:#e08fc0;--hue4:#8fd0fa;--hue5:#cdb24a;--hue6:#a0a0aa}}
 @media print{:root{color-scheme:light;--paper:#fff;--ink:#000;--soft:#444;--line:#999;--bar:#fff;--here:#fff;--bad:#000}}
-*{box-sizing:border-box}body{margin:0;padding:14px 20px 30px;background:var(--paper);color:var(--ink);font:16px/1.45 var(--text)}
+*{box-sizing:border-box}@media screen{html{overflow-y:scroll}}body{margin:0;padding:14px 20px 30px;background:var(--paper);color:var(--ink);font:16px/1.45 var(--text)}
 code,pre{font-family:var(--mono);font-variant-ligatures:none}pre{margin:.2em 0;white-space:pre-wrap;overflow-wrap:anywhere}
 h1{font:600 21px/1.25 var(--text);margin:0;text-wrap:balance}
 /* The items */
@@ -41,7 +40,7 @@ body>pre,#all>pre{font-weight:600;border-top:3px double var(--line);padding-top:
 /* The items with the script: hidden, or with figures */
 .on #all,.on pre.d,.wall #stage{display:none}.wall #all{display:block}.figures article{
  display:grid;grid-template-columns:minmax(200px,25%) minmax(0,1fr);column-gap:26px;max-width:1360px}
-.figures article>*{grid-column:1}.figures article>figure{grid-column:2;grid-row:1/20;margin:0}
+.figures article:not(:has(figure)){grid-template-columns:minmax(0,1fr)}.figures article>*{grid-column:1}.figures article>figure{grid-column:2;grid-row:1/20;margin:0}
 /* The head, and the time line */
 #head{display:flex;gap:10px 24px;align-items:baseline;flex-wrap:wrap;margin-bottom:6px}#head h1{flex:1 1 380px}
 #buttons{display:flex;gap:6px;align-items:center;font:14px/1 var(--mono)}
@@ -91,7 +90,7 @@ path.stale{stroke-dasharray:2 2}.bracket{fill:none;stroke:var(--ink);stroke-widt
 /* Marks of the time line */
 .lane{fill:none;stroke:var(--soft);stroke-width:1.3}.tick{stroke:var(--ink);stroke-width:1.5}.grant{fill:var(--ink)}
 .release{fill:var(--paper);stroke:var(--ink);stroke-width:1.4}.refused{fill:none;stroke:var(--bad);stroke-width:2.2}
-.abend{fill:var(--paper);stroke:var(--bad);stroke-width:2}#cursor{fill:var(--here);stroke:var(--ink)}#time .band{fill-opacity:.2}
+.abend{fill:var(--paper);stroke:var(--bad);stroke-width:2}.cursor{fill:var(--here);stroke:var(--ink)}#time .band{fill-opacity:.2}
 #time .level{fill-opacity:.75}
 /* Tasks, names, and keys */
 .tree,.tree ul{list-style:none;margin:0;padding:0}.tree ul{padding-left:12px;margin-left:7px;border-left:1.5px solid var(--line)}
@@ -111,7 +110,7 @@ path.stale{stroke-dasharray:2 2}.bracket{fill:none;stroke:var(--ink);stroke-widt
 .chip.kept b{text-decoration:line-through;border-style:dotted;background:var(--paper)}
 .chip small{font:12.5px/1.2 var(--text);color:var(--soft)}table{border-collapse:collapse;font:12px/1.45 var(--mono);margin-top:2px}
 td{padding:0 7px 0 0;white-space:nowrap;vertical-align:baseline}
-td:last-child{white-space:normal;font:italic 12.5px/1.3 var(--text);color:var(--soft)}
+.says td{white-space:normal;font:italic 12.5px/1.3 var(--text);color:var(--soft);padding-bottom:3px}
 .stale td:first-child{text-decoration:line-through}tr.new{background:var(--here)}.new td:first-child{font-weight:700}
 .key{font-size:13px;color:var(--soft);display:flex;flex-wrap:wrap;gap:3px 16px;margin:8px 0 0;align-items:center}
 .key span{display:inline-flex;gap:5px;align-items:center}#time .key{margin:2px 0 0;font-size:12px}
@@ -121,36 +120,85 @@ figure .task{font-size:13px}figure .chip,figure .chip small,figure .remark{font-
 @media (max-width:1080px){
  #stage{grid-template-columns:minmax(0,1fr) 215px}#list{grid-column:1/3;order:3;max-height:none;margin-top:18px}}
 @media (max-width:700px){
- body{padding:10px 12px}#stage{display:flex;flex-direction:column;align-items:stretch}#list{order:3;margin-top:16px}
+ body{padding:10px 12px}#buttons{flex-wrap:wrap}#stage{display:flex;flex-direction:column;align-items:stretch}#list{order:3;margin-top:16px}
  #now h2{font-size:15px}#told{min-height:0}#side{margin-top:14px}.wall article{display:block}}
 @page{size:landscape;margin:11mm}
 @media print{
  *{-webkit-print-color-adjust:exact;print-color-adjust:exact}body{padding:0;font-size:10pt}
- #buttons,#stage,.key{display:none !important}#time .key{display:flex !important}#cursor{display:none}
- .on #all{display:block !important}.on #all article{grid-template-columns:24% minmax(0,1fr);column-gap:14px}
+ #buttons,#stage,.key{display:none !important}#time .key{display:flex !important}.cursor,#search,dialog{display:none !important}#lanes{max-height:none !important}
+ .on #all{display:block !important}.on #all article:has(figure){grid-template-columns:24% minmax(0,1fr);column-gap:14px}
  #all>p{break-after:avoid}article{break-inside:avoid;padding:6px 0}article>pre{font-size:9pt}article h2{font-size:9.5pt}
  figure{grid-template-columns:minmax(0,1fr) 27%;column-gap:12px}svg{height:auto}}
+/* Subpools: a hue and a pattern */
+.h0{--hue:var(--hue0)}.h1{--hue:var(--hue1)}.h2{--hue:var(--hue2)}.h3{--hue:var(--hue3)}.h4{--hue:var(--hue4)}.h5{--hue:var(--hue5)}
+.h6{--hue:var(--hue6)}.defs{position:absolute}.pattern *{fill:none;stroke:none;pointer-events:none}.pattern text{display:none}
+.p1>.pattern :is(.level,.area,.part,.page,.swatch,.taken){fill:url(#stripes);fill-opacity:1}
+.p2>.pattern :is(.level,.area,.part,.page,.swatch,.taken){fill:url(#grains);fill-opacity:1}
+.chip.p1 b{border-style:double;border-width:4px}.chip.p2 b{border-style:ridge;border-width:4px}
+/* Search, notes, links */
+#search{display:flex;gap:8px;align-items:baseline;font:13px/1 var(--mono)}#find{font:inherit;width:13em;padding:6px 8px;color:var(--ink);
+ background:var(--paper);border:1px solid var(--soft);border-radius:4px}#list .hit{box-shadow:inset -4px 0 0 var(--hue0)}
+a{color:inherit;text-decoration-color:var(--soft);text-underline-offset:2px}a:hover{background:var(--here)}
+a.note{text-decoration-style:dotted}dialog{max-width:min(74ch,92vw);max-height:80vh;overflow:auto;color:var(--ink);background:var(--paper);
+ border:1px solid var(--soft);border-radius:6px;padding:14px 18px}dialog::backdrop{background:#0006}dialog h2{font:600 17px/1.3 var(--text);margin:0}
+dialog td,dialog th{padding:2px 12px 2px 0;text-align:left;white-space:normal}kbd{font:600 13px/1 var(--mono)}
+/* Names, the history of the close-up, and the timeline */
+.names{max-height:46vh;overflow:auto}th{text-align:left;font-weight:600;padding:0 7px 0 0;color:var(--soft);white-space:nowrap}
+th button{padding:0;border:0;font:inherit;color:inherit;background:none}.leak td:first-child{text-decoration:underline wavy var(--bad)}
+.history{margin:2px 0 10px}.history :is(td,th){padding-right:16px}
+@media (max-width:700px){.history :is(td,th){padding-right:6px}}
+.map{cursor:zoom-in}
+#lanes{max-height:152px;overflow-y:auto;overflow-x:hidden}#list .ending{cursor:pointer}#list .ending u{font-weight:400}
+/* Bytes */
+.bytes{margin:0 0 8px;font-size:12px}.bytes caption{text-align:left;color:var(--soft)}.bytes td{white-space:pre;padding-right:14px}
+.bytes td:first-child,.bytes :is(.fill,.none){color:var(--soft)}.bytes .wrote{font-weight:700;background:var(--here)}
+/* Two runs */
+.runs{display:grid;grid-template-columns:repeat(auto-fit,minmax(min(100%,368px),1fr));gap:0 24px}.runs h3{margin-top:8px}
+#list .differs{box-shadow:inset -4px 0 0 var(--bad)}#list .beside{color:var(--bad)}#list .other{color:var(--soft);background:var(--bar)}
+#compared{margin:2px 0}#all>#with{display:none}.wall #all>hr{border:0;border-top:6px double var(--line);margin:24px 0}
 </style>
 <script>
 "use strict";
+// The script of a page. It (1) has helpers, (2) reads the items, (3) computes the state from the lines of change alone, (4) draws
+// storage, (5) the tasks and names, (6) goes through all statements once and draws the timeline, (7) compares two runs,
+// (8) searches, (9) builds the page.
+const RULES={"1": "There is a region below 16 megabytes and one above. The first begins at X'00006000', the second at X'01000000'.", "2": "An address has 31 bits.", "3": "Lengths are rounded up to a multiple of 8, and every area begins on a doubleword.", "4": "A page that holds storage of one subpool is not used for any other.", "5": "A page is free for every subpool as soon as nothing in it is held.", "6": "An area can extend over several pages: pages of its own subpool, and free pages next to them.", "7": "A new area or cell is filled with the fill byte.", "8": "A program can use subpools 0 to 127, 131 and 132. Without SP= the number is 0.", "9": "Any number other than 0 to 127, 131 and 132 causes an abend, even in a conditional request.", "10": "A form that ends in C is conditional: if the area does not fit, it returns 4 and changes nothing.", "11": "R, and forms that end in U, abend if the area does not fit: 80A for R, 804 for E, V and L, 878 for RC, RU, VRC, VRU and STORAGE.", "12": "An obtain is refused for a shortage only if no place of the least length exists.", "13": "R, E, V and L obtain only below 16 megabytes.", "14": "LOC=BELOW and LOC=24 obtain below. LOC=ANY and LOC=31 obtain above if the area fits there, else below.", "15": "LOC=RES follows the residence of the program of the task.", "16": "BNDRY=PAGE begins on a page, BNDRY=DBLWD on a doubleword.", "17": "STARTBDY=k begins on a multiple of 2 to the power k.", "18": "CONTBDY=k: the area does not cross a multiple of 2 to the power k. A greater length is a shortage.", "19": "BNDRY excludes STARTBDY and CONTBDY.", "20": "A variable request obtains the greatest length that fits, between the smallest and the largest, and returns it.", "21": "With LOC=ANY, a variable request obtains the greatest length in either region, and above if both are equal.", "22": "A list is granted completely or not at all.", "23": "The members of a list are placed one after another. No better arrangement is searched for.", "24": "An area is placed at the lowest address that fits, or at the highest with --place high.", "25": "A refused request changes nothing.", "26": "A release names a subpool number, an address and a length. The subpool must hold all of it.", "27": "A release can cover part of an area, or several adjacent areas.", "28": "If part of the range is not held, a conditional release returns 4 and frees nothing. Others abend: A0A for R, A05 for E, V and L, A78 for the rest.", "29": "An address that is not on a doubleword abends, even in a conditional release: 90A, 905, 978.", "30": "An invalid subpool number abends: B0A, B05, B78.", "31": "Each family of forms has one code for each of these causes.", "32": "A list is released completely or not at all. Two members that overlap count as storage that is not held.", "33": "FREEMAIN R, RC, RU and STORAGE RELEASE without an area release all storage of the subpool, whichever task obtained it.", "34": "After a release of the whole subpool, the subpool itself remains, empty. Releasing a subpool that is empty or that the task does not have returns 0.", "35": "Subpool 0 cannot be released as a whole: U4006.", "36": "Any form can release storage of either region.", "37": "A release does not clear names. A name keeps its address.", "38": "A byte can be read and written if it is held outside cell pools, or is in an allocated cell. Otherwise 0C4.", "39": "Every task of the step can read and write the storage of every task.", "40": "If a single byte cannot be accessed, the whole request is refused, and no byte is changed.", "41": "MOVE stores what the source held before the request, even if the ranges overlap.", "42": "A task that obtains with a number that it does not have, or shares such a number with a subtask, gets a new subpool, which it owns. A refused request creates none.", "43": "GSPV and GSPL give subpools: the subtask becomes the owner, and the attaching task (MVS: the mother task) no longer has the numbers.", "44": "SHSPV and SHSPL share subpools: both tasks have them, and the owner does not change.", "45": "SZERO=YES, the default, shares subpool 0. SZERO=NO does not.", "46": "If the attaching task does not have a number that it shares, the subpool is created for it, empty.", "47": "If the attaching task does not have a number that it gives, nothing happens.", "48": "A subpool that the task only shares cannot be given: U4003.", "49": "Tasks that share a given subpool continue to share it, with the new owner.", "50": "After giving a number away, the next obtain of the attaching task with that number creates a new subpool.", "51": "At most 32 tasks are active (U4005), and their names differ (U4009). The name of an ended task can be used again.", "52": "When a task ends, each subpool that it owns is freed: its storage and its pools. No task has it any more.", "53": "When a task ends that only shares a subpool, nothing of the subpool is freed.", "54": "RETURN with active subtasks abends with A03.", "55": "An abend ends the task and all its active descendants. They are printed sorted by name.", "56": "An abend happens before the request changes anything.", "57": "BUILD obtains a first part of PCELLCT cells. Each further part has SCELLCT cells.", "58": "Cells begin on doublewords if CSIZE is a multiple of 8, and on words if it is a multiple of 4.", "59": "A part has 16 bytes, one bit for each cell in whole doublewords, and the cells.", "60": "GET allocates a free cell. If none is free, it returns no cell with COND, and obtains a further part with UNCOND, the default here.", "61": "A shortage in BUILD or GET is 878.", "62": "A further part comes from the subpool of the pool, in the region that was selected at BUILD, whichever task makes the request.", "63": "FREE needs the address of an allocated cell of the pool, or it abends with U4001. An unknown pool is U4002.", "64": "A cell that is allocated again is filled with the fill byte.", "65": "The bytes of a free cell, and the bytes before the cells, cannot be read.", "66": "FREEMAIN of an area never frees storage of a pool. Releasing the whole subpool, and the end of its owner, delete the pool.", "67": "DELETE frees all parts of the pool.", "68": "There are at most 64 pools (U4007), their names differ (U4008), and all tasks can use them.", "69": "131 and 132 are subpools of the job step task. Every task that names them obtains from and releases to the subpool of the job step task, also as a whole.", "70": "131 and 132 cannot be given or shared. They are freed only with the job step task.", "71": "The steps of a job run one after another. A step inherits nothing from the step before: no tasks, no storage, no pools.", "72": "The next step runs even if a task of the step before abended.", "73": "A statement of a task that is not active does nothing. The reply is NOT RUN.", "74": "A request that uses a name which no granted request of its step has set is not made. The reply is NO NAME."},CODES={"S804": "GETMAIN EU, VU, LU: no place for the area", "S80A": "GETMAIN R: no place for the area", "S878": "GETMAIN RU, VRU, STORAGE OBTAIN, CPOOL: no place for the area", "SB04": "GETMAIN EC, EU, VC, VU, LC, LU: invalid subpool number", "SB05": "FREEMAIN EC, EU, LC, LU: invalid subpool number", "SB0A": "GETMAIN R, FREEMAIN R: invalid subpool number", "SB78": "GETMAIN and FREEMAIN RC, RU, VRC, VRU, STORAGE, CPOOL: invalid subpool", "S905": "FREEMAIN EC, EU, LC, LU: the address is not on a doubleword", "S90A": "FREEMAIN R: the address is not on a doubleword", "S978": "FREEMAIN RC, RU, STORAGE RELEASE: the address is not on a doubleword", "SA05": "FREEMAIN EU, LU: the storage is not held", "SA0A": "FREEMAIN R: the storage is not held", "SA78": "FREEMAIN RU, STORAGE RELEASE: the storage is not held", "S0C4": "PUT, SHOW, MOVE: a byte cannot be accessed", "SA03": "RETURN: a subtask is active", "U4001": "CPOOL FREE: no allocated cell of the pool at the address", "U4002": "CPOOL GET, FREE, DELETE: no such pool", "U4003": "ATTACH: the task only shares the subpool that it gives", "U4005": "ATTACH: 32 tasks are active", "U4006": "FREEMAIN, STORAGE RELEASE: subpool 0 cannot be released as a whole", "U4007": "CPOOL BUILD: 64 pools exist", "U4008": "CPOOL BUILD: a pool of this name exists", "U4009": "ATTACH: a task of this name is active", "JS01": "The line has more than 255 bytes", "JS02": "The line has a byte that is not printable", "JS03": "The task, the operation or the form is not known", "JS04": "An operand is malformed, or the statement does not take it", "JS05": "An operand is missing", "JS06": "A number is out of range", "JS07": "A duplicate", "JS08": "Operands exclude each other", "JS09": "The first statement is not REGION", "RC 4": "A conditional request is refused", "NO CELL": "CPOOL GET,COND: no cell is free", "NOT RUN": "The task is not active", "NO NAME": "A name is not set"};
 // 1. Helpers: numbers, ranges, and shapes. A range begins at an address, and has a length.
 const PAGE=4096,BELOW=0x6000/PAGE,ABOVE=0x1000000/PAGE,ROOT=document.documentElement,byId=id=>document.getElementById(id);
 const hex=(number,digits=8)=>number.toString(16).toUpperCase().padStart(digits,"0"),{abs,ceil,floor,max,min}=Math;
 const rangeOf=(at,length)=>({at:parseInt(at,16),length:parseInt(length,16)}),offset=number=>"+"+hex(number,3);
+const broken=text=>plain(text).replace(/,/g,",<wbr>"); // A statement may be broken after its commas.
 const count=(number,word)=>`${number} ${word}${number===1?"":"s"}`,plain=text=>text.replace(/&/g,"&amp;").replace(/</g,"&lt;");
 const round=number=>+number.toFixed(2),end=range=>range.at+range.length,overlap=(one,other)=>one.at<end(other)&&end(one)>other.at;
-const pageOf=at=>floor(at/PAGE),rounded=length=>ceil(length/8)*8,hueOf=subpool=>`--hue:var(--hue${subpool.colour})`;
+const pageOf=at=>floor(at/PAGE),rounded=length=>ceil(length/8)*8;
+// A subpool has one of seven hues and one of three patterns, so that 21 subpools are told apart.
+const HUES=7,PATTERNS=3,patternOf=({colour})=>floor(colour/HUES)%PATTERNS;
+const hueOf=subpool=>`h${subpool.colour%HUES}${patternOf(subpool)?" p"+patternOf(subpool):""}`;
 const named=subpool=>`SP ${subpool.number} of ${subpool.owner}`;
 function pagesOf(range){
  const pages=[];for(let page=pageOf(range.at);page*PAGE<end(range);page++)pages.push(page);
  return pages}
+// Rules and codes as links: the sentence is the tooltip, and a click shows it. A line is a link to its statement.
+const quoted=text=>plain(text).replace(/"/g,"&quot;");
+const noteOf=key=>key.startsWith("rule")?RULES[key.slice(4)]:CODES[key];
+const noteLink=(key,text)=>noteOf(key)?`<a class="note" href="#${key}" title="${quoted(noteOf(key))}">${text}</a>`:text;
+const linked=text=>plain(text).replace(/\(rules? [0-9, ]+\)|\b(?:S[0-9A-F]{3}|U4[0-9]{3}|JS0[1-9]|RC 4|NO CELL|NOT RUN|NO NAME)\b/g,
+ found=>found[0]==="("?found.replace(/[0-9]+/g,number=>noteLink("rule"+number,number)):noteLink(found,found));
+const lineLink=({line},text="line "+line)=>`<a href="#l${line}">${text}</a>`;
+// The characters of the bytes from X'40' on, in code page 037; a point is none of ASCII.
+const CHARACTERS=" ...........<(+|&.........!$*);.-/.........,%_>?.........`:#@'=\".abcdefghi.......jklmnopqr.......~s"
+ +"tuvwxyz......^.........[]....{ABCDEFGHI......}JKLMNOPQR......\\.STUVWXYZ......0123456789......";
+const character=byte=>byte<0x40?".":CHARACTERS[byte-0x40];
 // Parts of a picture, as SVG. A kind is a class of the style.
 const words=(x,y,text,size,kind="")=>
  `<text x="${round(x)}" y="${round(y)}" font-size="${size}" class="${kind}">${plain(text)}</text>`;
 const rect=(x,y,width,height,kind)=>
  `<rect x="${round(x)}" y="${round(y)}" width="${round(width)}" height="${round(height)}" class="${kind}"/>`;
 const path=(line,kind,title="")=>`<path d="${line}" class="${kind}">${title&&`<title>${title}</title>`}</path>`;
-const hued=(subpool,inside)=>subpool?`<g style="${hueOf(subpool)}">${inside}</g>`:inside;
+function hued(subpool,inside){ // Shapes in the hue of a subpool, and once more with its pattern.
+ if(!subpool)return inside;
+ const patterned=patternOf(subpool)?`<g class="pattern" aria-hidden="true">${inside.replace(/<title>[^<]*<\/title>/g,"")}</g>`:"";
+ return`<g class="${hueOf(subpool)}">${inside}${patterned}</g>`}
 function picture(width,height,title,description,inside){
  return`<svg role="img" width="${width}" height="${height}" viewBox="-2 0 ${width+2} ${height}">
 <title>${title}</title><desc>${plain(description)}</desc>${inside}</svg>`;
@@ -158,21 +206,25 @@ function picture(width,height,title,description,inside){
 // A bar in the hue of a subpool, filled in proportion to what is held.
 const level=(subpool,x,y,width,height,share)=>
  hued(subpool,rect(x,y,width,height,"band")+rect(x,y+height*(1-share),width,height*share,"level"));
-// 2. The items: comments, statements (the script), and ends of steps.
-const items=[],script=[];
+// 2. The items: comments, statements (the script), and ends of steps. With --with the items of another run follow a line.
+const items=[],script=[],other={items:[],script:[]};
 function readItems(){ // Reads the items, and puts them into a section.
- const all=document.createElement("section");all.id="all";
+ const all=document.createElement("section");let run={items,script};all.id="all";
  for(const element of[...document.body.children]){
-  const line=element.id.slice(1),text=element.textContent;
-  if(element.tagName==="P"){
-   if(text.trim())items.push({line,comment:text.replace(/^\*\s?/,"")});
-  }else if(element.tagName==="PRE")items.push({ending:text.replace(/\n$/,"")});
-  else if(element.tagName!=="ARTICLE")continue;
-  else if(element.nextSibling)readStatement(line,element);
-  else items.push({ending:`The page ends in line ${line}: what follows was not written.`});
+  if(element.id==="with")run=other;
+  else readItem(run,element);
+  if(run===other)element.removeAttribute("id");
   all.appendChild(element)}
  document.body.appendChild(all)}
-function readStatement(line,article){ // Reads a statement; the end of a step before it is an item.
+function readItem(run,element){
+ const line=element.id.slice(1),text=element.textContent;
+ if(element.tagName==="P"){
+  if(text.trim())run.items.push({line,comment:text.replace(/^\*\s?/,"")});
+ }else if(element.tagName==="PRE")run.items.push({ending:text.replace(/\n$/,"")});
+ else if(element.tagName!=="ARTICLE")return;
+ else if(element.nextSibling)readStatement(run,line,element);
+ else run.items.push({ending:`The page ends in line ${line}: what follows was not written.`})}
+function readStatement({items,script},line,article){ // Reads a statement; the end of a step before it is an item.
  const code=article.querySelector("h2 code").textContent,[task,,operand]=code.split(/ +/);
  const printed=article.querySelector("pre:not(.d)").textContent.replace(/\n$/,"").replace(/^STEP ENDED.*\n/,ending=>{
   items.push({ending:ending.trim()});return""});
@@ -187,9 +239,9 @@ function readStatement(line,article){ // Reads a statement; the end of a step be
 /* 3. The state. areas: what is held, by address, parts of pools too. pages: what is held of each. names: the place that each was
  last set to. done: what the last statement did. since: the index of the statement that something is from. */
 class State{
- constructor(step,below=0,above=0){
-  Object.assign(this,{step,below:+below,above:+above,tasks:new Map(),ended:[],subpools:new Map(),colours:0,
-   areas:[],pools:new Map(),names:new Map(),pages:new Map()})}
+ constructor(step,below=0,above=0,fill="00"){
+  Object.assign(this,{step,below:+below,above:+above,fill:parseInt(fill,16),tasks:new Map(),ended:[],subpools:new Map(),colours:0,
+   areas:[],pools:new Map(),names:new Map(),pages:new Map(),bytes:new Map()})}
  begin(statement){
   this.statement=statement;this.index=statement.index;
   this.done={granted:[],freed:[],read:[],written:[],asked:[],cells:[],returned:[],entries:[],lost:[],attached:[],ended:[]}}
@@ -212,7 +264,19 @@ class State{
   for(const page of pagesOf(area)){
    const before=this.pages.get(page),part=min(end(area),(page+1)*PAGE)-max(area.at,page*PAGE),held=(before?before.held:0)+sign*part;
    this.pages.set(page,{held,subpool:held?area.subpool:null,since:this.index})}}
+ // The bytes that differ from the fill byte of a grant are noted by their addresses.
+ fillBytes({at,length}){
+  if(length<this.bytes.size)for(let k=at;k<at+length;k++)this.bytes.delete(k);
+  else for(const k of this.bytes.keys())if(k>=at&&k<at+length)this.bytes.delete(k)}
+ writeBytes(at,values){values.forEach((value,k)=>this.bytes.set(at+k,value))}
+ readBytes({at,length}){return Array.from({length},(_,k)=>this.bytes.has(at+k)?this.bytes.get(at+k):this.fill)}
+ mayRead(at){ // Whether a byte was obtained, outside of pools or as a cell.
+  const[area]=this.areasIn({at,length:1});
+  if(!area||!area.pool)return!!area;
+  const{pool,part}=area,cell=part.cells+floor((at-part.cells)/pool.size)*pool.size;
+  return at>=part.cells&&cell+pool.size<=part.cells+part.count*pool.size&&pool.taken.has(cell)}
  grant(area){
+  if(!area.pool)this.fillBytes(area);
   Object.assign(area,{first:area.at,since:this.index});this.areas.splice(this.areaBehind(area.at),0,area);
   this.account(area,1);this.done.granted.push(area)}
  noteFreed(area){this.done.freed.push(area);this.account(area,-1)}
@@ -237,7 +301,7 @@ class State{
   task.subpools.delete(+number);this.done.lost.push({name,number:+number,entry})}
  subpool(number,owner){ // A subpool by its owner and number; where it was not named before, a new one.
   const known=this.subpools.get(`${number} ${owner}`);if(known)return known;
-  const subpool={number:+number,owner,colour:this.colours++%7,held:0};this.subpools.set(`${number} ${owner}`,subpool);
+  const subpool={number:+number,owner,colour:this.colours++%(HUES*PATTERNS),held:0};this.subpools.set(`${number} ${owner}`,subpool);
   this.enter(owner,number,subpool,"owned");return subpool}
  give(number,from,to){
   const subpool=this.subpool(number,from);this.lose(from,number);this.subpools.delete(`${number} ${from}`);
@@ -254,8 +318,9 @@ class State{
   for(const task of this.tasks.values()){
    if(ending.includes(task.name))continue;
    for(const[number,entry]of task.subpools)if(entry.subpool===subpool)this.lose(task.name,number)}}
- missing(name){ // How many bytes of a name's place it has no more.
-  const place=this.names.get(name),{pool}=place;
+ missing(name){return this.missingOf(this.names.get(name))}
+ missingOf(place){ // How many bytes of a place, as it was obtained, have been freed.
+  const{pool}=place;
   if(pool){const cell=pool.gone?undefined:pool.taken.get(place.at);return cell&&cell.since===place.since?0:place.length}
   return this.areasIn(place).reduce((left,area)=>(area.grant===place.grant?left-area.length:left),place.length)}
  isStale(name){return this.missing(name)===this.names.get(name).length}}
@@ -272,29 +337,32 @@ const CHANGES={ // What each line of change does to the state.
  FREE(state,at,length){const range=rangeOf(at,length);state.free({...range,length:rounded(range.length)})},
  EMPTY:(state,number,owner)=>state.empty(state.subpool(number,owner)),
  POOL(state,name,number,owner,size){
-  state.pools.set(name,{name,subpool:state.subpool(number,owner),size:+size,parts:new Set(),taken:new Map()})},
+  state.pools.set(name,{name,subpool:state.subpool(number,owner),size:+size,parts:new Set(),taken:new Map(),since:state.index})},
  PART(state,name,at,length,cells){
   const pool=state.pools.get(name),range=rangeOf(at,length);if(pool.parts.has(range.at))return;pool.parts.add(range.at);
   const part={...range,count:+cells,cells:end(range)-rounded(cells*pool.size)};
   state.grant({...range,name:"pool "+name,grant:`${state.index}:${name}`,subpool:pool.subpool,pool,part})},
  CELL(state,name,at,length,cell){
   const pool=state.pools.get(name),range=rangeOf(at,length);pool.taken.set(range.at,{name:cell,since:state.index});
+  state.fillBytes(range);
   state.names.set(cell,{...range,pool,since:state.index});state.done.cells.push({at:range.at,length:8})},
  BACK(state,name,at){
   const pool=state.pools.get(name),cell={at:parseInt(at,16),length:pool.size};state.done.returned.push(cell);
   pool.taken.delete(cell.at)},
  DROP:(state,name)=>state.drop(state.pools.get(name)),
  READ:(state,at,length)=>state.done.read.push(rangeOf(at,length)),
- WRITE:(state,at,length)=>state.done.written.push(rangeOf(at,length)),
+ WRITE(state,at,length,digits){
+  const range=rangeOf(at,length);state.done.written.push(range);
+  state.writeBytes(range.at,digits.match(/../g).map(byte=>parseInt(byte,16)))},
  LOOK:(state,at,length)=>state.done.asked.push(rangeOf(at,length)),
  END:(state,name,...how)=>state.endTask(name,how.join(" "))};
 function apply(before,statement){ // The state behind the next statement.
- const{changes}=statement,state=statement.begins?new State(before.step+1,changes[0][2],changes[0][4]):before;
+ const{changes}=statement,state=statement.begins?new State(before.step+1,changes[0][2],changes[0][4],changes[0][6]):before;
  state.begin(statement);for(const[word,...operands]of changes)if(CHANGES[word])CHANGES[word](state,...operands);
  return state}
-const replay=statement=>script.slice(statement.step,statement.index+1).reduce(apply,new State(-1));
+const replay=(statement,list=script)=>list.slice(statement.step,statement.index+1).reduce(apply,new State(-1));
 // All places that a statement touched.
-const placesOf=({granted,freed,read,written,asked,returned,cells})=>granted.concat(freed,read,written,asked,returned,cells);
+const placesOf=({granted,freed,read,written,asked,returned,cells})=>granted.concat(freed,written,read,asked,returned,cells);
 function cellsIn({pool,part},range,index){ // The cells of a part that lie in a range.
  const cells=[];
  for(let k=max(0,floor((range.at-part.cells)/pool.size));k<part.count;k++){
@@ -311,12 +379,28 @@ function shareHeld(state,first,stop){ // How much is held of some pages, and the
   if(page.held>most)[most,subpool]=[page.held,page.subpool]}
  return{subpool,held,share:max(held?.02:0,Math.round(held/(stop-first)/PAGE*50)/50)}}
 function strip(state,first,stop,x,y,width,height){ // Pages side by side in a bar: each column is a page or more.
- const pages=stop-first,columns=min(pages,floor(width)),pageAt=column=>first+floor(column*pages/columns),runs=[];
+ const pages=stop-first,columns=min(pages,floor(pages>width?width/3:width)),least=pages>width?.35:.06;
+ const pageAt=column=>first+floor(column*pages/columns),runs=[];
  for(let column=0;column<columns;column++){
   const{subpool,share}=shareHeld(state,pageAt(column),pageAt(column+1)),last=runs.at(-1);
   if(last&&last.subpool===subpool&&last.share===share)last.stop++;else runs.push({column,stop:column+1,subpool,share})}
- const draw=run=>level(run.subpool,x+run.column*width/columns,y,max(.8,(run.stop-run.column)*width/columns),height,max(.06,run.share));
+ const draw=run=>level(run.subpool,x+run.column*width/columns,y,max(.8,(run.stop-run.column)*width/columns),height,max(least,run.share));
  return rect(x,y,width,height,"strip")+runs.filter(run=>run.subpool).map(draw).join("")}
+const zooms=new Map(); // By the first page of a region, the pages that its map shows.
+const zoomOf=(first,stop)=>zooms.get(first)||{first,stop};
+function zoomAround({dataset},middle){ // Shows an eighth of a map around a page, at least 64 pages; or all of it again.
+ const{first,stop,from,to}=Object.fromEntries(Object.entries(dataset).map(([key,page])=>[key,+page]));
+ if(to-from<stop-first)zooms.delete(first);
+ else{
+  const wide=max(64,ceil((to-from)/8)),start=max(first,min(stop-wide,floor(middle-wide/2)));
+  zooms.set(first,{first:start,stop:min(stop,start+wide)})}
+ draw()}
+function zoomAt(map,clientX){
+ const box=map.querySelector("rect").getBoundingClientRect(),{from,to}=map.dataset;
+ zoomAround(map,+from+(clientX-box.left)/box.width*(to-from))}
+function zoomHere(){ // Zooms the map around the close-up.
+ const{window}=current,page=window&&pageOf(window.at),isIn=({dataset})=>page>=+dataset.first&&page<+dataset.stop;
+ const map=window&&[...document.querySelectorAll("#now .map")].find(isIn);if(map)zoomAround(map,page+.5)}
 function changedPages({done}){ // The pages that a statement changed; those that a long range fills are only marked.
  const changed=new Set(),marked=new Set(),note=(at,partly)=>(partly?changed:marked).add(pageOf(at));
  for(const range of placesOf(done)){
@@ -354,11 +438,15 @@ function drawRegions(state,width,most,small,shown){ // The regions: some pages o
    ruled=true;
    const drawn=drawPage(plan,page++,y);svg+=drawn.svg;y=drawn.y}
   y+=6}
- function drawOverview(first,stop){ // A region in a bar, with marks over the pages touched.
-  const height=small?12:20,here=[...new Set([...changed,...marked])].filter(page=>page>=first&&page<stop);
-  const mark=page=>`M${round(margin+(page-first+.5)/(stop-first)*across)} ${y-1}l-3.5 -6h7z`;
-  svg+=strip(state,first,stop,margin,y,across,height)+path(here.map(mark).join(""),"ink");
-  if(margin)svg+=words(0,y+13,"overview",11,"soft");
+ function drawOverview(first,stop){ // A region as a map, which a click zooms, with marks over the pages touched.
+  const height=small?12:20,zoom=small?{first,stop}:zoomOf(first,stop),inside=page=>page>=zoom.first&&page<zoom.stop;
+  const here=[...new Set([...changed,...marked])].filter(inside),pages=zoom.stop-zoom.first;
+  const mark=page=>`M${round(margin+(page-zoom.first+.5)/pages*across)} ${y-1}l-3.5 -6h7z`;
+  const map=strip(state,zoom.first,zoom.stop,margin,y,across,height)+path(here.map(mark).join(""),"ink");
+  svg+=small?map:`<g class="map" data-first="${first}" data-stop="${stop}" data-from="${zoom.first}" data-to="${zoom.stop}">
+<title>${pages<stop-first?"a click shows all pages":"a click shows fewer pages"}</title>${map}</g>`;
+  if(margin)svg+=words(0,y+13,pages<stop-first?"zoom":"map",11,"soft");
+  if(pages<stop-first)svg+=words(margin,y+height+11,`${hex(zoom.first*PAGE)} to ${hex(zoom.stop*PAGE-1)}`,10,"soft");
   y+=height+16}
  function drawOffsets(){
   for(let column=0;column<columns;column+=8)svg+=words(margin+column*wide,y+4,offset(column*8),9,"soft");
@@ -368,16 +456,16 @@ function drawRegions(state,width,most,small,shown){ // The regions: some pages o
   if(state.subpoolOf(page))return area&&(!many||area.since===state.index)?area:"used";
   return state.done.freed.find(freed=>freed.at<=here.at&&end(freed)>=end(here))||(many?"used":"free")}
  function drawBar(first,limit){ // A bar for pages of one kind; answers the page behind them.
-  const kind=kindOf(first),box=look=>rect(margin,y,across,13,look);let stop=first+1,text="",look="halo";
+  const kind=kindOf(first),top=y+12,box=look=>rect(margin,top,across,9,look);let stop=first+1,text="",look="";
   while(stop<limit&&!chosen.has(stop)&&kindOf(stop)===kind)stop++;
   const pages=count(stop-first,"page"),{held}=shareHeld(state,first,stop);
   if(kind==="free"){svg+=box("strip");text=pages+" free";look="soft"}
-  else if(state.done.freed.includes(kind)){svg+=box("freed");text=`${kind.name}, ${pages} freed`;look="halo bold"}
+  else if(state.done.freed.includes(kind)){svg+=box("freed");text=`${kind.name}, ${pages} freed`;look="bold"}
   else{
-   svg+=strip(state,first,stop,margin,y,across,13)+(kind.since===state.index?box("edge"):"");
+   svg+=strip(state,first,stop,margin,top,across,9)+(kind.since===state.index?box("edge"):"");
    text=kind!=="used"?`${kind.name}, ${pages} full`:pages+(held?`: ${count(held,"byte")} held`:" free")}
-  svg+=words(margin+6,y+10,text,10,look);if(margin)svg+=words(0,y+10,hex(first*PAGE),size,"soft");
-  told.push(`${hex(first*PAGE)}: ${text}`);y+=small?18:22;return stop}}
+  svg+=words(margin,y+9,text,10,look);if(margin)svg+=words(0,y+10,hex(first*PAGE),size,"soft");
+  told.push(`${hex(first*PAGE)}: ${text}`);y+=small?24:27;return stop}}
 function drawPage(plan,number,y){ // A page, as rows of doublewords. A span has its first doubleword, and the one behind it.
  const{state,columns,rows,margin,ruler,wide,across,tall,size,small,shown,stale,told}=plan,{done,index}=state;
  const page={at:number*PAGE,length:PAGE},{subpool,held}=state.pages.get(number)||{subpool:null,held:0},top=y+(margin?0:14);
@@ -443,10 +531,13 @@ function drawPage(plan,number,y){ // A page, as rows of doublewords. A span has 
   for(const[row,column,text,inside]of spots(label)){
    if(!isClear(row,column,column+columnsOf(text),inside))continue;
    written[row].fill(true,column,column+columnsOf(text));
-   texts+=words(left(column)+3,above(row)+tall*.5+size*.35,text,size,kind);return}}
+   const x=left(column)+3,y=above(row)+tall*.5+size*.35;
+   if(label.kind==="gone")texts+=rect(x-1,y-size*.8,text.length*size*.602+2,size,"paper"); // legible on what is hatched
+   texts+=words(x,y,text,size,kind);return}}
  function isClear(row,first,stop,inside){ // Whether no text is in some columns, and no area but a label's own.
   if(row<0||row>=rows||first<0||stop>columns)return false;
-  for(let k=first;k<stop;k++)if(written[row][k]||(!inside&&occupied[row][k]))return false;
+  const near=tall<size+2?[row-1,row,row+1].filter(other=>written[other]):[row]; // where rows are low, labels reach into the next ones
+  for(let k=first;k<stop;k++)if(near.some(other=>written[other][k])||(!inside&&occupied[row][k]))return false;
   return true}
  function*spots(label){ // Places for a label, the best first; with its extra words, and without.
   const{kind,text,extra}=label,{row,from}=cornersOf(label),texts=[text+extra,text];
@@ -556,37 +647,127 @@ function chip(state,task,number,{subpool,how,since},lost,small){ // A subpool th
  const says=lost?lossOf(state,task,subpool):has+(subpool.held&&!small?", "+holds:"");
  const told=task.subpools.size<=4||isNew||lost?`<small>${says}</small>`:"";
  const title=`subpool ${number}: ${lost?"no more":`${has}, ${holds}`}`;
- return`<span class="${kinds}" style="${hueOf(subpool)}" title="${title}"><b>${number}</b>${told}</span>`}
+ return`<span class="${kinds} ${hueOf(subpool)}" title="${title}"><b>${number}</b>${told}</span>`}
 function lossOf(state,task,{owner,removed}){
  if(task.end===undefined)return removed===undefined?"given to "+owner:"no more";
  if(removed!==state.index)return owner+" keeps it";
  return owner===task.name?"freed":"went with "+owner}
-function nameTable(state){ // The names, new ones first; of many, stale ones last.
- const many=state.names.size>14,isNew=name=>state.names.get(name).since===state.index,stale=new Set();
- for(const name of state.names.keys())if(state.isStale(name))stale.add(name);
- const names=[...state.names.keys()].sort((one,other)=>isNew(other)-isNew(one)||(many?stale.has(one)-stale.has(other):0)
-  ||state.names.get(one).at-state.names.get(other).at);
- const rows=names.slice(0,20).map(name=>{
-  const{at,length}=state.names.get(name),kinds=(stale.has(name)?"stale":"")+(isNew(name)?" new":"");
-  return`<tr class="${kinds}"><td>${name}</td><td>${hex(at)}</td><td>${length}</td><td>${nameRemark(state,name)}</td></tr>`});
- const more=names.length>20?`<p class="remark">${names.length-20} more</p>`:"";
- return names.length?`<h3>names</h3><table>${rows.join("")}</table>${more}`:""}
-function nameRemark(state,name){ // What a name names now.
- const place=state.names.get(name),[area]=state.areasIn(place),missing=state.missing(name);
- if(missing<place.length)return missing?`${place.length-missing} of it left`:place.pool?"cell of "+place.pool.name:"";
- if(!area)return"stale: free";
+// The names, in an order that a click on a column changes.
+const COLUMNS=[["name","name",name=>name],["bytes","length",(name,place)=>place.length],["address","at",(name,place)=>place.at],
+ ["set in","since",(name,place)=>place.since]];
+const nameList={column:"since",down:true,all:false};
+function orderedNames(state){
+ const[,,value]=COLUMNS.find(([,key])=>key===nameList.column),sign=nameList.down?-1:1;
+ const compare=(one,other)=>one<other?-sign:one>other?sign:0;
+ return[...state.names].sort((one,other)=>compare(value(...one),value(...other))||(one[0]<other[0]?-1:1))}
+function nameTable(state){
+ const names=orderedNames(state),shown=nameList.all?names:names.slice(0,20),arrow=key=>key===nameList.column?(nameList.down?" \u25be":" \u25b4"):"";
+ if(!names.length)return"";
+ const head=COLUMNS.map(([title,key])=>`<th><button data-sort="${key}">${title}${arrow(key)}</button></th>`).join("");
+ const more=names.length>20?`<button data-sort="all">${nameList.all?"show 20":"show all "+names.length}</button>`:"";
+ return`<h3>names</h3><div class="names"><table><tr>${head}</tr>${shown.map(entry=>nameRow(state,...entry)).join("")}</table></div>${more}`}
+function nameRow(state,name,place){
+ const kinds=(state.isStale(name)?"stale":"")+(place.since===state.index?" new":"")+(isLeak(place)?" leak":"");
+ const remark=nameRemark(state,name,place),last=remark&&`<tr class="says"><td colspan="4">${remark}</td></tr>`;
+ return`<tr class="${kinds}"><td>${name}</td><td>${place.length}</td><td>${hex(place.at)}</td><td>${lineLink(script[place.since])}</td></tr>${last}`}
+function nameRemark(state,name,place){ // What a name names now.
+ const[area]=state.areasIn(place),missing=state.missing(name),freed=missing&&freedOf(state,place);
+ const ending=freed?`, freed in ${lineLink(freed)}`:"";
+ if(missing<place.length){
+  if(missing)return`${place.length-missing} of it left${ending}`;
+  return place.pool?"cell of "+place.pool.name:isLeak(place)?"never released":""}
+ if(!area)return"stale"+ending;
  const cell=area.pool&&area.pool.taken.get(place.at);
- return`stale: ${cell?cell.name:area.pool?"a free cell":area.name} lies there`}
+ return`stale${ending}; ${cell?cell.name:area.pool?"a free cell":area.name} is there now`}
+// What the bytes of the close-up are: who obtained them, which statement wrote them last, which one freed them.
+const lastOf=(list,{step,index},range,since)=>{ // The latest statement up to now that touched a range.
+ const places=list.get(step)||[];
+ for(let k=places.length-1;k>=0&&places[k].index>since;k--)if(places[k].index<=index&&overlap(places[k],range))return script[places[k].index];
+ return null};
+const freedOf=({step,index},place)=>{ // The first statement that freed some of a place since a name was set to it.
+ const found=(frees.get(step)||[]).find(free=>free.index>place.since&&free.index<=index&&overlap(free,place));
+ return found?script[found.index]:null};
+function bytesTable(state,shown,width){ // The bytes of the close-up, in hexadecimal and as characters of EBCDIC.
+ if(!shown)return"";
+ const across=width<520?8:width<760?16:32,rows=[];
+ for(let at=shown.at;at<end(shown);at+=across)rows.push(bytesRow(state,{at,length:min(across,end(shown)-at)}));
+ return rows.some(Boolean)?`<table class="bytes"><caption>bytes, and EBCDIC</caption>${rows.join("")}</table>`:""}
+function bytesRow(state,range){ // A row of bytes; nothing, if none of them was obtained. A written byte is a link to the statement that wrote it.
+ const readable=state.readBytes(range).map((value,k)=>state.mayRead(range.at+k)?value:null);
+ if(readable.every(value=>value===null))return"";
+ let digits="",text="",last="";
+ readable.forEach((value,k)=>{
+  const byte={at:range.at+k,length:1},writer=value!==null&&state.bytes.has(byte.at)?lastOf(writes,state,byte,-1):null;
+  const kind=value===null?"none":!writer?"fill":writer===state.statement?"wrote":"set",next=kind+(writer?writer.line:"");
+  const title=writer&&`title="written by ${plain(writer.task)} in line ${writer.line}"`;
+  const gap=k&&k%4===0?" ":"";
+  if(next===last)digits+=gap;
+  else{
+   digits+=`${last&&"</a>"}${gap}<a class="${kind}"${writer?` href="#l${writer.line}" ${title}`:""}>`;
+   text+=`${last&&"</span>"}<span class="${kind}">`}
+  last=next;digits+=value===null?"\u00b7\u00b7":hex(value,2);text+=value===null?" ":plain(character(value))});
+ return`<tr><td>${hex(range.at)}</td><td>${digits}</a></td><td>${text}</span></td></tr>`}
+function historyTable(state,shown){ // The names of the close-up, and its areas whose names are set to another area now.
+ if(!shown)return"";
+ const unnamed=state.areasIn(shown).concat(state.done.freed.filter(area=>overlap(area,shown)))
+  .filter(({pool,name,grant})=>!pool&&state.names.get(name).grant!==grant);
+ const rows=[...state.names].filter(([,place])=>overlap(place,shown)).concat(unnamed.map(area=>[area.name,area]))
+  .sort(([,one],[,other])=>one.at-other.at||other.since-one.since);
+ const text=rows.slice(0,8).map(entry=>historyRow(state,...entry)).join("");
+ return text&&`<table class="history"><tr><th>name</th><th>bytes</th><th>obtained</th><th>last written</th><th>freed</th></tr>${text}</table>`
+  +(rows.length>8?`<p class="remark">${count(rows.length-8,"more name")} here</p>`:"")}
+function historyRow(state,name,place){
+ const set=script[place.since],written=lastOf(writes,state,place,place.since-1),missing=state.missingOf(place);
+ const freed=missing?freedOf(state,place):null,now=state.names.get(name),until=now.since>place.since?`, until ${lineLink(script[now.since])}`:"";
+ const at=statement=>statement?`${plain(statement.task)}, ${lineLink(statement)}`:"\u2013";
+ return`<tr class="${missing===place.length?"stale":""}"><td>${name}${until}</td><td>${place.length}</td>
+<td>${at(set)}</td><td>${at(written)}</td><td>${at(freed)}</td></tr>`}
 // 6. All statements. A lane is a task; for each page, moments have its subpool and what is held.
 const lanes=[],moments=new Map(),touchedPages=new Map(),wrong=[];
+// By the step: the places that were written and freed, and the areas that were never released.
+const writes=new Map(),frees=new Map(),leaks=new Map();
 function survey(){ // Goes through all statements, and compares.
  const open=new Map();
  script.reduce((before,statement)=>{
+  if(endsStep(before,statement))noteLeaks(before);
   const state=apply(before,statement),{index}=statement,last=script[index-1];if(statement.begins)closeStep(open,index);
-  noteTasks(state,open);notePages(state);
+  noteTasks(state,open);notePages(state);notePlaces(state,statement);
   statement.window=windowOf(state.done,last&&last.step===statement.step?last.window:null);
-  statement.mark=markOf(statement,state.done);if(!agrees(state))wrong.push(statement.line);return state;
- },new State(-1))}
+  statement.mark=markOf(statement,state.done);if(!agrees(state))wrong.push(statement.line);
+  if(index===script.length-1)noteLeaks(state);
+  return state;
+ },new State(-1));
+ let step=-1;for(const item of items)if(item.code)step+=item.begins;else item.step=step}
+// Whether a statement ends a step: another one begins, or the job step task ends.
+const endsStep=({tasks},{begins,changes})=>begins||changes.some(([word,name])=>word==="END"&&tasks.has(name)&&tasks.get(name).mother===null);
+function noteLeaks({step,areas}){ // What is left of each area and then of each cell pool, the largest first; once for a step.
+ if(step<0||leaks.has(step))return;
+ const left=new Map();
+ for(const{grant,name,at,length,subpool,pool}of areas){
+  const key=pool||grant,since=pool?pool.since:parseInt(grant);
+  const leak=left.get(key)||{grant:pool?null:grant,name,at,length:0,subpool:named(subpool),pool,since};leak.length+=length;left.set(key,leak)}
+ leaks.set(step,[...left.values()].sort((one,other)=>!!one.pool-!!other.pool||other.length-one.length))}
+const isLeak=({grant,since})=>{
+ const statement=script[since],list=statement&&leaks.get(stepOf(statement));
+ return!!grant&&!!list&&list.some(leak=>leak.grant===grant)};
+const stepOf=statement=>script[statement.step].number;
+function notePlaces({step,index,done},statement){ // Notes what a statement wrote, freed and used.
+ if(statement.begins)statement.number=step;
+ const note=(list,ranges)=>{
+  if(!list.has(step))list.set(step,[]);
+  for(const{at,length}of ranges)list.get(step).push({at,length,index})};
+ note(writes,done.written);note(frees,done.freed.concat(done.returned));
+ const subpools=done.granted.concat(done.freed).map(area=>named(area.subpool));
+ statement.places=placesOf(done).map(({at,length})=>({at,length}));
+ const said=statement.changes.filter(([word])=>word==="HAS"||word==="EMPTY"||word==="POOL").map(change=>subpoolIn(change));
+ statement.subpools=new Set([...subpools,...said].filter(Boolean));
+ for(const[word,...operands]of statement.changes)if(word==="TAKE"||word==="CELL")allNames.add(operands.at(-1));
+ statement.text=[statement.code,statement.printed,statement.why].join("\n").toUpperCase()}
+function subpoolIn([word,first,second,third,...rest]){ // The subpool of a line of change.
+ if(word==="EMPTY")return`SP ${first} of ${second}`;
+ if(word==="POOL")return`SP ${second} of ${third}`;
+ return third==="GIVEN"?`SP ${second} of ${first}`:`SP ${rest[0]} of ${rest[1]}`}
+const allNames=new Set(),namesIn=({code})=>new Set((code.match(/[A-Z@#$][A-Z0-9@#$]*/g)||[]).slice(1).filter(word=>allNames.has(word)));
 function closeStep(open,index){
  for(const lane of open.values())lane.stop=index;
  open.clear();
@@ -609,8 +790,12 @@ function agrees(state){ // Whether the state is what REPORT and WHERE printed.
  return state.statement.printed.split("\n").map(line=>line.split(" ")).every(told=>{
   if(told[2]==="SP"&&told[3]!=="NONE")return agreesSubpool(state,told);
   if(told[2]==="MAP")return agreesMap(state,told);
+  if(told[2]==="DATA")return agreesData(state,told);
   const place=state.names.get(state.statement.operand);
   return told[2]!=="AT"||(place!==undefined&&hex(place.at)===told[3])})}
+function agreesData({done,bytes,fill},[,,,offset,...digits]){
+ const first=done.read[0].at+parseInt(offset.slice(1),16);
+ return digits.join("").match(/../g).every((byte,k)=>parseInt(byte,16)===(bytes.has(first+k)?bytes.get(first+k):fill))}
 function agreesSubpool(state,told){
  const task=state.tasks.get(told[1]),entry=task&&task.subpools.get(+told[3]);
  if(!entry||(entry.subpool.owner===task.name)!==(told[4]==="OWNED"))return false;
@@ -623,20 +808,23 @@ function agreesMap(state,told){
 function drawTimeLine(width){ // The time line: a column for each statement, a row for each task, a band for each page.
  const number=script.length,margin=width<600?64:104,step=min(96,(width-margin-14)/number),names=new Set(lanes.map(lane=>lane.name));
  for(const{result,task}of script)if(result!=="js")names.add(task);
- const tall=names.size<=6?17:max(1.5,102/names.size),bottom=14+names.size*tall,x=index=>round(margin+(index+.5)*step);
+ const tall=names.size<=6?17:15,bottom=14+names.size*tall,x=index=>round(margin+(index+.5)*step);
  const rows=new Map([...names].map((name,k)=>[name,14+(k+.5)*tall])),pages=[...moments.keys()].sort((one,other)=>one-other);
- const bands=min(pages.length,72),bandTall=bands&&min(15,78/bands),top=bottom+6,height=top+bands*bandTall+4;
- const refused=script.filter(({result})=>result!=="ok").length,svg=drawNumbers()+drawLanes()+drawMarks()+drawPages()+drawSteps();
- return{margin,step,svg:`<svg role="img" width="${width}" height="${height}" viewBox="0 0 ${width} ${height}">
-<title>All statements: tasks as lines, pages below them</title>
-<desc>${count(number,"statement")}, ${refused} refused. Each column is a statement.</desc>
-<rect id="cursor" width="${max(2,step)}" height="${height}"/>${svg}</svg>`};
+ const bands=min(pages.length,72),bandTall=bands&&min(15,78/bands),top=2,height=top+bands*bandTall+4;
+ const refused=script.filter(({result})=>result!=="ok").length;
+ const draw=(tall,title,description,inside)=>`<svg role="img" width="${width}" height="${tall}" viewBox="0 0 ${width} ${tall}">
+<title>${title}</title><desc>${description}</desc>
+<rect class="cursor" width="${max(2,step)}" height="${tall}"/>${inside}${drawSteps(tall)}</svg>`;
+ const lanesText=`${count(number,"statement")}, ${refused} refused. Each column is a statement.`;
+ const lanesDrawn=draw(bottom+4,"All statements: tasks as lines",lanesText,drawNumbers()+drawLanes()+drawMarks());
+ const bandsDrawn=bands?draw(height,"All statements: pages","Each band is a page in the colour of its subpool.",drawPages()):"";
+ return{margin,step,rows,svg:`<div id="lanes">${lanesDrawn}</div>${bandsDrawn}`};
  function drawNumbers(){ // The numbers of lines, as many as there is room for.
   const each=[1,2,5,10,20,50,100,200,500,1000].find(each=>each*step>=26)||2000,shown=script.filter(({index})=>index%each===0);
   const look=result=>"middle "+(result==="ok"||each>1?"soft":"bad bold");
   return shown.map(({index,line,result})=>words(x(index),9,line,10.5,look(result))).join("")}
  function drawLanes(){ // The lanes: each hangs below its mother's, and has a bar where it ends.
-  let along="",across="",svg="";if(tall>=9)for(const[name,y]of rows)svg+=words(margin-8,y+4,name,12,"right");
+  let along="",across="",svg="";for(const[name,y]of rows)svg+=words(margin-8,y+4,name,12,"right");
   for(const{name,first,stop,mother,ended}of lanes){
    const y=rows.get(name);along+=`M${x(first)} ${y}H${stop>=number?margin+number*step:x(stop)}`;
    if(rows.has(mother))across+=`M${x(first)} ${rows.get(mother)}V${y}`;
@@ -666,7 +854,7 @@ function drawTimeLine(width){ // The time line: a column for each statement, a r
    share+=moment.share/pages;
    if(moment.subpool&&moment.share>most)[most,subpool]=[moment.share,moment.subpool]}
   return subpool?level(subpool,x(from),y,(to-from-(to===number?.5:0))*step,height,max(.12,share)):""}
- function drawSteps(){
+ function drawSteps(height){
   const steps=script.filter(({index,begins})=>index&&begins);
   return steps.map(({index})=>path(`M${margin+index*step} 0V${height}`,"tick")).join("")}}
 // The marks, as paths around a place.
@@ -689,11 +877,84 @@ const TIME_KEY=[
  [26,level({colour:0},0,0,26,12,5/12),"a page: its subpool, and how much of it is held"]];
 function keyOf(entries){
  const svg=entries.map(([width,inside,told])=>{
-  const icon=`<svg width="${width}" height="12" viewBox="0 0 ${width} 12" aria-hidden="true" style="--hue:var(--hue0)">${inside}</svg>`;
+  const icon=`<svg width="${width}" height="12" viewBox="0 0 ${width} 12" aria-hidden="true" class="h0">${inside}</svg>`;
   return`<span>${width?icon:inside}${told}</span>`});
  return`<div class="key">${svg.join("")}</div>`}
-// 7. The page: its parts, keys and buttons.
-const HATCH=`<svg width="0" height="0" style="position:absolute" aria-hidden="true"><defs>
+// 7. Two runs. Statements with the same text are paired, in their order.
+const replyOf=({printed})=>printed.replace(/^[0-9]+ /gm,""),textOf=({code})=>code.replace(/ +/g," ");
+const differs=statement=>!!other.script.length&&(!statement.pair||replyOf(statement)!==replyOf(statement.pair));
+function pairRuns(){
+ const ones=script,others=other.script,same=(k,m)=>textOf(ones[k])===textOf(others[m]);
+ const pair=(k,m)=>{ones[k].pair=others[m];others[m].pair=ones[k]};
+ let first=0,end=0;const least=min(ones.length,others.length);
+ while(first<least&&same(first,first)){pair(first,first);first++}
+ while(end<least-first&&same(ones.length-1-end,others.length-1-end)){end++;pair(ones.length-end,others.length-end)}
+ const rows=ones.length-end-first,columns=others.length-end-first;
+ if(rows*columns<=4e6)pairLongest(first,rows,columns,same,pair)}
+function pairLongest(first,rows,columns,same,pair){ // The longest common subsequence of what is between the common ends.
+ const lengths=Array.from({length:rows+1},()=>new Uint16Array(columns+1));
+ for(let k=rows-1;k>=0;k--)for(let m=columns-1;m>=0;m--)
+  lengths[k][m]=same(first+k,first+m)?lengths[k+1][m+1]+1:max(lengths[k+1][m],lengths[k][m+1]);
+ for(let k=0,m=0;k<rows&&m<columns;){
+  if(same(first+k,first+m))pair(first+k++,first+m++);
+  else if(lengths[k+1][m]>=lengths[k][m+1])k++;else m++}}
+function listing(){ // The items, and before each the statements that only the other run has.
+ if(!other.script.length)return items;
+ const list=[];let next=0;
+ const others=stop=>{for(;next<stop;next++)if(!other.script[next].pair)list.push({line:"+",only:other.script[next]})};
+ for(const item of items){
+  if(item.pair){others(item.pair.index);next++}
+  list.push(item)}
+ others(other.script.length);return list}
+function drawRuns(state,width){ // The regions; beside them, or below, those of the other run.
+ if(!other.script.length)return drawRegions(state,width,8,false,current.window);
+ const{pair}=current,wide=width>=760?floor((width-24)/2):width;
+ const right=pair?`<pre class="printed ${pair.result}">${linked(pair.printed)}</pre><p class="why">${linked(pair.why)}</p>`
+  +drawRegions(replay(pair,other.script),wide,8,false,null):"<p>It does not have this statement.</p>";
+ return`<div class="runs"><section><h3>this run</h3>${drawRegions(state,wide,8,false,current.window)}</section>
+<section class="${differs(current)?"differs":""}"><h3>the other run${pair?", line "+pair.line:""}</h3>${right}</section></div>`}
+function comparison(){
+ if(!other.script.length)return"";
+ const some=script.filter(differs).length,only=other.script.filter(({pair})=>!pair).length;
+ return`<p id="compared">Two runs: ${count(some,"statement")} ${some===1?"differs":"differ"} (keys d and D)${
+  only?`, and the other run has ${only} more`:""}.</p>`}
+// 8. Search. The statements that have a text or used the byte at an address; and those with the task, subpools or names of the current one.
+let found=null;
+function search(text){
+ const wanted=text.trim().toUpperCase(),byte=/^[0-9A-F]{8}$/.test(wanted)?{at:parseInt(wanted,16),length:1}:null;
+ found=wanted?script.filter(({text,places})=>text.includes(wanted)||byte&&places.some(place=>overlap(place,byte))):null;
+ for(const{element}of script)element.classList.remove("hit");
+ if(found)for(const{element}of found)element.classList.add("hit");
+ byId("found").textContent=found?count(found.length,"statement"):""}
+const sharesAny=(one,other)=>[...one].some(item=>other.has(item));
+const ALIKE={ // What makes a statement like the current one.
+ found:statement=>found===null||found.includes(statement),
+ refused:({result})=>result!=="ok",differs,
+ task:({task,result})=>task===current.task&&result!=="js",
+ subpool:({subpools})=>sharesAny(subpools,current.subpools),
+ name:statement=>sharesAny(namesIn(statement),namesIn(current))};
+function seek(alike,by){ // Jumps to the next or the previous statement of a kind, around the end.
+ for(let k=1;k<=script.length;k++){
+  const next=script[(current.index+by*k+script.length*2)%script.length];
+  if(ALIKE[alike](next))return jump(next)}}
+function jump(statement){if(statement!==current)location.hash="#l"+statement.line} // The browser's Back returns from it.
+let depth=0; // How many jumps led here: `b` never leaves the page. Each entry of the browser's history has its own.
+function noteDepth(){
+ if(history.state)depth=history.state.depth;
+ else history.replaceState({depth:++depth},"")}
+function back(){if(depth>0)history.back()}
+function onSearchKey(event){
+ const box=event.target;
+ if(event.key==="Enter"){seek("found",event.shiftKey?-1:1);requestAnimationFrame(()=>box.focus())}
+ else if(event.key==="Escape"){box.value="";search("");box.blur()}
+ else return;
+ event.preventDefault()}
+// 9. The page: its parts, keys and buttons.
+const HATCH=`<svg width="0" height="0" class="defs" aria-hidden="true"><defs>
+<pattern id="stripes" width="6" height="6" patternUnits="userSpaceOnUse" patternTransform="rotate(-45)">
+<rect width="1.6" height="6" fill="var(--ink)" fill-opacity=".55"/></pattern>
+<pattern id="grains" width="6" height="6" patternUnits="userSpaceOnUse"><circle cx="1.5" cy="1.5" r="1.1" fill="var(--ink)" fill-opacity=".6"/>
+<circle cx="4.5" cy="4.5" r="1.1" fill="var(--ink)" fill-opacity=".6"/></pattern>
 <pattern id="hatch" width="5" height="5" patternUnits="userSpaceOnUse" patternTransform="rotate(45)">
 <rect width="5" height="5" fill="var(--paper)" fill-opacity=".55"/>
 <rect width="1.5" height="5" fill="var(--ink)" fill-opacity=".8"/></pattern>
@@ -706,27 +967,77 @@ function fileName(){ // The name of the page's file. One that is not UTF-8 stays
 function build(){
  const file=fileName().replace(/\.html?$/,""),title=items[0].comment||"";
  document.title=(file||"mvsjob")+(title&&": "+title);
- const button=(key,told,text)=>`<button data-key="${key}" title="${told}">${text}</button>`;
+ const button=(key,title,text)=>`<button data-key="${key}" title="${title} (${KEYS[key].shown})">${text}</button>`;
  document.body.insertAdjacentHTML("afterbegin",`<header id="head"><h1>${plain(title||file||"A job, statement by statement")}</h1>
-<div id="buttons" role="toolbar" aria-label="statements">${button("Home","first (Home)","\u21e4")}
-${button("ArrowLeft","before (\u2190)","\u2190")}<span id="position" aria-live="polite"></span>
-${button("ArrowRight","next (\u2192)","\u2192")}${button("r","next refused (r)","next \u2715")}
-<button data-key="a" title="all statements (a)" aria-pressed="false">all</button></div></header>${alarm()}<div id="time"></div>
-<div id="stage"><ol id="list" aria-label="the script"></ol><main id="now"></main><aside id="side"></aside></div>${HATCH}`);
- for(const item of items)byId("list").append(listed(item));
- for(const button of document.querySelectorAll("button"))button.onclick=KEYS[button.dataset.key];
+<div id="search"><input type="search" id="find" placeholder="find" aria-label="find a name, task, address or code">
+<span id="found" aria-live="polite"></span></div>
+<div id="buttons" role="toolbar" aria-label="statements">${button("Home","first","\u21e4")}
+${button("ArrowLeft","previous","\u2190")}<span id="position" aria-live="polite"></span>
+${button("ArrowRight","next","\u2192")}${button("End","last","\u21e5")}${button("r","next refused","next \u2715")}
+<button data-key="a" title="all statements (a)" aria-pressed="false">all</button>
+${button("?","keys","?")}</div></header>${alarm()}${comparison()}<div id="time"></div>
+<div id="stage"><ol id="list" aria-label="the script"></ol><main id="now"></main><aside id="side"></aside></div>
+<dialog id="note"></dialog>${HATCH}`);
+ for(const item of listing())byId("list").append(item.only?listedOther(item.only):listed(item));
+ for(const button of document.querySelectorAll("#buttons button"))button.onclick=KEYS[button.dataset.key].act;
+ byId("find").oninput=event=>search(event.target.value);byId("find").onkeydown=onSearchKey;
+ byId("now").onclick=event=>{const map=event.target.closest(".map");if(map)zoomAt(map,event.clientX)};
+ byId("side").onclick=event=>{const button=event.target.closest("[data-sort]");if(button)sortNames(button.dataset.sort)};
+ document.body.addEventListener("click",event=>{
+  const link=event.target.closest("a.note");if(!link)return;
+  event.preventDefault();showNote(decodeURIComponent(link.hash.slice(1)))});
  ROOT.classList.add("on")}
+function sortNames(key){
+ if(key==="all")nameList.all=!nameList.all;
+ else if(nameList.column===key)nameList.down=!nameList.down;
+ else Object.assign(nameList,{column:key,down:key!=="name"&&key!=="at"});
+ draw()}
+function showDialog(inside){ // Shows a note over the page, until Escape or a click.
+ const note=byId("note");note.innerHTML=`${inside}<button>close</button>`;note.querySelector("button").onclick=()=>note.close();
+ if(!note.open)note.showModal()}
+function showNote(key){
+ const number=key.startsWith("rule")?key.slice(4):"",title=number?"Rule "+number:key,option=number?"--rule "+number:`--code '${key}'`;
+ showDialog(`<h2>${title}</h2><p>${plain(noteOf(key))}</p><p><code>mvsjob ${option}</code> prints more.</p>`)}
+function showKeys(){
+ const rows=Object.values(KEYS).filter(({title})=>title).map(({shown,title})=>`<tr><td><kbd>${shown}</kbd></td><td>${title}</td></tr>`);
+ const enter="<tr><td><kbd>Enter</kbd></td><td>next statement found, with Shift the previous one</td></tr>";
+ showDialog(`<h2>Keys</h2><table>${rows.join("")}${enter}</table>`)}
 function alarm(){
  const lines=wrong.slice(0,9).join(", ");
  return lines&&`<p id="wrong" role="alert">The picture does not agree with what was printed in line ${lines}. Trust the printed lines.</p>`;
 }
 function listed(item){
  const element=document.createElement("li"),{line="",comment,ending}=item;
- const[kind,inside]=comment!==undefined?["comment",plain(comment)]:ending!==undefined?["ending",plain(ending)]
-  :[`statement ${item.result}${item.index%2?" barred":""}`,`${plain(item.code)}<u>${plain(brief(item))}</u>`];
+ const[kind,inside]=comment!==undefined?["comment",plain(comment)]:ending!==undefined?["ending",plain(ending)+leakSummary(item)]
+  :[`statement ${item.result}${item.index%2?" barred":""}${differs(item)?" differs":""}`,
+   `${broken(item.code)}<u>${plain(brief(item))}</u>${replyBeside(item)}`];
  element.className=kind;element.innerHTML=`<i>${line}</i><span>${inside}</span>`;
  if(item.code)element.onclick=()=>go(item.index);
+ if(ending!==undefined)element.onclick=()=>showEnd(item);
  item.element=element;return element}
+const replyBeside=item=>!differs(item)?"":`<u class="beside">other run: ${item.pair?plain(brief(item.pair)):"no such statement"}</u>`;
+function listedOther(statement){ // A statement that only the other run has.
+ const element=document.createElement("li");element.className="other";
+ element.innerHTML=`<i>+</i><span>${broken(statement.code)}<u>${plain(brief(statement))}</u></span>`;
+ return element}
+const bytesOf=list=>list.reduce((sum,{length})=>sum+length,0);
+function leakParts(step){ // What is left at the end of a step: areas and pools, each as a number and the sum of the bytes.
+ const list=leaks.get(step)||[],parts=[list.filter(({pool})=>!pool),list.filter(({pool})=>pool)];
+ const sum=(list,word)=>list.length?[count(list.length,word),count(bytesOf(list),"byte")]:null;
+ return{list,areas:sum(parts[0],"area"),pools:sum(parts[1],"pool")}}
+function leakSummary({step}){
+ const{areas,pools}=leakParts(step),says=[areas&&`${areas[0]} never released, ${areas[1]}`,pools&&`${pools[0]} never deleted, ${pools[1]}`];
+ return says.some(Boolean)?`<u>${says.filter(Boolean).join("<br>")}</u>`:""}
+function showEnd({ending,step}){ // The end of a step, with the areas that were never released and the pools that were never deleted.
+ const{list,areas,pools}=leakParts(step),says=[areas&&`Never released: ${areas.join(", ")}.`,pools&&`Never deleted: ${pools.join(", ")}.`];
+ const rows=list.map(({name,at,length,subpool,since})=>{
+  const set=script[since];
+  return`<tr><td>${name}</td><td>${length}</td><td>${hex(at)}</td><td>${subpool}</td><td>${plain(set.task)}, ${lineLink(set)}</td></tr>`});
+ const table=`<table><tr><th>area</th><th>bytes</th><th>address</th><th>subpool</th><th>obtained</th></tr>${rows.join("")}</table>`;
+ const text=says.filter(Boolean).join(" ")||"Each area was released, and each pool was deleted.";
+ showDialog(`<h2>End of the step</h2><pre>${plain(ending)}</pre><p>${text}</p>${list.length?table:""}`)}
+function showEndOfStep(){ // The end of the step that the current statement is in.
+ const end=items.find(({ending,step})=>ending!==undefined&&step===stepOf(current));if(end)showEnd(end)}
 function brief({printed,task}){ // What a statement printed, in short.
  const lines=printed.split("\n"),cut=lines.length>4||(printed.length>400&&lines.length>3);
  const shown=lines.slice(0,cut?2:lines.length).map(line=>line.replace(/^\d+ /,"").replace(task+" ",""));
@@ -734,26 +1045,33 @@ function brief({printed,task}){ // What a statement printed, in short.
 function draw(){
  const state=replay(current),width=byId("now").clientWidth||700,{line,comments,code,result,printed,why}=current;
  byId("now").innerHTML=`<div id="told">${comments.length?`<p class="comment">${comments.map(plain).join("<br>")}</p>`:""}
-<h2><i>${line}</i>${plain(code)}</h2><pre class="printed ${result}">${plain(printed)}</pre><p class="why">${plain(why)}</p></div>`
-  +drawCloseUp(state,width,current.window)+drawRegions(state,width,8,false,current.window)+keyOf(STORAGE_KEY);
+<h2><i>${line}</i>${broken(code)}</h2><pre class="printed ${result}">${linked(printed)}</pre><p class="why">${linked(why)}</p></div>`
+  +drawCloseUp(state,width,current.window)+bytesTable(state,current.window,width)+historyTable(state,current.window)
+  +drawRuns(state,width)+keyOf(STORAGE_KEY);
  byId("side").innerHTML=`<h3>tasks and their subpools</h3>${tree(state,false)}${nameTable(state)}`;
- byId("position").textContent=`${current.index+1} of ${script.length}${result==="ok"?"":" \u2715"}`;
- byId("cursor").setAttribute("x",round(timeLine.margin+current.index*timeLine.step));
+ byId("position").textContent=`line ${line} of ${script.at(-1).line}${result==="ok"?"":" \u2715"}`;
+ for(const cursor of document.querySelectorAll(".cursor"))cursor.setAttribute("x",round(timeLine.margin+current.index*timeLine.step));
+ showLane(current.task);
  const before=document.querySelector("#list [aria-current]");if(before)before.removeAttribute("aria-current");
  current.element.setAttribute("aria-current","step");scrollListing(byId("list"),current.element)}
 function scrollListing(list,{offsetTop,offsetHeight}){
  const inside=offsetTop>=list.scrollTop+40&&offsetTop+offsetHeight<=list.scrollTop+list.clientHeight-40;
  if(list.scrollHeight>list.clientHeight&&!inside)list.scrollTop=offsetTop-list.clientHeight/2}
+function showLane(task){ // Scrolls the timeline to the lane of a task.
+ const lane=byId("lanes"),y=timeLine.rows.get(task);if(y===undefined)return;
+ if(y-14<lane.scrollTop||y+14>lane.scrollTop+lane.clientHeight)lane.scrollTop=y-lane.clientHeight/2}
 function go(index){
  const next=script[max(0,min(script.length-1,index))];if(next===current)return;
- current=next;draw();history.replaceState(null,"","#l"+next.line)}
+ current=next;draw();history.replaceState({depth},"","#l"+next.line)}
 function goToAddress(){ // Shows the statement that the address names.
  const named=script.find(statement=>"#l"+statement.line===location.hash)||script[0];
  if(named!==current){current=named;draw()}}
 function resize(){
- const time=byId("time");timeLine=drawTimeLine(max(300,time.clientWidth));time.innerHTML=timeLine.svg+keyOf(TIME_KEY);
- const svg=time.querySelector("svg");
- svg.onclick=event=>go(floor((event.clientX-svg.getBoundingClientRect().left-timeLine.margin)/timeLine.step));
+ const time=byId("time");timeLine=drawTimeLine(max(300,time.clientWidth-18));time.innerHTML=timeLine.svg+keyOf(TIME_KEY);
+ const indexAt=({clientX})=>floor((clientX-time.querySelector("svg").getBoundingClientRect().left-timeLine.margin)/timeLine.step);
+ for(const svg of time.querySelectorAll(":scope>svg,#lanes>svg")){
+  svg.onclick=event=>go(indexAt(event));
+  svg.onmousemove=event=>{const statement=script[indexAt(event)];time.title=statement?`${statement.line} ${statement.code}`:""}}
  if(current)draw()}
 function drawAll(){ // Draws figures beside statements that changed something.
  if(allDrawn)return;
@@ -773,21 +1091,32 @@ function toggleAll(){ // Shows all statements, or one again.
  drawAll();
  const all=ROOT.classList.toggle("wall");document.querySelector("[data-key=a]").setAttribute("aria-pressed",all);
  if(all&&current.index)current.article.scrollIntoView()}
-function nextRefused(){
- const after=[...script.slice(current.index+1),...script.slice(0,current.index+1)];
- const refused=after.find(statement=>statement.result!=="ok");
- if(refused)go(refused.index)}
-const KEYS={ // What keys and buttons do.
- ArrowRight:()=>move(1),ArrowDown:()=>move(1),PageDown:()=>move(10),End:()=>move(script.length),r:nextRefused,
- ArrowLeft:()=>move(-1),ArrowUp:()=>move(-1),PageUp:()=>move(-10),Home:()=>go(0),a:toggleAll};
-const move=by=>go(current.index+by);
+const key=(shown,title,act)=>({shown,title,act}),move=by=>()=>go(current.index+by);
+const KEYS={ // What keys and buttons do. A key without a title does what the one before it does.
+ ArrowRight:key("\u2192","next statement",move(1)),ArrowDown:key("","",move(1)),
+ ArrowLeft:key("\u2190","previous statement",move(-1)),ArrowUp:key("","",move(-1)),
+ PageDown:key("Page Down","ten statements forward",move(10)),PageUp:key("Page Up","ten statements back",move(-10)),
+ Home:key("Home","first statement",()=>go(0)),End:key("End","last statement",()=>go(script.length)),
+ "/":key("/","find a name, task, address or code",()=>byId("find").focus()),
+ n:key("n","next statement found",()=>seek("found",1)),N:key("N","previous statement found",()=>seek("found",-1)),
+ r:key("r","next refused statement",()=>seek("refused",1)),R:key("R","previous refused statement",()=>seek("refused",-1)),
+ t:key("t","next statement of this task",()=>seek("task",1)),T:key("T","previous statement of this task",()=>seek("task",-1)),
+ s:key("s","next statement with this subpool",()=>seek("subpool",1)),S:key("S","previous statement with this subpool",()=>seek("subpool",-1)),
+ m:key("m","next statement with this name",()=>seek("name",1)),M:key("M","previous statement with this name",()=>seek("name",-1)),
+ d:key("d","next statement that differs (of two runs)",()=>seek("differs",1)),
+ D:key("D","previous statement that differs",()=>seek("differs",-1)),
+ b:key("b","back after a jump",back),
+ e:key("e","end of the step: what was never released",showEndOfStep),z:key("z","zoom the map to the close-up, or out again",zoomHere),
+ a:key("a","all statements",toggleAll),"?":key("?","these keys",showKeys)};
 function onKey(event){
- if(event.ctrlKey||event.metaKey||event.altKey||!KEYS[event.key]||(ROOT.classList.contains("wall")&&event.key!=="a"))return;
- KEYS[event.key]();event.preventDefault()}
+ if(event.ctrlKey||event.metaKey||event.altKey||!KEYS[event.key]||byId("note").open||event.target.tagName==="INPUT")return;
+ if(ROOT.classList.contains("wall")&&event.key!=="a")return;
+ KEYS[event.key].act();event.preventDefault()}
 function start(){
  readItems();if(!script.length)return;
- survey();build();resize();goToAddress();addEventListener("keydown",onKey);addEventListener("resize",resize);
- addEventListener("hashchange",goToAddress);addEventListener("beforeprint",drawAll)}
+ survey();pairRuns();build();resize();goToAddress();addEventListener("keydown",onKey);addEventListener("resize",resize);
+ history.replaceState(history.state||{depth:0},"");noteDepth();
+ addEventListener("hashchange",()=>{noteDepth();goToAddress()});addEventListener("beforeprint",drawAll)}
 addEventListener("DOMContentLoaded",()=>{ // Where this fails, the items stand as without a script.
  try{start()}catch(problem){
   ROOT.className="";for(const id of["head","time","stage"])if(byId(id))byId(id).remove();

@@ -30,12 +30,12 @@ pub struct Numbered<'a> {
 /// What a line printed, and its explanation.
 #[derive(Drop)]
 pub struct PrintedLine {
-    pub told: LineEvent,
+    pub line_event: LineEvent,
     pub printed: Vec<u8>,
-    pub behind: Vec<u8>,
+    pub explanation: Vec<u8>,
 }
 
-// How a statement went that is answered so.
+// Returns how a statement went that is answered so.
 fn answer_class(answer: &Answer) -> &'static [u8]
     ensures { (st : State) (fallen : List TaskName) (t : TaskName)
         → result.now ≡ answer_class (full_answer st fallen t answer.now) }
@@ -43,18 +43,27 @@ fn answer_class(answer: &Answer) -> &'static [u8]
     match answer {
         Answer::NotRun | Answer::NoName | Answer::Rc4 | Answer::NoCell => b"no",
         Answer::Abended(_) => b"ab",
-        _ => b"ok",
+        Answer::At(_)
+        | Answer::Rc0
+        | Answer::Granted(_)
+        | Answer::Cell
+        | Answer::Attached
+        | Answer::Ended
+        | Answer::Done
+        | Answer::Data(_)
+        | Answer::Subpools
+        | Answer::Map => b"ok",
     }
 }
 
 // Makes the item for the events of a line.
-fn class_of(walk: &Walk, told: &LineEvent) -> &'static [u8]
-    requires { IsAvailable walk.now told.now }
-    ensures { (number : ℕ) → result.now ≡ class_of (events_of_line number walk.now told.now) }
+fn class_of(walk: &Walk, line_event: &LineEvent) -> &'static [u8]
+    requires { IsAvailable walk.now line_event.now }
+    ensures { (number : ℕ) → result.now ≡ class_of (events_of_line number walk.now line_event.now) }
 {
-    match told {
+    match line_event {
         LineEvent::Answered { answer, .. } => answer_class(answer),
-        _ => b"ok",
+        LineEvent::Nothing | LineEvent::StepBegan { .. } | LineEvent::Faulted(_) => b"ok",
     }
 }
 
@@ -63,22 +72,26 @@ fn lines_of_change(
     alloc: Global,
     read: &Line,
     walk: &Walk,
-    told: &LineEvent,
+    line_event: &LineEvent,
     request: &mut Request,
 ) -> Result<Vec<u8>, AllocError>
-    requires { IsAvailable walk.now told.now }
+    requires { IsAvailable walk.now line_event.now }
     ensures { IfOk result
         (λ lines. (number : ℕ)
         → lines.items
-        ≡ change_lines
-        (changes_of read.now (events_of_line number walk.now told.now) walk.now.step)) }
+        ≡ change_lines walk.now.step
+        (changes_of read.now (events_of_line number walk.now line_event.now) walk.now.step)) }
 {
     let mut lines = Vec::new(alloc);
-    push_lines(&mut lines, changes_of(read, walk, told, request).as_slice())?;
+    push_lines(
+        &mut lines,
+        changes_of(read, walk, line_event, request).as_slice(),
+        walk,
+    )?;
     Ok(lines)
 }
 
-// The item of a line with a fault.
+// Returns the item of a line with a fault.
 fn faulted(alloc: Global, numbered: &Numbered<'_>, printed: &[u8]) -> Result<Vec<u8>, AllocError>
     ensures { IfOk result
         (λ item. item.items
@@ -92,24 +105,24 @@ fn faulted(alloc: Global, numbered: &Numbered<'_>, printed: &[u8]) -> Result<Vec
     Ok(item)
 }
 
-// The item of a statement that went so, with these lines of change.
+// Returns the item of a statement that went so, with these lines of change.
 fn stated(
     alloc: Global,
     numbered: &Numbered<'_>,
     how: &[u8],
     printed: &[u8],
-    behind: &[u8],
+    explanation: &[u8],
     changes: &[u8],
 ) -> Result<Vec<u8>, AllocError>
     ensures { IfOk result
         (λ item. item.items
         ≡ head_of numbered.now.number how.now numbered.now.line.now ++ (reply_of
-        printed.now ++ tail_of behind.now changes.now)) }
+        printed.now ++ tail_of explanation.now changes.now)) }
 {
     let mut item = Vec::new(alloc);
     push_head(&mut item, numbered.number, how, numbered.line)?;
     push_reply(&mut item, printed)?;
-    push_tail(&mut item, behind, changes)?;
+    push_tail(&mut item, explanation, changes)?;
     Ok(item)
 }
 
@@ -123,23 +136,30 @@ pub fn item_of(
     served: &PrintedLine,
     request: &mut Request,
 ) -> Result<Vec<u8>, AllocError>
-    requires full_answer { IsAvailable walk.now served.now.told }
-    requires answered { served.now.told ≢ LineEvent.Nothing }
+    requires full_answer { IsAvailable walk.now served.now.line_event }
+    requires answered { served.now.line_event ≢ LineEvent.Nothing }
     requires printed { served.now.printed.items
-        ≡ printing (events_of_line numbered.now.number walk.now served.now.told) }
+        ≡ printing (events_of_line numbered.now.number walk.now served.now.line_event) }
     ensures { IfOk result
         (λ item. item.items
         ≡ item_of_event numbered.now.number numbered.now.line.now read.now walk.now
-        served.now.told served.now.behind.items) }
+        served.now.line_event served.now.explanation.items) }
 {
-    let how = class_of(walk, &served.told);
-    let changes = lines_of_change(alloc, read, walk, &served.told, request)?;
+    let how = class_of(walk, &served.line_event);
+    let changes = lines_of_change(alloc, read, walk, &served.line_event, request)?;
     let lines = changes.as_slice();
     let printed = served.printed.as_slice();
-    let behind = served.behind.as_slice();
-    match &served.told {
+    let explanation = served.explanation.as_slice();
+    match &served.line_event {
         LineEvent::Nothing => unreachable!(),
         LineEvent::Faulted(_) => faulted(alloc, numbered, printed),
-        _ => stated(alloc, numbered, how, printed, behind, lines),
+        LineEvent::StepBegan { .. } | LineEvent::Answered { .. } => stated(
+            alloc,
+            numbered,
+            how,
+            printed,
+            explanation,
+            lines,
+        ),
     }
 }

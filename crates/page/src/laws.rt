@@ -12,7 +12,7 @@ pub fn escaped_is_plain()
 {}
 
 /// After each line of a run, the lines of change so far, applied to a blank picture, show the step: its regions, its held
-/// doublewords, the tasks with what they have, the names and the pools.
+/// doublewords, the bytes that may be read, the tasks with what they have, the names and the pools.
 pub fn changes_draw_the_step()
     ensures drawn { EachIsDrawn }
     ensures shown { ChangesDraw }

@@ -11,3 +11,6 @@ mod pages;
 
 pub use frame::FRAME;
 pub use pages::write_page;
+
+/// The line after which the items of a second run follow, which the page compares with the first.
+pub const SECOND_RUN: &str = "<hr id=\"with\">\n";

@@ -5,7 +5,7 @@ ghost use Rattle.job_script.specs.Writing.{Prints};
 ghost use Rattle.page.specs.Markup.{article_tag, escaped, escaped_byte, head_of, most_of_line, note_of, note_tag, reply_of, shown_line, tail_of, words_of};
 
 use job_script::text::LineText;
-use job_script::write_all;
+use job_script::{MOST_LINE_BYTES, write_all};
 use mvs_job::line_end;
 use mvs_model::watched::{Failed, Watched};
 use std::alloc::AllocError;
@@ -19,7 +19,7 @@ pub fn push_tag(item: &mut Vec<u8>, tag: &[u8]) -> Result<(), AllocError>
     item.extend_from_slice(tag)
 }
 
-// How a byte is written between tags.
+// Returns how a byte is written between tags.
 fn escaped_byte(byte: &u8) -> &[u8]
     ensures { result.now ≡ escaped_byte byte.now }
 {
@@ -52,11 +52,15 @@ fn push_number(item: &mut Vec<u8>, number: u32) -> Result<(), AllocError>
     push_escaped(item, text.as_slice())
 }
 
-// The front of a line that is shown.
+// Returns the front of a line that is shown.
 fn front(line: &[u8]) -> &[u8]
     ensures { result.now ≡ take most_of_line line.now }
 {
-    if line.len() > 255 { &line[..255] } else { line }
+    if line.len() > MOST_LINE_BYTES {
+        &line[..MOST_LINE_BYTES]
+    } else {
+        line
+    }
 }
 
 // Returns a line of explanations without its asterisk and the blank after it.
@@ -79,16 +83,16 @@ fn lines_after(text: &[u8], end: usize) -> &[u8]
 }
 
 // Appends the explanations of an answer, line by line.
-fn push_words(item: &mut Vec<u8>, behind: &[u8]) -> Result<(), AllocError>
-    ensures { OnOk result (item.new.items ≡ item.old.items ++ words_of behind.now) }
+fn push_words(item: &mut Vec<u8>, explanation: &[u8]) -> Result<(), AllocError>
+    ensures { OnOk result (item.new.items ≡ item.old.items ++ words_of explanation.now) }
 {
-    if behind.is_empty() {
+    if explanation.is_empty() {
         return Ok(());
     }
-    let end = line_end(behind);
-    push_escaped(item, without_star(&behind[..end]))?;
+    let end = line_end(explanation);
+    push_escaped(item, without_star(&explanation[..end]))?;
     item.extend_from_slice(b"\n")?;
-    push_words(item, lines_after(behind, end))
+    push_words(item, lines_after(explanation, end))
 }
 
 // Appends the tag that begins the item of a statement.
@@ -127,11 +131,11 @@ pub fn push_reply(item: &mut Vec<u8>, printed: &[u8]) -> Result<(), AllocError>
 }
 
 /// Appends the explanations and the lines of change to an item.
-pub fn push_tail(item: &mut Vec<u8>, behind: &[u8], changes: &[u8]) -> Result<(), AllocError>
-    ensures { OnOk result (item.new.items ≡ item.old.items ++ tail_of behind.now changes.now) }
+pub fn push_tail(item: &mut Vec<u8>, explanation: &[u8], changes: &[u8]) -> Result<(), AllocError>
+    ensures { OnOk result (item.new.items ≡ item.old.items ++ tail_of explanation.now changes.now) }
 {
     push_tag(item, b"<p>")?;
-    push_words(item, behind)?;
+    push_words(item, explanation)?;
     push_tag(item, b"</p>\n<pre class=\"d\">")?;
     push_escaped(item, changes)?;
     push_tag(item, b"</pre>\n</article>\n")?;

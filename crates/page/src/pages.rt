@@ -32,14 +32,14 @@ struct PageMaker {
     request: Request,
 }
 
-// What was written to memory, where no growth was refused.
+// Returns what was written to memory, where no growth was refused.
 fn written(text: Watched<Vec<u8>>) -> Vec<u8>
     ensures { result ≡ text.inner }
 {
     text.into_inner()
 }
 
-// Whether no step has begun.
+// Returns whether no step has begun.
 fn is_first(walk: &Walk) -> bool
     ensures { result ≡ is_first walk.now.step }
 {
@@ -65,12 +65,12 @@ fn is_blank_or_comment(walk: &Walk, line: &[u8], read: &mut Line) -> bool
 }
 
 // Returns whether a job continues after a line with these events.
-fn continues(told: &LineEvent) -> bool
-    ensures { result ≡ continues told.now }
+fn continues(line_event: &LineEvent) -> bool
+    ensures { result ≡ continues line_event.now }
 {
-    match told {
+    match line_event {
         LineEvent::Faulted(_) => false,
-        _ => true,
+        LineEvent::Nothing | LineEvent::StepBegan { .. } | LineEvent::Answered { .. } => true,
     }
 }
 
@@ -93,27 +93,30 @@ impl PageMaker {
         line: &[u8],
     ) -> Result<PrintedLine, AllocError>
         requires { walk.old.number + 1 < 2 ^ 32 }
-        ensures told { IfOk result (λ served. ServesAs walk.old line.now served.told walk.new) }
+        ensures executed { IfOk result (λ served. ServesAs walk.old line.now served.line_event walk.new) }
         ensures printed { IfOk result
             (λ served. served.printed.items
-            ≡ printing (events_of_line walk.old.number walk.new served.told)) }
-        ensures behind { IfOk result
-            (λ served. AppendsExplanation (Some []) (Some served.behind.items) walk.old
-            self.old.explainer line.now walk.new served.told) }
+            ≡ printing (events_of_line walk.old.number walk.new served.line_event)) }
+        ensures explained { IfOk result
+            (λ served. AppendsExplanation (Some []) (Some served.explanation.items) walk.old
+            self.old.explainer line.now walk.new served.line_event) }
         ensures lines { IfOk result
-            (λ served. RecordsOrigins walk.old self.old.explainer line.now walk.new served.told
+            (λ served. RecordsOrigins walk.old self.old.explainer line.now walk.new served.line_event
             self.new.explainer) }
-        ensures full_answer { IfOk result (λ served. IsAvailable walk.new served.told) }
+        ensures full_answer { IfOk result (λ served. IsAvailable walk.new served.line_event) }
         ensures read { self.new.read ≡ self.old.read }
         ensures number { walk.new.number ≡ walk.old.number + 1 }
     {
         let mut printed = Watched::new(Vec::new(alloc));
-        let mut behind = Watched::new(Vec::new(alloc));
-        match self.explainer.serve(walk, line, &mut printed, &mut behind) {
-            Ok(told) => Ok(PrintedLine {
-                told,
+        let mut explanation = Watched::new(Vec::new(alloc));
+        match self
+            .explainer
+            .serve(walk, line, &mut printed, &mut explanation)
+        {
+            Ok(line_event) => Ok(PrintedLine {
+                line_event,
                 printed: written(printed),
-                behind: written(behind),
+                explanation: written(explanation),
             }),
             Err(_) => Err(AllocError),
         }
@@ -182,7 +185,7 @@ impl PageMaker {
             return Err(Stop::Memory);
         };
         match write_all(writer, &item) {
-            Ok(()) => Ok(continues(&served.told)),
+            Ok(()) => Ok(continues(&served.line_event)),
             Err(_) => Err(Stop::Write),
         }
     }
@@ -210,7 +213,7 @@ impl PageMaker {
     }
 }
 
-// The item at the end of a job that has no more lines.
+// Returns the item at the end of a job that has no more lines.
 fn closing_of(alloc: Global, number: u32, end: Option<bool>) -> Result<Vec<u8>, AllocError>
     ensures { IfOk result (λ item. item.items ≡ closing_of (closing number end)) }
 {

@@ -19,7 +19,7 @@ const SEVERAL: usize = 8;
 // How many free pages are looked at at once.
 const SEVERAL_FREE: usize = 16;
 
-// The subpool of a number.
+// Returns the subpool of a number.
 pub(crate) fn subpool_of(code: u16) -> Option<SubpoolId>
     requires { (code < most_subpools) ⊎ (code ≡ free_code) }
     ensures { result ≡ decoded code }
@@ -31,7 +31,7 @@ pub(crate) fn subpool_of(code: u16) -> Option<SubpoolId>
     }
 }
 
-// Whether a page is free or the subpool's. Both are compared at once, so that several pages can be.
+// Returns whether a page is free or the subpool's. Both are compared at once, so that several pages can be.
 fn is_usable(code: u16, own: u16) -> bool
     requires code { (code < most_subpools) ⊎ (code ≡ free_code) }
     requires own { own < most_subpools }
@@ -40,7 +40,7 @@ fn is_usable(code: u16, own: u16) -> bool
     (code == FREE) | (code == own)
 }
 
-// Whether one of some pages is free or the subpool's.
+// Returns whether one of some pages is free or the subpool's.
 fn is_one_usable(codes: &[u16], own: u16) -> bool
     requires codes { AreCodes codes.now }
     requires own { own < most_subpools }
@@ -74,7 +74,7 @@ fn pass_several(codes: &[u16], own: u16, from: usize) -> usize
     page
 }
 
-// The first page from one on that is free or the subpool's, and its subpool. Several pages are compared at once; those among
+// Returns the first page from one on that is free or the subpool's, and its subpool. Several pages are compared at once; those among
 // which it is are then compared one by one, which is the same look at them.
 pub(crate) fn first_usable(codes: &[u16], own: u16, from: usize) -> (usize, Option<SubpoolId>)
     requires codes { AreCodes codes.now }
@@ -94,7 +94,7 @@ pub(crate) fn first_usable(codes: &[u16], own: u16, from: usize) -> (usize, Opti
     (page, None)
 }
 
-// Whether one of some pages is assigned.
+// Returns whether one of some pages is assigned.
 fn is_one_assigned(codes: &[u16]) -> bool
     requires { AreCodes codes.now }
     ensures { result ≡ false → (p : ℕ) → p < length codes.now
@@ -126,7 +126,7 @@ fn pass_free(codes: &[u16], from: usize) -> usize
     page
 }
 
-// The first page from one on that a subpool has, and the subpool; looked for in the same way.
+// Returns the first page from one on that a subpool has, and the subpool; looked for in the same way.
 pub(crate) fn first_assigned(codes: &[u16], from: usize) -> (usize, Option<SubpoolId>)
     requires codes { AreCodes codes.now }
     requires from { from ≤ length codes.now }
@@ -144,7 +144,7 @@ pub(crate) fn first_assigned(codes: &[u16], from: usize) -> (usize, Option<Subpo
     (page, None)
 }
 
-// Whether the page's subpool is one of the set.
+// Returns whether the page's subpool is one of the set.
 fn is_in(code: u16, subpools: &SubpoolSet) -> bool
     requires { (code < most_subpools) ⊎ (code ≡ free_code) }
     ensures { result ≡ has (is_one_of subpools.now) (decoded code) }
@@ -155,7 +155,7 @@ fn is_in(code: u16, subpools: &SubpoolSet) -> bool
     }
 }
 
-// The first page from one on whose subpool is one of the set.
+// Returns the first page from one on whose subpool is one of the set.
 pub(crate) fn first_of(codes: &[u16], subpools: &SubpoolSet, from: usize) -> usize
     requires codes { AreCodes codes.now }
     requires from { from ≤ length codes.now }

@@ -57,7 +57,7 @@ impl PageMap {
         }
     }
 
-    /// How many pages there are.
+    /// Returns how many pages there are.
     pub fn pages(&self) -> usize
         ensures pages { result ≡ length self.now }
         ensures most { result ≤ most_pages_above }
@@ -65,7 +65,7 @@ impl PageMap {
         self.owners.len()
     }
 
-    /// How many pages are not assigned.
+    /// Returns how many pages are not assigned.
     pub fn free_pages(&self) -> usize
         ensures free { result
             ≡ count_below (length self.now) (λ p. not (is_some (owner_of self.now p))) }
@@ -74,7 +74,7 @@ impl PageMap {
         self.free
     }
 
-    /// The subpool that a page is assigned to.
+    /// Returns the subpool that a page is assigned to.
     pub fn owner(&self, page: usize) -> Option<SubpoolId>
         requires { page < length self.now }
         ensures { result ≡ owner_of self.now page }
@@ -82,7 +82,7 @@ impl PageMap {
         subpool_of(self.owners[page])
     }
 
-    /// Whether a page is assigned to the subpool.
+    /// Returns whether a page is assigned to the subpool.
     pub fn is_of(&self, page: usize, subpool: SubpoolId) -> bool
         requires { page < length self.now }
         ensures { IsTrue result ↔ owner_of self.now page ≡ Some subpool }
@@ -134,7 +134,7 @@ impl PageMap {
         self.free += freed;
     }
 
-    /// The first page from one on that the subpool may use, or the number of pages; and the subpool that the page is
+    /// Returns the first page from one on that the subpool may use, or the number of pages; and the subpool that the page is
     /// assigned to.
     pub fn first_usable(&self, subpool: SubpoolId, from: usize) -> (usize, Option<SubpoolId>)
         requires { from ≤ length self.now }
@@ -144,7 +144,7 @@ impl PageMap {
         first_usable(&self.owners, subpool.get(), from)
     }
 
-    /// The first page from one on that is assigned, or the number of pages; and the subpool that the page is assigned to.
+    /// Returns the first page from one on that is assigned, or the number of pages; and the subpool that the page is assigned to.
     pub fn first_assigned(&self, from: usize) -> (usize, Option<SubpoolId>)
         requires { from ≤ length self.now }
         ensures first { IsFirst is_some self.now from result.0 }
@@ -153,7 +153,7 @@ impl PageMap {
         first_assigned(&self.owners, from)
     }
 
-    /// The first page from one on that is assigned to a subpool of the set, or the number of pages.
+    /// Returns the first page from one on that is assigned to a subpool of the set, or the number of pages.
     pub fn first_of(&self, subpools: &SubpoolSet, from: usize) -> usize
         requires { from ≤ length self.now }
         ensures { IsFirst (has (is_one_of subpools.now)) self.now from result }

@@ -15,14 +15,14 @@ pub struct Dice {
 }
 
 impl Dice {
-    /// The choices of a seed.
+    /// Returns the choices of a seed.
     pub fn new(seed: u64) -> Dice {
         Dice {
             generator: Pcg32::new(seed, STREAM),
         }
     }
 
-    /// A number below a bound; the bound is small, so that no number is much rarer than others.
+    /// Returns a number below a bound. The bound is small, so that no number is much rarer than others.
     pub fn below(&mut self, bound: u32) -> u32
         requires { 0 < bound }
         ensures { result < bound }

@@ -56,7 +56,7 @@ pub struct KnownStep {
 }
 
 impl KnownStep {
-    /// A step at its start.
+    /// Makes a step at its start.
     pub fn new() -> KnownStep {
         let mut active = [false; TASKS];
         active[0] = true;
@@ -70,7 +70,7 @@ impl KnownStep {
         }
     }
 
-    /// An active task, most often the job step task.
+    /// Returns an active task, most often the job step task.
     pub fn task(&self, dice: &mut Dice) -> Task
         ensures { result.0 < 6 }
     {
@@ -82,7 +82,7 @@ impl KnownStep {
         }
     }
 
-    /// A task that is not active, if one comes up.
+    /// Returns a task that is not active, if one comes up.
     pub fn new_task(&self, dice: &mut Dice) -> Option<Task> {
         let place = dice.below(TASKS as u32) as usize;
         if self.active[place] {
@@ -92,13 +92,13 @@ impl KnownStep {
         }
     }
 
-    /// An area that was obtained, if one comes up, and its place.
+    /// Returns an area that was obtained, if one comes up, and its place.
     pub fn area(&self, dice: &mut Dice) -> Option<(usize, KnownArea)> {
         let place = dice.below(AREAS as u32) as usize;
         self.areas[place].map(|area| (place, area))
     }
 
-    /// An area whose task is active, if there is one, and its place.
+    /// Returns an area whose task is active, if there is one, and its place.
     pub fn live_area(&self, dice: &mut Dice) -> Option<(usize, KnownArea)> {
         let first = dice.below(AREAS as u32) as usize;
         for offset in 0..AREAS {
@@ -112,7 +112,7 @@ impl KnownStep {
         None
     }
 
-    // Whether a task is active.
+    // Returns whether a task is active.
     fn is_active(&self, task: Task) -> bool {
         match self.active.get(task.0) {
             Some(is_active) => *is_active,
@@ -120,13 +120,13 @@ impl KnownStep {
         }
     }
 
-    /// A cell that was taken, if one comes up, and its place.
+    /// Returns a cell that was allocated, if one comes up, and its place.
     pub fn cell(&self, dice: &mut Dice) -> Option<(usize, Cell)> {
         let place = dice.below(CELLS as u32) as usize;
         self.cells[place].map(|cell| (place, cell))
     }
 
-    /// A task that shares a subpool number, if one comes up, and the number.
+    /// Returns a task that shares a subpool number, if one comes up, and the number.
     pub fn sharing(&self, dice: &mut Dice) -> Option<(Task, u8)> {
         let place = dice.below(TASKS as u32) as usize;
         if self.active[place] && self.shares[place] > 0 {

@@ -47,7 +47,7 @@ fn name_of(letter: u8, place: usize) -> Option<Name> {
 }
 
 impl ScriptMaker {
-    /// A script without a line.
+    /// Makes a script without a line.
     pub fn new(alloc: Global, seed: u64, profile: Profile) -> ScriptMaker {
         ScriptMaker {
             dice: Dice::new(seed),
@@ -60,7 +60,7 @@ impl ScriptMaker {
         }
     }
 
-    /// The last line that was made, without its end.
+    /// Returns the last line that was made, without its end.
     pub fn line(&self) -> &str {
         &self.line
     }
@@ -163,7 +163,7 @@ impl ScriptMaker {
         set(&mut self.known.cells, place, Some(Cell { addr, ..cell }));
     }
 
-    // What the answer to a statement of a task changes.
+    // Keeps what the answer to a statement of a task changes.
     fn take(&mut self, change: ExpectedChange) {
         match change {
             ExpectedChange::Nothing => {}
@@ -186,7 +186,7 @@ impl ScriptMaker {
         }
     }
 
-    // A task ended, with those that ended with it.
+    // Removes a task that ended, with those that ended with it.
     fn end(&mut self, task: &Name) {
         match subtask(task.text()) {
             Some(place) => set(&mut self.known.active, place, false),
@@ -200,8 +200,8 @@ impl ScriptMaker {
     }
 
     // Records the changes of a line.
-    fn hear(&mut self, told: &LineEvent, change: ExpectedChange) {
-        match told {
+    fn hear(&mut self, line_event: &LineEvent, change: ExpectedChange) {
+        match line_event {
             LineEvent::Answered { task, answer } => match answer {
                 Answer::NotRun | Answer::NoName | Answer::Rc4 | Answer::NoCell => {}
                 Answer::Ended | Answer::Abended(_) => self.end(task),
@@ -276,8 +276,8 @@ impl ScriptMaker {
             return Ok(false);
         }
         match self.session.line(self.line.as_bytes()) {
-            Ok(told) => {
-                self.hear(&told, change);
+            Ok(line_event) => {
+                self.hear(&line_event, change);
                 Ok(true)
             }
             Err(_) => Err(RandomFault::Memory),

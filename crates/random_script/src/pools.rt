@@ -13,6 +13,23 @@ static SIZES: [u32; 8] = [4, 6, 8, 12, 20, 64, 100, 600];
 
 static COUNTS: [u32; 4] = [1, 2, 3, 5];
 
+/// Statements of a pool that is not there: the texts before and after its name.
+static OF_NONE: [(&'static str, &'static str); 3] = [
+    ("CPOOL GET,CPID=P", ",CELL=C0"),
+    ("CPOOL FREE,CPID=P", ",CELL=X'6000'"),
+    ("CPOOL DELETE,CPID=P", ""),
+];
+
+/// Statements about a pool that is there: the texts before and after its name. Those of a new pool do not have that name.
+static OF_ONE: [(&'static str, Option<&'static str>); 6] = [
+    ("CPOOL BUILD,CPID=P", Some(",CSIZE=8,PCELLCT=1")),
+    ("CPOOL BUILD,CPID=P", Some(",CSIZE=8,PCELLCT=1")),
+    ("CPOOL BUILD,CPID=P", Some(",CSIZE=8,PCELLCT=1")),
+    ("CPOOL BUILD,CPID=NEW,CSIZE=65536,PCELLCT=65536", None),
+    ("CPOOL BUILD,CPID=NEW,CSIZE=8,PCELLCT=1,SP=133", None),
+    ("CPOOL FREE,CPID=P", Some(",CELL=X'01000004'")),
+];
+
 // Writes the operands of a new pool.
 fn write_pool(line: &mut String, dice: &mut Dice) -> Result<(), AllocError> {
     let size = SIZES[dice.below(8) as usize];
@@ -108,21 +125,14 @@ pub fn refused_pool(
         return build(line, dice, task, pool);
     }
     if !known.pools[pool] {
-        match dice.below(3) {
-            0 => write!(line, "{task} CPOOL GET,CPID=P{pool},CELL=C0")?,
-            1 => write!(line, "{task} CPOOL FREE,CPID=P{pool},CELL=X'6000'")?,
-            _ => write!(line, "{task} CPOOL DELETE,CPID=P{pool}")?,
-        }
+        let (head, tail) = OF_NONE[dice.below(3) as usize];
+        write!(line, "{task} {head}{pool}{tail}")?;
         return Ok(ExpectedChange::Nothing);
     }
-    match dice.below(6) {
-        0..=2 => write!(line, "{task} CPOOL BUILD,CPID=P{pool},CSIZE=8,PCELLCT=1")?,
-        3 => write!(
-            line,
-            "{task} CPOOL BUILD,CPID=NEW,CSIZE=65536,PCELLCT=65536"
-        )?,
-        4 => write!(line, "{task} CPOOL BUILD,CPID=NEW,CSIZE=8,PCELLCT=1,SP=133")?,
-        _ => write!(line, "{task} CPOOL FREE,CPID=P{pool},CELL=X'01000004'")?,
+    let (head, tail) = OF_ONE[dice.below(6) as usize];
+    match tail {
+        Some(tail) => write!(line, "{task} {head}{pool}{tail}")?,
+        None => write!(line, "{task} {head}")?,
     }
     Ok(ExpectedChange::Nothing)
 }

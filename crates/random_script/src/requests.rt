@@ -29,10 +29,36 @@ pub enum ExpectedChange {
 }
 
 /// The subpool numbers that a script names most.
-const NUMBERS: [u8; 6] = [0, 0, 1, 2, 10, 131];
+static NUMBERS: [u8; 6] = [0, 0, 1, 2, 10, 131];
 
 /// Lengths of areas, in bytes.
-const LENGTHS: [u32; 8] = [1, 8, 20, 64, 100, 400, 1000, 4096];
+static LENGTHS: [u32; 8] = [1, 8, 20, 64, 100, 400, 1000, 4096];
+
+/// The forms of an obtain of one length: the texts before the length, between it and the area, and at the end.
+static OBTAINS: [(&'static str, &'static str, &'static str); 6] = [
+    ("GETMAIN R,LV=", ",A=", ""),
+    ("GETMAIN EC,LV=", ",A=", ""),
+    ("GETMAIN RU,LV=", ",A=", ",LOC=ANY"),
+    ("STORAGE OBTAIN,LENGTH=", ",ADDR=", ",COND=YES"),
+    ("GETMAIN RC,LV=", ",A=", ""),
+    ("GETMAIN RC,LV=", ",A=", ""),
+];
+
+/// The forms of a release of one length: the texts before the length, and between it and the area.
+static RELEASES: [(&'static str, &'static str); 3] = [
+    ("FREEMAIN RU,LV=", ",A="),
+    ("FREEMAIN EC,LV=", ",A="),
+    ("STORAGE RELEASE,LENGTH=", ",ADDR="),
+];
+
+/// The subpools that a subtask is given and shares, and its residence.
+static ATTACHED: [&str; 5] = [
+    ",GSPV=1",
+    ",SHSPL=(1,2)",
+    ",GSPV=2,SHSPV=10,SZERO=NO",
+    ",SZERO=NO,RES=ABOVE",
+    "",
+];
 
 fn number(dice: &mut Dice) -> u8 {
     NUMBERS[dice.below(6) as usize]
@@ -42,7 +68,7 @@ fn length(dice: &mut Dice) -> u32 {
     LENGTHS[dice.below(8) as usize]
 }
 
-/// An obtain of one length, in one of its forms.
+/// Writes an obtain of one length, in one of its forms.
 pub fn obtain(
     line: &mut String,
     dice: &mut Dice,
@@ -56,23 +82,12 @@ pub fn obtain(
         addr: 0,
     };
     let (number, len) = (area.number, area.len);
-    match dice.below(6) {
-        0 => write!(line, "{task} GETMAIN R,LV={len},A=A{place},SP={number}")?,
-        1 => write!(line, "{task} GETMAIN EC,LV={len},A=A{place},SP={number}")?,
-        2 => write!(
-            line,
-            "{task} GETMAIN RU,LV={len},A=A{place},SP={number},LOC=ANY"
-        )?,
-        3 => write!(
-            line,
-            "{task} STORAGE OBTAIN,LENGTH={len},ADDR=A{place},SP={number},COND=YES"
-        )?,
-        _ => write!(line, "{task} GETMAIN RC,LV={len},A=A{place},SP={number}")?,
-    }
+    let (head, middle, tail) = OBTAINS[dice.below(6) as usize];
+    write!(line, "{task} {head}{len}{middle}A{place},SP={number}{tail}")?;
     Ok(ExpectedChange::Obtains(place, area))
 }
 
-/// An obtain of a variable length.
+/// Writes an obtain of a variable length.
 pub fn obtain_some(
     line: &mut String,
     dice: &mut Dice,
@@ -93,7 +108,7 @@ pub fn obtain_some(
     Ok(ExpectedChange::Obtains(place, area))
 }
 
-/// A release of an area, by a task that most likely means its subpool.
+/// Writes a release of an area, by a task that most likely means its subpool.
 pub fn release(
     line: &mut String,
     dice: &mut Dice,
@@ -114,19 +129,14 @@ pub fn release(
     } else {
         task
     };
-    match dice.below(4) {
-        0 => write!(line, "{task} FREEMAIN RU,LV={len},A=A{place},SP={number}")?,
-        1 => write!(line, "{task} FREEMAIN EC,LV={len},A=A{place},SP={number}")?,
-        2 => write!(
-            line,
-            "{task} STORAGE RELEASE,LENGTH={len},ADDR=A{place},SP={number}"
-        )?,
-        _ => write!(line, "{task} FREEMAIN VC,A=A{place},SP={number}")?,
+    match RELEASES.get(dice.below(4) as usize) {
+        Some((head, middle)) => write!(line, "{task} {head}{len}{middle}A{place},SP={number}")?,
+        None => write!(line, "{task} FREEMAIN VC,A=A{place},SP={number}")?,
     }
     Ok(ExpectedChange::Releases(place))
 }
 
-/// A statement that touches the bytes of an area.
+/// Writes a statement that touches the bytes of an area.
 pub fn touch(
     line: &mut String,
     dice: &mut Dice,
@@ -143,7 +153,36 @@ pub fn touch(
     Ok(ExpectedChange::Nothing)
 }
 
-/// A statement of a cell pool.
+// Writes a BUILD of a pool.
+fn build(
+    line: &mut String,
+    dice: &mut Dice,
+    task: Task,
+    pool: usize,
+) -> Result<ExpectedChange, AllocError> {
+    let size = 4 * (1 + dice.below(30));
+    let cells = 1 + dice.below(6);
+    write!(
+        line,
+        "{task} CPOOL BUILD,CPID=P{pool},CSIZE={size},PCELLCT={cells}"
+    )?;
+    Ok(ExpectedChange::Builds(pool))
+}
+
+// Writes a GET of a cell of a pool.
+fn get(
+    line: &mut String,
+    dice: &mut Dice,
+    task: Task,
+    pool: usize,
+) -> Result<ExpectedChange, AllocError> {
+    let place = dice.below(CELLS as u32) as usize;
+    let form = if dice.is_one_of(3) { "C," } else { "" };
+    write!(line, "{task} CPOOL GET,{form}CPID=P{pool},CELL=C{place}")?;
+    Ok(ExpectedChange::Takes(place, Cell { pool, addr: 0 }))
+}
+
+/// Writes a statement of a cell pool.
 pub fn pool(
     line: &mut String,
     dice: &mut Dice,
@@ -152,13 +191,7 @@ pub fn pool(
 ) -> Result<ExpectedChange, AllocError> {
     let pool = dice.below(POOLS as u32) as usize;
     if !known.pools[pool] {
-        let size = 4 * (1 + dice.below(30));
-        let cells = 1 + dice.below(6);
-        write!(
-            line,
-            "{task} CPOOL BUILD,CPID=P{pool},CSIZE={size},PCELLCT={cells}"
-        )?;
-        return Ok(ExpectedChange::Builds(pool));
+        return build(line, dice, task, pool);
     }
     match known.cell(dice) {
         Some((place, cell)) if dice.is_one_of(2) => {
@@ -169,29 +202,18 @@ pub fn pool(
             write!(line, "{task} CPOOL DELETE,CPID=P{pool}")?;
             Ok(ExpectedChange::Deletes(pool))
         }
-        _ => {
-            let place = dice.below(CELLS as u32) as usize;
-            let form = if dice.is_one_of(3) { "C," } else { "" };
-            write!(line, "{task} CPOOL GET,{form}CPID=P{pool},CELL=C{place}")?;
-            Ok(ExpectedChange::Takes(place, Cell { pool, addr: 0 }))
-        }
+        _ => get(line, dice, task, pool),
     }
 }
 
-/// An ATTACH, with numbers to give and to share.
+/// Writes an ATTACH, with numbers to give and to share.
 pub fn attach(
     line: &mut String,
     dice: &mut Dice,
     task: Task,
     subtask: Task,
 ) -> Result<ExpectedChange, AllocError> {
-    write!(line, "{task} ATTACH TASK={subtask}")?;
-    match dice.below(5) {
-        0 => write!(line, ",GSPV=1")?,
-        1 => write!(line, ",SHSPL=(1,2)")?,
-        2 => write!(line, ",GSPV=2,SHSPV=10,SZERO=NO")?,
-        3 => write!(line, ",SZERO=NO,RES=ABOVE")?,
-        _ => {}
-    }
+    let operands = ATTACHED[dice.below(5) as usize];
+    write!(line, "{task} ATTACH TASK={subtask}{operands}")?;
     Ok(ExpectedChange::Attaches(subtask))
 }

@@ -88,8 +88,9 @@ It prints:
 ";
 
 pub const RULE_42: &str =
-    r"Rule 42: A task that obtains with a number that it does not have gets a new
-subpool, which it owns. A refused request creates none.
+    r"Rule 42: A task that obtains with a number that it does not have, or shares
+such a number with a subtask, gets a new subpool, which it owns. A refused
+request creates none.
 
 Source: z/OS MVS Programming: Assembler Services Guide, subpool ownership
 (section not verified).

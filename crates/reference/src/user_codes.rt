@@ -159,7 +159,7 @@ The names of active tasks differ. The name of a task that has ended can be
 used again.
 
 Usual causes:
-  - The same ATTACH runs twice, and the first subtask has not ended.
+  - An ATTACH runs twice, and the first subtask has not ended.
 
 What to try:
   - Use another name, or let the first subtask return.

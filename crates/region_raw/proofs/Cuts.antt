@@ -26,7 +26,7 @@ use Rattle.region_raw.specs.Ownership.{row, byte_at}
 abbrev pub Bytes : Type 0
 Bytes = List (Option ℕ)
 
--- the first of two runs, where the second lies behind it
+-- the first of two runs, where the second lies after it
 run_before : (cs : Bytes) (i j n : ℕ) → i + n ≤ j → take n (drop i (take j cs)) ≡ take n (drop i cs)
 run_before cs i j n le =
     let gap : j ≡ i + (j - i) = omega arith in

@@ -16,7 +16,7 @@ get-end [] d vs (suc i) e = absurd (omega arith)
 get-end (u ∷ us) d vs zero e = absurd (omega arith)
 get-end (u ∷ us) d vs (suc i) e = get-end us d vs i (omega arith)
 
--- a row is what stands before a run, the run, and what stands behind it
+-- a row is what stands before a run, the run, and what stands after it
 pub row_is : (cs : List (Option ℕ)) (at n : ℕ) (xs : List ℕ) → take n (drop at cs) ≡ map Some xs → take at cs ++ (map Some xs ++ drop (at + n) cs) ≡ cs
 row_is cs at n xs is =
     ap (λ l. take at cs ++ (l ++ drop (at + n) cs)) (sym is)

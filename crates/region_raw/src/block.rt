@@ -47,7 +47,7 @@ impl Drop for Block {
 impl Block {
     ghost use Rattle.region_raw.specs.BorrowsBlock.{BorrowsSecond, BorrowsRun};
 
-    /// A block of `len` blank bytes. For no bytes no memory is taken.
+    /// Makes a block of `len` blank bytes. It allocates no memory if `len` is 0.
     pub fn new(alloc: Global, len: usize) -> Result<Block, OutOfMemory>
         requires { len < 2 ^ 63 }
         ensures blank { IfOk result (λ block. block ≡ replicate len None) }
@@ -95,7 +95,7 @@ impl Block {
         self.bytes.clear(at, n);
     }
 
-    /// The `n` bytes from `at` on.
+    /// Returns the `n` bytes from `at` on.
     pub fn part(&self, at: usize, n: usize) -> &[u8]
         requires { IsRun self.now at n }
         ensures { result.now ≡ run self.now at n }

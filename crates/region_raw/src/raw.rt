@@ -37,7 +37,7 @@ impl Model for Right {
     ghost also_owns = { λ right. to_be_freed right.at right.len };
 }
 
-/// A new block of `len` blank bytes, at least one; none where the heap has no memory.
+/// Makes a block of `len` blank bytes, at least one. Returns None if the heap has no memory.
 pub fn take_block(alloc: &Global, len: usize) -> Option<(Start, RawBytes, Right)>
     requires some { 0 < len }
     requires small { len < 2 ^ 63 }
@@ -51,7 +51,7 @@ pub fn take_block(alloc: &Global, len: usize) -> Option<(Start, RawBytes, Right)
     }
 }
 
-/// A block of no bytes, for which no memory is taken.
+/// Makes a block of no bytes. It allocates no memory.
 pub fn no_block() -> (Start, RawBytes, Right)
     ensures { (result.1.at ≡ result.0.ptr) × (result.1.bytes ≡ []) × (result.2.at ≡ result.0.ptr)
         × (result.2.len ≡ 0) }
@@ -85,7 +85,7 @@ pub fn end_block(bytes: RawBytes, right: Right)
 impl RawBytes {
     ghost use Rattle.region_raw.specs.BorrowsRaw.{BorrowsSecond, BorrowsRun};
 
-    /// The `n` bytes from `at` on.
+    /// Returns the `n` bytes from `at` on.
     pub fn slice(&self, start: Start, at: usize, n: usize) -> &[u8]
         requires start { start.ptr ≡ self.now.at }
         requires filled { IsRun self.now.bytes at n }

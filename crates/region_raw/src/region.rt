@@ -84,7 +84,7 @@ impl Region {
         self.part_mut(at, 1)[0] = value;
     }
 
-    /// The word in the four bytes from `at` on, the high byte first.
+    /// Returns the word in the four bytes from `at` on, the high byte first.
     pub fn word(&self, at: usize) -> u32
         requires { IsPart self.now at 4 }
         ensures { result ≡ word_of self.now at }
@@ -111,7 +111,7 @@ impl Region {
         self.part_mut(at, n).fill(value);
     }
 
-    /// The `n` bytes from `at` on.
+    /// Returns the `n` bytes from `at` on.
     pub fn part(&self, at: usize, n: usize) -> &[u8]
         requires { IsPart self.now at n }
         ensures value { result.now ≡ part_of self.now at n }

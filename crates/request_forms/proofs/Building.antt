@@ -55,7 +55,7 @@ module _ (roots fewer : FinMap name_cmp Root) (st new : Storage) (o : Owners) (t
   not_built (Ok _) is e spare why same alike = absurd (let f : true ≡ false = is in cc)
   not_built (Err refusal) is e spare why same alike = ((build_is_step roots fewer st new name s plan o o t number agree (is_valid number low) (new_subpool o (effective_task o t number) number s e spare)).1 refusal why, unchanged same alike)
 
--- a pool that is made has its first cell at the address that is told, where the store puts it there
+-- a pool that is made has its first cell at the hinted address, where the store puts it there
 module _ (roots new_roots : FinMap name_cmp Root) (st new : Storage) (o after : Owners) (t name : Name) (number s : ℕ) (plan : Plan) (agree : Agree roots st) (sub : SubpoolOf o (effective_task o t number) number s) where
   takes_pool : (a : ℕ) → PartFollowsHint st name (new_pool s plan) plan.primary a (pools_of new_roots new) → (later : State) → MachineBuilds (machine_state roots st o) (effective_task o t number) name number plan later → first_cells (get later.pools name) ≡ a ∷ []
       → first_cells (get (machine_state new_roots new after).pools name) ≡ a ∷ []

@@ -1,4 +1,4 @@
--- A cell that takes the address that is told.
+-- A cell that takes the hinted address.
 use Rattle.std.proofs.Common.{◌≡◌, ◌∙◌, ℕ, List, Option, Some, Result, Ok, Err, subst}
 use Rattle.std.specs.Prelude.{IfOk}
 use Rattle.mvs_model.specs.declared.name.Name.{Name}

@@ -34,7 +34,7 @@ address_held st a n k is h l =
     let f : 8 * ((a + k) / 8) + 8 ≤ 2147483648 = e in
     omega arith
 
--- more bytes behind those that are copied
+-- more bytes after those that are copied
 module _ (f g h : ℕ → Option ℕ) (to from k m : ℕ) where
   next_bytes : to ≤ from → ((x : ℕ) → g x ≡ cond (has_address (place_at to k) x) (f (from + (x - to))) (f x)) → ((x : ℕ) → h x ≡ cond (has_address (place_at (to + k) m) x) (g (from + k + (x - (to + k)))) (g x))
       → (x : ℕ) → h x ≡ cond (has_address (place_at to (k + m)) x) (f (from + (x - to))) (f x)

@@ -23,7 +23,7 @@ module _ (st : State) (s : ℕ) where
   abbrev pub Unheld : List PlaceValue → Option ℕ → Type 0
   Unheld ps v = MatchOption v (AllByRecursion (HeldPlain st s) ps) (λ a. (d : ℕ) × (a ≡ 8 * d) × IsUnheld st s ps d)
 
-  -- what is told of the first place
+  -- what is known of the first place
   abbrev pub UnheldIn : PlaceValue → Option ℕ → Type 0
   UnheldIn p v = MatchOption v (HeldPlain st s p) (λ a. (d : ℕ) × (a ≡ 8 * d) × IsUnheldIn st s p d)
 

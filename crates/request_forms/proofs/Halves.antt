@@ -37,7 +37,7 @@ pub as_whole : (p : PlaceValue) (n : ℕ) → 8 * n ≡ p.len → place_at p.add
 as_whole p n e = ap (place_at p.addr) e
 
 module _ (roots : FinMap name_cmp Root) (st : Storage) (agree : Agree roots st) where
-  -- the doubleword behind those of a place that are held has an address
+  -- the doubleword after those of a place that are held has an address
   pub unheld_address : (o : Owners) (s a k : ℕ) → a % 8 ≡ 0 → a < 2147483648 → HeldPlain (machine_state roots st o) s (place_at a (8 * k)) → a + 8 * k < 2147483648
   unheld_address o s a k e low h = elim (cases_lt 0 k) [
     | inr l ↦ (let z : k ≡ 0 = omega arith in omega arith)
@@ -57,7 +57,7 @@ module _ (roots : FinMap name_cmp Root) (st : Storage) (agree : Agree roots st) 
         let c : 8 * (b / 8) + 8 ≤ 0x3000000 = held_low st (b / 8) (holder st (b / 8)) (step_storage roots st agree) refl held in omega arith)
   ]
 
--- the one behind those that are held, where no more are
+-- the one after those that are held, where no more are
 pub first_not_held : (st : State) (s : ℕ) (p : PlaceValue) (k n : ℕ) → IsWhole p → n ≡ k + 1 → 8 * n ≤ p.len → HeldPlain st s (place_at p.addr (8 * k)) → (HeldPlain st s (place_at p.addr (8 * n)) → ⊥)
     → IsUnheldIn st s p (p.addr / 8 + k)
 first_not_held st s p k n whole e most front none =
@@ -72,7 +72,7 @@ first_not_held st s p k n whole e most front none =
 
 pub first_not_granted : (st : State) (p : PlaceValue) (k n : ℕ) → n ≡ k + 1 → n ≤ p.len → Granted st (place_at p.addr k) → (Granted st (place_at p.addr n) → ⊥) → IsDeniedIn st p (p.addr + k)
 first_not_granted st p k n e most front none = record {
-  behind = omega arith;
+  low = omega arith;
   inside = omega arith;
   denied = false_from_ne_true (granted st (p.addr + k)) (λ yes. none (λ b low high. elim (cases_lt b (p.addr + k)) [
     | inl l ↦ front b low l

@@ -1,12 +1,13 @@
 -- What holds a doubleword of the machine.
-use Rattle.std.proofs.Common.{◌≡◌, ℕ, ◌*◌, ◌/◌, Some, None, ap, ◌∙◌, subst, arith}
+use Rattle.std.proofs.Common.{◌≡◌, ◌⊎◌, inl, inr, ℕ, ◌+◌, ◌*◌, ◌/◌, ◌≤◌, ◌<◌, Some, None, ap, ◌∙◌, subst, arith}
 use Rattle.std.specs.Option.{option_map}
 use Rattle.std.specs.FinMap.{FinMap, get}
 use Rattle.mvs_model.specs.declared.name.Name.{Name}
-use Rattle.mvs_model.specs.declared.reason.Holder.TheVariants.{Nobody, Subpool, Unowned, Part}
+use Rattle.mvs_model.specs.declared.reason.Holder.TheVariants.{Subpool, Unowned, Part}
 use Rattle.mvs_model.specs.Name.{name_cmp}
 use Rattle.mvs_model.specs.Place.{place_at}
-use Rattle.mvs_model.specs.Storage.{Storage, holder, Covers}
+use Rattle.mvs_model.specs.Numbers.{above_begins, below_begins, page_bytes}
+use Rattle.mvs_model.specs.Storage.{InRegion, Regions, Storage, holder, Covers}
 use Rattle.mvs_model.specs.Owners.{Owners, entry}
 use Rattle.mvs_model.specs.State.{plain}
 use Rattle.mvs_model.specs.View.{in_pools}
@@ -20,9 +21,29 @@ use Rattle.request_forms.specs.Machine.{machine_state}
 use Rattle.request_forms.proofs.Bytes.{one_doubleword}
 use Rattle.request_forms.proofs.Places.{plain_from}
 
+-- the address is in the pages of a region that begins at another one
+abbrev pub HasAddress : ℕ → ℕ → ℕ → Type 0
+HasAddress begins pages a = (begins ≤ a) × (a < begins + page_bytes * pages)
+
+pub in_below : (r : Regions) (a : ℕ) → HasAddress below_begins r.below a → InRegion r (place_at (8 * (a / 8)) 8)
+in_below r a h = inl (omega (arith, h.0), omega (arith, h.1))
+
+pub in_above : (r : Regions) (a : ℕ) → HasAddress above_begins r.above a → InRegion r (place_at (8 * (a / 8)) 8)
+in_above r a h = inr (omega (arith, h.0), omega (arith, h.1))
+
+pub in_none : (r : Regions) (a : ℕ) → (below_begins ≤ a → a < below_begins + page_bytes * r.below → ⊥) → (above_begins ≤ a → a < above_begins + page_bytes * r.above → ⊥) → InRegion r (place_at (8 * (a / 8)) 8) → ⊥
+in_none r a below above (inl h) =
+    let from : below_begins ≤ a = omega (arith, h.0) in
+    let to : a < below_begins + page_bytes * r.below = omega (arith, h.1) in
+    below from to
+in_none r a below above (inr h) =
+    let from : above_begins ≤ a = omega (arith, h.0) in
+    let to : a < above_begins + page_bytes * r.above = omega (arith, h.1) in
+    above from to
+
 module _ (roots : FinMap name_cmp Root) (st : Storage) (o : Owners) (agree : Agree roots st) where
-  pub nobody_holds : (d : ℕ) → holder st d ≡ None → Holds (machine_state roots st o) d Nobody
-  nobody_holds d e = held_state st o (pools_of roots st) agree.parts.storage d ∙ ap (option_map (held_as (in_pools (pools_of roots st) d))) e
+  pub none_holds : (d : ℕ) → holder st d ≡ None → get (machine_state roots st o).held d ≡ None
+  none_holds d e = held_state st o (pools_of roots st) agree.parts.storage d ∙ ap (option_map (held_as (in_pools (pools_of roots st) d))) e
 
   pub part_holds : (a : ℕ) (name : Name) → (d : ℕ) × Covers (place_at (a / 8 * 8) 8) d × HasPart (pools_of roots st) name d → Holds (machine_state roots st o) (a / 8) (Part name)
   part_holds a name h = subst (λ d. HasPart (pools_of roots st) name d) (one_doubleword a h.0 h.1) h.2

@@ -38,7 +38,7 @@ first_granted st mid new s start n rest lengths hints p done ps e is g takes h =
     subst (λ l. (more : List PlaceValue) × (ps ≡ done ++ more) × GrantsEach st s (list_wants l start) hints more new) (sym e)
     (p ∷ h.0, h.1 ∙ append_assoc done (p ∷ []) h.0, (mid, is, g, takes, h.2))
 
--- a member takes the address that is told, where its store does
+-- a member takes the hinted address, where its store does
 pub takes_first : (st : Storage) (s : ℕ) (want other : WantValue) (first : Option ℕ) (hints : List ℕ) (p : PlaceValue) → want ≡ other → first ≡ first_of hints → ((q : PlaceValue) → first ≡ Some q.addr → Chosen st.regions (holder st) s want q → Some p ≡ Some q) → TakesFirst st s other (first_of hints) p
 takes_first st s want other first hints p same is takes q e chosen = ap (λ r. unwrap_or r p) (takes q (is ∙ e) (subst (λ w. Chosen st.regions (holder st) s w q) (sym same) chosen))
 
@@ -169,7 +169,7 @@ module _ (roots : FinMap name_cmp Root) where
   areas_agree st new s start items hints (Err k) agree h = subst (Agree roots) (sym h.1) agree
   areas_agree st new s start items hints (Ok ps) agree h = grants_agree roots st new s (list_wants items start) hints h.0 agree h.2
 
-  -- and they take the addresses that are told
+  -- and they take the hinted addresses
   pub areas_take : (st new : Storage) (o : Owners) (t : Name) (number s start : ℕ) (items lengths hints : List ℕ) (r : Result (List PlaceValue) Lack) → Agree roots st → items ≡ lengths → entry o t number ≡ Some s
       → MatchResult r (λ ps. (more : List PlaceValue) × (ps ≡ [] ++ more) × GrantsEach st s (list_wants items start) hints more new) (λ lack. LacksAt st s (list_wants items start) lack.member lack.short × (new ≡ st))
       → IfOk r (λ ps. length hints ≡ length lengths → ListFollowsHints (machine_state roots st o) t number (list_wants lengths start) hints ps (machine_state roots new o))

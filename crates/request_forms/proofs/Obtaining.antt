@@ -71,7 +71,7 @@ want_seen st t found form ask r loc meant served want named resides lies means s
 pub bound_keeper : (o : Owners) (t found : Name) (number s : ℕ) (new : Owners) → found ≡ t → Binds o (effective_task o found number) number s new → Binds o (effective_task o t number) number s new
 bound_keeper o t found number s new named binds = subst (λ n. Binds o (effective_task o n number) number s new) named binds
 
--- an area takes the address that is told, where it takes it from the store
+-- an area takes the hinted address, where it takes it from the store
 pub takes_told : (roots : FinMap name_cmp Root) (st : Storage) (o : Owners) (t : Name) (number s : ℕ) (want : WantValue) (hints : Option ℕ) (p : PlaceValue) → Agree roots st → SubpoolOf o t number s
     → ((q : PlaceValue) → hints ≡ Some q.addr → Chosen st.regions (holder st) s want q → Some p ≡ Some q) → (a : ℕ) → hints ≡ Some a → FollowsHint (machine_state roots st o) t number want a p
 takes_told roots st o t number s want hints p agree sub takes a is q later g e =

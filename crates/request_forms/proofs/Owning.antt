@@ -61,7 +61,7 @@ module _ (roots : FinMap name_cmp Root) (st : Storage) (o : Owners) (agree : Agr
   seen : page_holder st ≡ page_subpool (machine_state roots st o)
   seen = pages_seen roots st o agree.parts.storage
 
-  -- what is told of a subpool with this number and this owner
+  -- what is known of a subpool with this number and this owner
   abbrev row : Name → ℕ × Name → OwnedSubpool
   row t l = record { number = l.0; owner = l.1; bytes = bytes_of (machine_state roots st o) s; pages = pages_of (machine_state roots st o) s; had = has_subpool o t s }
 

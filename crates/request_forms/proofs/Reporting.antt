@@ -36,8 +36,8 @@ pool_fits roots st s o pool all agree some most = omega (arith, some, most, spli
 -- a line of the first number that the task has
 pub line_is : (roots : FinMap name_cmp Root) (st : Storage) (o : Owners) (u t : Name) (from number s : ℕ) (line : SubpoolLine) → Agree roots st → u ≡ t → from ≤ number → number < 133 → HasNone o u from number → entry o u number ≡ Some s
     → line.number ≡ number → line.owned ≡ has (owns o u) (entry o u number) → line.pool ≡ bytes_held (machine_state roots st o) s true → line.plain ≡ held_bytes st s - line.pool → IsSubpoolLine (machine_state roots st o) t from line
-line_is roots st o u t from number s line agree name behind low none entered number_is owned pool plain = record {
-  behind = subst (λ n. from ≤ n) (sym number_is) behind;
+line_is roots st o u t from number s line agree name after low none entered number_is owned pool plain = record {
+  after = subst (λ n. from ≤ n) (sym number_is) after;
   low = subst (λ n. n < 133) (sym number_is) low;
   first = subst (λ n. HasNone o t from n) (sym number_is) (subst (λ x. HasNone o x from number) name none);
   subpool = s;
@@ -48,18 +48,18 @@ line_is roots st o u t from number s line agree name behind low none entered num
 }
 
 none_from : (owner : ℕ → Option ℕ) (first at from end : ℕ) → at ≡ (from + 4095) / 4096 → NoneBegins owner first (4096 * at) end → NoneBegins owner first from end
-none_from owner first at from end is h p low behind high = h p low (omega (arith, is, behind)) high
+none_from owner first at from end is h p low after high = h p low (omega (arith, is, after)) high
 
 -- a run of the map in one of the regions, or none
 module _ (roots : FinMap name_cmp Root) (st : Storage) (o : Owners) (is : IsStepStorage st) (from at below : ℕ) (first_page : at ≡ (from + 4095) / 4096) (below_is : below ≡ st.regions.below) where
   pub run_below : (page count : ℕ) (run : MapRun) → IsPages (page_holder st) 6 (6 + below) page count → at ≤ page → NoneBegins (page_holder st) 6 (4096 * at) page
       → run.addr ≡ 4096 * page → run.len ≡ 4096 * count → IsHolder o (page_holder st page) run.holder → IsMapRun (machine_state roots st o) from run
-  run_below page count run pages behind none addr len holder = record {
+  run_below page count run pages after none addr len holder = record {
     page = page;
     count = count;
     addr = addr;
     len = len;
-    behind = omega (arith, addr, behind, first_page);
+    after = omega (arith, addr, after, first_page);
     placed = subst (λ owner. (IsPages owner 6 (6 + st.regions.below) page count × NoneBegins owner 6 from page) ⊎ (NoneBegins owner 6 from (6 + st.regions.below) × IsPages owner 4096 (4096 + st.regions.above) page count × NoneBegins owner 4096 from page))
         (pages_seen roots st o is.storage) (inl (subst (λ b. IsPages (page_holder st) 6 (6 + b) page count) below_is pages, none_from (page_holder st) 6 at from page first_page none));
     end = omega (arith, addr, len, pages.ends.high, below_is, is.bounded.below);
@@ -68,12 +68,12 @@ module _ (roots : FinMap name_cmp Root) (st : Storage) (o : Owners) (is : IsStep
 
   pub run_above : (above page count : ℕ) (run : MapRun) → above ≡ st.regions.above → NoneBegins (page_holder st) 6 (4096 * at) (6 + below) → IsPages (page_holder st) 4096 (4096 + above) page count → at ≤ page
       → NoneBegins (page_holder st) 4096 (4096 * at) page → run.addr ≡ 4096 * page → run.len ≡ 4096 * count → IsHolder o (page_holder st page) run.holder → IsMapRun (machine_state roots st o) from run
-  run_above above page count run above_is lower pages behind none addr len holder = record {
+  run_above above page count run above_is lower pages after none addr len holder = record {
     page = page;
     count = count;
     addr = addr;
     len = len;
-    behind = omega (arith, addr, behind, first_page);
+    after = omega (arith, addr, after, first_page);
     placed = subst (λ owner. (IsPages owner 6 (6 + st.regions.below) page count × NoneBegins owner 6 from page) ⊎ (NoneBegins owner 6 from (6 + st.regions.below) × IsPages owner 4096 (4096 + st.regions.above) page count × NoneBegins owner 4096 from page))
         (pages_seen roots st o is.storage)
         (inr (

@@ -52,7 +52,7 @@ LacksAfter old s (want ∷ wants) short (suc j) = (p : PlaceValue) × (mid : Sto
 abbrev pub LacksAt : Storage → ℕ → List WantValue → ℕ → Shortfall → Type 0
 LacksAt old s wants k short = (j : ℕ) × (k ≡ j + 1) × LacksAfter old s wants short j
 
--- The same of a list of the machine.
+-- In a state of the machine, the member of this number, from 1 on, has no place once those before it are granted, and lacks this.
 abbrev pub IsMemberShort : State → Name → ℕ → List WantValue → ℕ → Shortfall → Type 0
 IsMemberShort old t number wants k short = (j : ℕ) × (k ≡ j + 1) × AfterGrants (Lacks t number short) old t number wants j
 

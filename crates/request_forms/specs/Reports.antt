@@ -17,7 +17,7 @@ HasNone o t from end = (n : ℕ) → from ≤ n → n < end → entry o t n ≡ 
 
 -- The line is that of the first number at or after one that the task has.
 pub record IsSubpoolLine (st : State) (t : Name) (from : ℕ) (line : SubpoolLine) : Type 0 where
-  pub behind : from ≤ line.number
+  pub after : from ≤ line.number
   pub low : line.number < subpool_numbers
   pub first : HasNone st.owners t from line.number
   pub subpool : ℕ
@@ -74,7 +74,7 @@ pub record IsMapRun (st : State) (from : ℕ) (run : MapRun) : Type 0 where
   pub count : ℕ
   pub addr : run.addr ≡ page_bytes * page
   pub len : run.len ≡ page_bytes * count
-  pub behind : from ≤ run.addr
+  pub after : from ≤ run.addr
   pub placed : IsPlaced st from page count
   pub end : run.addr + run.len ≤ 0x3000000
   pub holder : IsHolder st.owners (page_subpool st page) run.holder

@@ -27,7 +27,7 @@ use mvs_model::refusal::Refusal;
 use mvs_model::request::Bytes;
 use subpool_store::Store;
 
-// Up to where bytes from an address on may be read and written, for one cause: up to the end of the taken cell round the
+// Returns up to where bytes from an address on may be read and written, for one cause: up to the end of the taken cell round the
 // address, or of its doubleword, where that is held outside of cell pools. None where the byte at the address may not be.
 fn readable_end(store: &Store, pools: &Pools, addr: Addr) -> Option<u32>
     requires { Agree pools.now store.now.storage }
@@ -50,7 +50,7 @@ fn readable_end(store: &Store, pools: &Pools, addr: Addr) -> Option<u32>
     Some(first + 8)
 }
 
-// Whether the subpool that holds the first byte of a place holds all of it outside of cell pools.
+// Returns whether the subpool that holds the first byte of a place holds all of it outside of cell pools.
 fn is_plain(store: &Store, pools: &Pools, place: Place) -> bool
     requires { Agree pools.now store.now.storage }
     ensures { (o : Owners) → IsTrue result
@@ -71,7 +71,7 @@ fn is_plain(store: &Store, pools: &Pools, place: Place) -> bool
     is_outside_pools(store, pools, subpool, whole)
 }
 
-// Whether each byte of a place may be read and written.
+// Returns whether each byte of a place may be read and written.
 pub(crate) fn may_access(store: &Store, pools: &Pools, place: Place) -> bool
     requires { Agree pools.now store.now.storage }
     ensures granted { (o : Owners)
@@ -209,7 +209,7 @@ impl Machine {
         Some(self.store.bytes(place))
     }
 
-    /// SHOW: it only looks whether the bytes may be read.
+    /// Executes SHOW: checks only whether the bytes may be read.
     pub fn show(&self, from: Addr, len: ShowLength) -> Result<(), Refusal>
         ensures { (t : Name)
             → Tries (λ _. Done) self.now.state t (request.Show from len) result self.now.state }
@@ -230,7 +230,7 @@ impl Machine {
         write_where_granted(&mut self.store, &self.pools, place, bytes)
     }
 
-    /// PUT: stores the bytes from the address on.
+    /// Executes PUT: stores the bytes from the address on.
     pub fn put(&mut self, to: Addr, bytes: &Bytes) -> Result<(), Refusal>
         ensures { (t : Name)
             → Tries (λ _. Done) self.old.state t (request.Put to bytes.now) result self.new.state }
@@ -244,7 +244,7 @@ impl Machine {
         Ok(())
     }
 
-    // Whether all bytes that a MOVE reads and writes may be.
+    // Returns whether all bytes that a MOVE reads and writes may be.
     fn may_move(&self, to: Addr, from: Addr, len: MoveLength) -> bool
         ensures { IsTrue result
             ↔ (Granted self.now.state (place_at to len) × Granted self.now.state (place_at from len)) }
@@ -256,7 +256,7 @@ impl Machine {
         may_access(&self.store, &self.pools, Place::new(from, len))
     }
 
-    /// MOVE: copies the bytes from one address to the other.
+    /// Executes MOVE: copies the bytes from one address to the other.
     pub fn move_bytes(&mut self, to: Addr, from: Addr, len: MoveLength) -> Result<(), Refusal>
         ensures { (t : Name)
             → Tries (λ _. Done) self.old.state t (request.Move to from len) result self.new.state }

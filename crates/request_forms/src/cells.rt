@@ -13,6 +13,7 @@ ghost use Rattle.mvs_model.specs.Want.{side_of};
 ghost use Rattle.request_forms.specs.Taking.{TakesCell, TakesPool, further_of};
 
 use crate::machine::Machine;
+use crate::obtain::subpool_number;
 use crate::obtain_list::first_hint;
 use boundary_loc::side;
 use cell_pool::Plan;
@@ -36,7 +37,7 @@ fn further_hint(hints: &[Addr]) -> Option<Addr>
 }
 
 impl Machine {
-    /// What a BUILD of the task plans: a first part of `primary` cells of `size` bytes, and `secondary` cells for each
+    /// Returns what a BUILD of the task plans: a first part of `primary` cells of `size` bytes, and `secondary` cells for each
     /// further part.
     pub fn plan(
         &self,
@@ -91,7 +92,7 @@ impl Machine {
         }
     }
 
-    /// CPOOL BUILD: creates a pool with its first part, and the first cell at the hinted address if the machine allows that.
+    /// Executes CPOOL BUILD: creates a pool with its first part, and the first cell at the hinted address if the machine allows that.
     pub fn build(
         &mut self,
         t: TaskId,
@@ -105,13 +106,11 @@ impl Machine {
         ensures hints { OnOk result
             (TakesPool self.old.state (task_name self.old t) number pool.now plan.now hints self.new.state) }
     {
-        let Some(number) = SubNo::new(number) else {
-            return Err(Refusal::InvalidNumber);
-        };
+        let number = subpool_number(number)?;
         self.build_pool(t, number, pool, plan, hints)
     }
 
-    /// CPOOL GET: allocates a free cell of the pool. If none is free, a conditional request is refused, and another one gets a cell
+    /// Executes CPOOL GET: allocates a free cell of the pool. If none is free, a conditional request is refused, and another one gets a cell
     /// of a further part. If the machine allows that, the cell is at the first hint, and the first cell of a further part at the
     /// second one or, if there is only one, at that.
     pub fn get(&mut self, pool: &Name, conditional: bool, hints: &[Addr]) -> Result<Place, Refusal>
@@ -125,7 +124,7 @@ impl Machine {
             .get(&mut self.store, pool, conditional, cell, first)
     }
 
-    /// CPOOL FREE: a taken cell of the pool is given back.
+    /// Executes CPOOL FREE: gives back an allocated cell of the pool.
     pub fn free(&mut self, pool: &Name, cell: Addr) -> Result<(), Refusal>
         ensures { (t : TheName)
             → Tries (λ _. Rc0) self.old.state t (request.Free pool.now cell) result self.new.state }
@@ -133,7 +132,7 @@ impl Machine {
         self.pools.free(&mut self.store, pool, cell)
     }
 
-    /// CPOOL DELETE: the pool is given up with all its parts.
+    /// Executes CPOOL DELETE: deletes the pool with all its parts.
     pub fn delete(&mut self, pool: &Name) -> Result<(), Refusal>
         ensures { (t : TheName)
             → Tries (λ _. Rc0) self.old.state t (request.Delete pool.now) result self.new.state }

@@ -29,7 +29,7 @@ pub struct OwnedSubpool {
     pub had: bool,
 }
 
-// Whether a page is assigned to a subpool.
+// Returns whether a page is assigned to a subpool.
 fn has_page(store: &Store, subpool: SubpoolId, page: u32) -> bool
     requires storage { IsStorage store.now.storage }
     requires low { page + 1 ≤ first_page_above + most_pages_above }
@@ -83,7 +83,7 @@ fn has_entry(entries: &[Option<SubpoolId>], subpool: SubpoolId) -> bool
 }
 
 impl Machine {
-    /// The first subpool from a number on that a task owns.
+    /// Returns the first subpool from a number on that a task owns.
     pub fn next_owned(&self, from: u16) -> Option<SubpoolId>
         requires { from ≤ most_subpools }
         ensures { IsNextOwned self.now.state.owners from result }
@@ -91,7 +91,7 @@ impl Machine {
         self.tasks.next_owned(from)
     }
 
-    // Whether an active task has a subpool under some number.
+    // Returns whether an active task has a subpool under some number.
     fn has_subpool(&self, task: &Name, subpool: SubpoolId) -> bool
         ensures { result ≡ has_subpool self.now.state.owners task.now subpool }
     {
@@ -101,13 +101,11 @@ impl Machine {
         }
     }
 
-    /// A subpool, where a task owns it, and whether another task has it.
+    /// Returns a subpool if a task owns it, with whether another task has it.
     pub fn owned(&self, subpool: SubpoolId, task: &Name) -> Option<OwnedSubpool>
         ensures { result ≡ owned_at self.now.state task.now subpool }
     {
-        let Some((number, owner)) = self.tasks.label(subpool) else {
-            return None;
-        };
+        let (number, owner) = self.tasks.label(subpool)?;
         let below = count_pages(
             &self.store,
             subpool,

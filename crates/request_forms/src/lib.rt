@@ -8,6 +8,7 @@ mod details;
 mod facts;
 mod holder;
 mod machine;
+mod members;
 mod obtain;
 mod obtain_list;
 mod release;

@@ -1,9 +1,11 @@
 //! Requests that obtain.
 
-ghost use Rattle.std.specs.Prelude.{◌≡◌, ◌≤◌, IfOk, IfSome, MatchOption};
+ghost use Rattle.std.specs.Prelude.{◌≡◌, ◌≤◌, IfOk, IfSome, MatchOption, MatchResult};
 ghost use Rattle.mvs_model.specs.Want.{want_of};
 ghost use Rattle.mvs_model.specs.Changes.{GrantTo, ShortOf};
 ghost use Rattle.mvs_model.specs.Steps.{Tries};
+ghost use Rattle.mvs_model.specs.Subpool.{IsSubpoolNumber};
+ghost use Rattle.mvs_model.specs.declared.refusal.Refusal.TheVariants.{InvalidNumber};
 ghost use Rattle.mvs_model.specs.declared.request.Reply.TheVariants.{Obtained};
 ghost use Rattle.mvs_model.specs.declared.request.Request.TheVariants as request;
 ghost use Rattle.mvs_model.specs.Requests.{side_for};
@@ -20,6 +22,14 @@ use mvs_model::refusal::Refusal;
 use mvs_model::subpool::SubNo;
 use mvs_model::want::AreaRequest;
 use task_owner::TaskId;
+
+// Returns the subpool number of a request, or refuses one that a program may not name.
+pub(crate) fn subpool_number(number: u8) -> Result<SubNo, Refusal>
+    ensures { MatchResult result (λ n. IsSubpoolNumber number × (n ≡ number))
+        (λ refusal. (refusal ≡ InvalidNumber) × (IsSubpoolNumber number → ⊥)) }
+{
+    SubNo::new(number).ok_or(Refusal::InvalidNumber)
+}
 
 impl Machine {
     // Obtains an area of the subpool that the task means by a number, which is made where there was none, and only where the
@@ -46,16 +56,14 @@ impl Machine {
             Some(subpool) => self.store.obtain(subpool, &want, hints),
             None => {
                 let subpool = self.tasks.spare(t, number);
-                let Some(place) = self.store.obtain(subpool, &want, hints) else {
-                    return None;
-                };
+                let place = self.store.obtain(subpool, &want, hints)?;
                 self.tasks.bind(t, number, subpool);
                 Some(place)
             }
         }
     }
 
-    /// GETMAIN and STORAGE OBTAIN for one area (Assembler Services Reference): returns its place, at the hinted address if the
+    /// Executes GETMAIN or STORAGE OBTAIN for one area (Assembler Services Reference): returns its place, at the hinted address if the
     /// machine allows that. The subpool number is checked first (this project's choice).
     pub fn obtain(
         &mut self,
@@ -70,9 +78,7 @@ impl Machine {
             self.new.state }
         ensures hints { IfOk result (TakesArea self.old.state (task_name self.old t) form number ask.now hints) }
     {
-        let Some(number) = SubNo::new(number) else {
-            return Err(Refusal::InvalidNumber);
-        };
+        let number = subpool_number(number)?;
         match self.obtain_area(t, form, number, ask, hints) {
             Some(place) => Ok(place),
             None => Err(Refusal::Shortage),

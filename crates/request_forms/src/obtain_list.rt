@@ -16,6 +16,7 @@ ghost use Rattle.request_forms.specs.Lists.{GrantsEach, IsMemberShort, LacksAt, 
 ghost use Rattle.request_forms.specs.Taking.{TakesAreas};
 
 use crate::machine::Machine;
+use crate::obtain::subpool_number;
 use crate::release::take_back;
 use crate::shortage::room_in;
 use mvs_model::bounded::{Exponent, Length};
@@ -182,24 +183,21 @@ impl Machine {
             ),
             None => {
                 let subpool = self.tasks.spare(t, number);
-                let places = match grant_each(
+                let places = grant_each(
                     &mut self.store,
                     subpool,
                     lengths.as_slice(),
                     start,
                     hints,
                     None,
-                ) {
-                    Ok(places) => places,
-                    Err(lack) => return Err(lack),
-                };
+                )?;
                 self.tasks.bind(t, number, subpool);
                 Ok(places)
             }
         }
     }
 
-    /// GETMAIN for a list of areas, all of which are granted or none (Assembler Services Reference, GETMAIN; all or none is this
+    /// Executes GETMAIN for a list of areas, all of which are granted or none (Assembler Services Reference, GETMAIN; all or none is this
     /// project's choice): returns their places. `start` is the power of two of the boundary of each. Each is at its hinted address
     /// if the machine allows that. Where a member has no place, what it lacks is written to `left`.
     pub fn obtain_list(
@@ -221,9 +219,7 @@ impl Machine {
             → MemberLacks self.old.state (task_name self.old t) (request.ObtainList form number lengths.now start) k
             left.new }
     {
-        let Some(number) = SubNo::new(number) else {
-            return Err(Refusal::InvalidNumber);
-        };
+        let number = subpool_number(number)?;
         match self.obtain_areas(t, number, lengths, start, hints) {
             Ok(places) => Ok(places),
             Err(lack) => {

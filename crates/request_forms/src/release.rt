@@ -19,6 +19,7 @@ ghost use Rattle.request_forms.specs.Lists.{HoldsApart, ReleasesEach};
 ghost use Rattle.request_forms.specs.Machine.{IsTask, machine_state, task_name};
 
 use crate::machine::Machine;
+use crate::obtain::subpool_number;
 use cell_pool::Pools;
 use mvs_model::place::Place;
 use mvs_model::refusal::Refusal;
@@ -28,14 +29,14 @@ use std::ops::Range;
 use subpool_store::Store;
 use task_owner::TaskId;
 
-// The place with its length rounded up to doublewords.
+// Returns the place with its length rounded up to doublewords.
 pub(crate) fn whole(place: Place) -> Place
     ensures { result ≡ step.whole place }
 {
     Place::new(place.addr(), place.len().div_ceil(8) * 8)
 }
 
-// Whether the place begins on a doubleword.
+// Returns whether the place begins on a doubleword.
 pub(crate) fn is_on_doubleword(place: Place) -> bool
     ensures { result ≡ step.on_doubleword place }
 {
@@ -54,7 +55,7 @@ pub(crate) fn take_back(store: &mut Store, subpool: SubpoolId, place: Place)
     };
 }
 
-// Whether each place begins on a doubleword.
+// Returns whether each place begins on a doubleword.
 fn are_on_doublewords(places: &[Place]) -> bool
     ensures { result ≡ list_all step.on_doubleword places.now }
 {
@@ -76,7 +77,7 @@ pub(crate) fn is_outside_pools(
     !pools.touches_in(store, subpool, place)
 }
 
-// Whether the subpool holds a place outside of cell pools.
+// Returns whether the subpool holds a place outside of cell pools.
 pub(crate) fn holds_plain(store: &Store, pools: &Pools, subpool: SubpoolId, place: Place) -> bool
     requires agree { Agree pools.now store.now.storage }
     requires whole { IsWhole place }
@@ -89,7 +90,7 @@ pub(crate) fn holds_plain(store: &Store, pools: &Pools, subpool: SubpoolId, plac
     is_outside_pools(store, pools, subpool, place)
 }
 
-// Whether the subpool holds each place outside of cell pools, its length rounded up to doublewords.
+// Returns whether the subpool holds each place outside of cell pools, its length rounded up to doublewords.
 fn holds_each(store: &Store, pools: &Pools, subpool: SubpoolId, places: &[Place]) -> bool
     requires agree { Agree pools.now store.now.storage }
     requires on_doublewords { list_all step.on_doubleword places.now ≡ true }
@@ -107,7 +108,7 @@ fn holds_each(store: &Store, pools: &Pools, subpool: SubpoolId, places: &[Place]
     holds_each(store, pools, subpool, rest)
 }
 
-// The doublewords that a place has a byte of, its length rounded up.
+// Returns the doublewords that a place has a byte of, its length rounded up.
 pub(crate) fn doublewords(place: Place) -> Range<u32>
     ensures first { result.start ≡ place.addr / 8 }
     ensures end { result.end ≡ (place.addr + round8 place.len + 7) / 8 }
@@ -117,7 +118,7 @@ pub(crate) fn doublewords(place: Place) -> Range<u32>
     addr / 8..(addr + whole(place).len()).div_ceil(8)
 }
 
-// Whether two places have no doubleword in common, their lengths rounded up.
+// Returns whether two places have no doubleword in common, their lengths rounded up.
 fn are_apart(one: Place, other: Place) -> bool
     ensures { IsTrue result ↔ Misses (step.whole one) (step.whole other) }
 {
@@ -126,7 +127,7 @@ fn are_apart(one: Place, other: Place) -> bool
     one.end <= other.start || other.end <= one.start
 }
 
-// Whether a place has no doubleword in common with any of the others.
+// Returns whether a place has no doubleword in common with any of the others.
 fn misses_each(place: Place, others: &[Place]) -> bool
     ensures { IsTrue result
         ↔ AllByRecursion (Misses (step.whole place)) (map step.whole others.now) }
@@ -140,7 +141,7 @@ fn misses_each(place: Place, others: &[Place]) -> bool
     misses_each(place, rest)
 }
 
-// Whether no two of the places overlap.
+// Returns whether no two of the places overlap.
 fn are_disjoint(places: &[Place]) -> bool
     ensures { IsTrue result ↔ Disjoint (map step.whole places.now) }
 {
@@ -205,7 +206,7 @@ impl Machine {
         Ok(())
     }
 
-    /// FREEMAIN for a list of places, all of which are released or none; the length of each is rounded up to doublewords (Assembler
+    /// Executes FREEMAIN for a list of places, all of which are released or none; the length of each is rounded up to doublewords (Assembler
     /// Services Reference, FREEMAIN). All or none, and the order of the refusals, are this project's choice.
     pub fn release_list(&mut self, t: TaskId, number: u8, places: &Places) -> Result<(), Refusal>
         requires { IsTask self.old t }
@@ -213,9 +214,7 @@ impl Machine {
             → Tries (λ _. Rc0) self.old.state (task_name self.old t) (request.ReleaseList form number places.now) result
             self.new.state }
     {
-        let Some(number) = SubNo::new(number) else {
-            return Err(Refusal::InvalidNumber);
-        };
+        let number = subpool_number(number)?;
         let places = places.as_slice();
         if !are_on_doublewords(places) {
             return Err(Refusal::OffDoubleword);
@@ -224,16 +223,14 @@ impl Machine {
         self.release_areas(subpool, places)
     }
 
-    /// FREEMAIN and STORAGE RELEASE of one place, whose length is rounded up to doublewords (Assembler Services
+    /// Executes FREEMAIN or STORAGE RELEASE of one place, whose length is rounded up to doublewords (Assembler Services
     /// Reference).
     pub fn release(&mut self, t: TaskId, number: u8, place: Place) -> Result<(), Refusal>
         requires { IsTask self.old t }
         ensures { (form : TheForm)
             → Tries (λ _. Rc0) self.old.state (task_name self.old t) (request.Release form number place) result self.new.state }
     {
-        let Some(number) = SubNo::new(number) else {
-            return Err(Refusal::InvalidNumber);
-        };
+        let number = subpool_number(number)?;
         if !is_on_doubleword(place) {
             return Err(Refusal::OffDoubleword);
         }
@@ -241,7 +238,7 @@ impl Machine {
         self.release_area(subpool, whole(place))
     }
 
-    /// FREEMAIN and STORAGE RELEASE of all that a subpool holds, its cell pools included (Assembler Services Reference,
+    /// Executes FREEMAIN or STORAGE RELEASE of all that a subpool holds, its cell pools included (Assembler Services Reference,
     /// subpool release). A number that the task does not have releases nothing; subpool 0 is not released as a whole (both
     /// are this project's choice).
     pub fn release_whole(&mut self, t: TaskId, number: u8) -> Result<(), Refusal>
@@ -249,9 +246,7 @@ impl Machine {
         ensures { (form : TheForm)
             → Tries (λ _. Rc0) self.old.state (task_name self.old t) (request.ReleaseWhole form number) result self.new.state }
     {
-        let Some(number) = SubNo::new(number) else {
-            return Err(Refusal::InvalidNumber);
-        };
+        let number = subpool_number(number)?;
         if number.get() == 0 {
             return Err(Refusal::WholeOfZero);
         }

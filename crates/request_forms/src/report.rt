@@ -17,7 +17,7 @@ use mvs_model::subpool::{SubNo, SubpoolId};
 use subpool_store::Store;
 use task_owner::{TaskId, Tasks, pass_none};
 
-// The first number at or after one that the task has, with its subpool.
+// Returns the first number at or after one that the task has, with its subpool.
 fn first_entry(tasks: &Tasks, t: TaskId, from: u8) -> Option<(SubNo, SubpoolId)>
     requires task { IsTask tasks.now t }
     requires kept { OwnersConsistent tasks.now.owners }
@@ -37,7 +37,7 @@ fn first_entry(tasks: &Tasks, t: TaskId, from: u8) -> Option<(SubNo, SubpoolId)>
     None
 }
 
-// The subpool that a page is assigned to.
+// Returns the subpool that a page is assigned to.
 pub(crate) fn page_owner(store: &Store, page: u32) -> Option<SubpoolId>
     requires storage { IsStorage store.now.storage }
     requires low { page < first_page_above + most_pages_above }
@@ -46,7 +46,7 @@ pub(crate) fn page_owner(store: &Store, page: u32) -> Option<SubpoolId>
     store.page_owner(Addr::new(PAGE_BYTES * page))
 }
 
-// Whether a run begins at a page of a region: it is the region's first page, or is assigned otherwise than the one
+// Returns whether a run begins at a page of a region: it is the region's first page, or is assigned otherwise than the one
 // before it.
 fn begins(store: &Store, first: u32, page: u32) -> bool
     requires storage { IsStorage store.now.storage }
@@ -61,7 +61,7 @@ fn begins(store: &Store, first: u32, page: u32) -> bool
     page_owner(store, page - 1) != page_owner(store, page)
 }
 
-// The first page of a region at which a run begins, from a page on and before the end.
+// Returns the first page of a region at which a run begins, from a page on and before the end.
 fn first_start(store: &Store, first: u32, from: u32, end: u32) -> Option<u32>
     requires storage { IsStorage store.now.storage }
     requires within { first ≤ from }
@@ -80,7 +80,7 @@ fn first_start(store: &Store, first: u32, from: u32, end: u32) -> Option<u32>
     None
 }
 
-// Before which page the run ends that begins at a page.
+// Returns the page before which the run ends that begins at a page.
 fn run_end(store: &Store, page: u32, end: u32) -> u32
     requires storage { IsStorage store.now.storage }
     requires within { page < end }
@@ -103,7 +103,7 @@ struct Pages {
     count: u32,
 }
 
-// The first run of a region that begins at or after a page.
+// Returns the first run of a region that begins at or after a page.
 fn first_run(store: &Store, first: u32, end: u32, from: u32) -> Option<Pages>
     requires storage { IsStorage store.now.storage }
     requires ordered { first ≤ end }
@@ -122,17 +122,15 @@ fn first_run(store: &Store, first: u32, end: u32, from: u32) -> Option<Pages>
     })
 }
 
-// The number and the owner of a subpool that pages are assigned to.
+// Returns the number and the owner of a subpool that pages are assigned to.
 fn holder(tasks: &Tasks, owner: Option<SubpoolId>) -> Option<(SubNo, Name)>
     ensures { IsHolder tasks.now.owners owner result }
 {
-    let Some(subpool) = owner else {
-        return None;
-    };
+    let subpool = owner?;
     tasks.label(subpool)
 }
 
-// A line of the map.
+// Returns a line of the map.
 fn map_line(store: &Store, tasks: &Tasks, pages: Pages) -> MapRun
     requires storage { IsStorage store.now.storage }
     requires low { pages.page + pages.count ≤ first_page_above + most_pages_above }
@@ -150,19 +148,15 @@ fn map_line(store: &Store, tasks: &Tasks, pages: Pages) -> MapRun
 }
 
 impl Machine {
-    /// The line of REPORT SP for the first number at or after `from` that the task has. None where it has none, as where
+    /// Returns the line of REPORT SP for the first number at or after `from` that the task has. None where it has none, as where
     /// it is not active.
     pub fn subpool_line(&self, name: &Name, from: u8) -> Option<SubpoolLine>
         ensures { MatchOption result
             (HasNone self.now.state.owners name.now from subpool_numbers)
             (IsSubpoolLine self.now.state name.now from) }
     {
-        let Some(t) = self.tasks.find(name) else {
-            return None;
-        };
-        let Some((number, subpool)) = first_entry(&self.tasks, t, from) else {
-            return None;
-        };
+        let t = self.tasks.find(name)?;
+        let (number, subpool) = first_entry(&self.tasks, t, from)?;
         let pool = self.pools.pool_bytes(&self.store, subpool);
         Some(SubpoolLine {
             number,
@@ -172,7 +166,7 @@ impl Machine {
         })
     }
 
-    /// The first run of REPORT MAP that begins at or after an address. None where there is none.
+    /// Returns the first run of REPORT MAP that begins at or after an address. None where there is none.
     pub fn map_run(&self, from: Addr) -> Option<MapRun>
         ensures { MatchOption result (IsMapEnd self.now.state from) (IsMapRun self.now.state from) }
     {

@@ -1,23 +1,24 @@
 //! Why a place is not granted.
 
 ghost use Rattle.std.specs.Prelude.{◌≡◌, MatchOption, true};
-ghost use Rattle.mvs_model.specs.Owners.{SubpoolOf, is_active, effective_task};
+ghost use Rattle.mvs_model.specs.Owners.{SubpoolOf, effective_task};
 ghost use Rattle.mvs_model.specs.Place.{PlaceValue};
 ghost use Rattle.mvs_model.specs.Pools.{part_want};
 ghost use Rattle.mvs_model.specs.State as state;
 ghost use Rattle.mvs_model.specs.Reasons.{IsLongest, IsRoom};
 ghost use Rattle.mvs_model.specs.Storage.{Chosen, NoPlace, holder};
 ghost use Rattle.mvs_model.specs.View.{IsBounded};
+ghost use Rattle.request_forms.specs.Machine.{IsTask, task_name};
 ghost use Rattle.request_forms.specs.Rooms.{LacksPlace};
 
 use crate::machine::Machine;
 use cell_pool::part_want;
 use mvs_model::bounded::{CellCount, CellSize};
-use mvs_model::name::Name;
 use mvs_model::reason::FreeSpace;
 use mvs_model::subpool::{SubNo, SubpoolId};
 use mvs_model::want::{Side, Want};
 use subpool_store::Store;
+use task_owner::TaskId;
 
 // Returns the greatest length that fits, if the least requested length does not.
 fn longest(store: &Store, subpool: SubpoolId, want: &Want) -> u32
@@ -77,12 +78,12 @@ impl Machine {
         self.room(subpool, &part_want(size, cells, side))
     }
 
-    /// The subpool that a task means by a number, or the one that it would get.
-    pub(crate) fn subpool_for(&self, name: Name, number: SubNo) -> SubpoolId
-        requires { is_active self.now.state.owners name ≡ true }
-        ensures { SubpoolOf self.now.state.owners (effective_task self.now.state.owners name number) number result }
+    /// Returns the subpool that a task means by a number, or the one that it would get.
+    pub(crate) fn subpool_for(&self, t: TaskId, number: SubNo) -> SubpoolId
+        requires { IsTask self.now t }
+        ensures { SubpoolOf self.now.state.owners (effective_task self.now.state.owners (task_name self.now t) number) number
+            result }
     {
-        let t = self.tasks.task_of(name);
         match self.tasks.subpool(t, number) {
             Some(subpool) => subpool,
             None => self.tasks.spare(t, number),

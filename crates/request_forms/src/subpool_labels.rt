@@ -19,7 +19,7 @@ pub struct FreePages {
 }
 
 impl Machine {
-    /// How many pages of each region hold nothing.
+    /// Returns how many pages of each region hold nothing.
     pub fn free_pages(&self) -> FreePages
         ensures below { result.below ≡ free_below self.now.state }
         ensures above { result.above ≡ free_above self.now.state }
@@ -30,24 +30,18 @@ impl Machine {
         }
     }
 
-    /// The subpool that an active task means by a number that a program may name: the number under which its owner has it, and
+    /// Returns the subpool that an active task means by a number that a program may name: the number under which its owner has it, and
     /// the owner.
     pub fn resolved_owner(&self, name: &Name, number: u8) -> Option<(SubNo, Name)>
         ensures { result ≡ resolved_owner self.now.state.owners name.now number }
     {
-        let Some(number) = SubNo::new(number) else {
-            return None;
-        };
-        let Some(t) = self.tasks.find(name) else {
-            return None;
-        };
-        let Some(subpool) = self.tasks.subpool(t, number) else {
-            return None;
-        };
+        let number = SubNo::new(number)?;
+        let t = self.tasks.find(name)?;
+        let subpool = self.tasks.subpool(t, number)?;
         self.tasks.label(subpool)
     }
 
-    /// How many parts the pool of this name has, and which was put to it last. None where no pool has the name.
+    /// Returns how many parts the pool of this name has, and which was put to it last. Returns None if no pool has the name.
     pub fn newest(&self, pool: &Name) -> Option<LastPart>
         ensures { MatchOption result (get self.now.state.pools pool.now ≡ None)
             (λ newest. (kept : Pool) × (get self.now.state.pools pool.now ≡ Some kept)
@@ -60,12 +54,8 @@ impl Machine {
     pub fn entry_owner(&self, name: &Name, number: SubNo) -> Option<(SubNo, Name)>
         ensures { result ≡ entry_owner self.now.state.owners name.now number }
     {
-        let Some(t) = self.tasks.find(name) else {
-            return None;
-        };
-        let Some(subpool) = self.tasks.entry(t, number) else {
-            return None;
-        };
+        let t = self.tasks.find(name)?;
+        let subpool = self.tasks.entry(t, number)?;
         self.tasks.label(subpool)
     }
 }

@@ -50,7 +50,7 @@ impl Machine {
         gone.fallen
     }
 
-    /// A return ends the task; with an active subtask it is refused (System Codes, A03).
+    /// Executes RETURN: ends the task. With an active subtask it is refused (System Codes, A03).
     pub fn finish(&mut self, t: TaskId) -> Result<(), Refusal>
         requires { IsTask self.old t }
         ensures { Tries (λ _. Ended) self.old.state (task_name self.old t) request.Return result self.new.state }
@@ -63,7 +63,7 @@ impl Machine {
         Ok(())
     }
 
-    /// ATTACH (Assembler Services Reference).
+    /// Executes ATTACH (Assembler Services Reference).
     pub fn attach(
         &mut self,
         t: TaskId,

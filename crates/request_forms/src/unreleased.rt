@@ -16,7 +16,7 @@ use mvs_model::place::{Addr, Place};
 use mvs_model::subpool::SubpoolId;
 use subpool_store::Store;
 
-// The address of the first place that does not begin on a doubleword.
+// Returns the address of the first place that does not begin on a doubleword.
 pub(crate) fn first_off(places: &[Place]) -> Option<Addr>
     ensures { MatchOption result (list_all step.on_doubleword places.now ≡ true)
         (IsFirstOff places.now) }
@@ -30,7 +30,7 @@ pub(crate) fn first_off(places: &[Place]) -> Option<Addr>
     first_off(rest)
 }
 
-// The address of the first doubleword of the places, their lengths rounded up, that the subpool does not hold outside of cell
+// Returns the address of the first doubleword of the places, their lengths rounded up, that the subpool does not hold outside of cell
 // pools.
 pub(crate) fn unheld_in(
     store: &Store,
@@ -57,7 +57,7 @@ pub(crate) fn unheld_in(
     unheld_in(store, pools, subpool, rest)
 }
 
-// The address of the first doubleword that two places have in common, their lengths rounded up.
+// Returns the address of the first doubleword that two places have in common, their lengths rounded up.
 fn common(one: Place, other: Place) -> Option<Addr>
     ensures { MatchOption result (Misses (step.whole one) (step.whole other))
         (λ a. (d : ℕ) × (a ≡ 8 * d) × IsCommon (step.whole one) (step.whole other) d) }
@@ -79,7 +79,7 @@ pub(crate) struct Met {
     pub(crate) at: Addr,
 }
 
-// The first of the other places with which the place has a doubleword in common.
+// Returns the first of the other places with which the place has a doubleword in common.
 fn meeting(place: Place, others: &[Place]) -> Option<Met>
     ensures { MatchOption result
         (AllByRecursion (Misses (step.whole place)) (map step.whole others.now))
@@ -99,7 +99,7 @@ fn meeting(place: Place, others: &[Place]) -> Option<Met>
     meeting(place, rest)
 }
 
-// The first place that has a doubleword in common with a later one, and the first such.
+// Returns the first place that has a doubleword in common with a later one, and the first such.
 pub(crate) fn overlap(places: &[Place]) -> Option<Met>
     ensures { MatchOption result (Disjoint (map step.whole places.now))
         (λ v. (d : ℕ) × (v.at ≡ 8 * d)

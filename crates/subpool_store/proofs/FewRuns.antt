@@ -46,7 +46,7 @@ no_page true c = refl
 no_page false c = refl
 
 module _ (holder : ℕ → Option ℕ) (s : ℕ) where
-  -- behind the first doubleword of a page a run begins behind a held one
+  -- after the first doubleword of a page a run begins after a held one
   never_both : (d : ℕ) → ((d + 1) % 512 ≡ 0 → ⊥) → begins_free_run holder s d ≡ true → begins_free_run holder s (d + 1) ≡ true → ⊥
   never_both d inner one other =
       let clear : is_some (holder d) ≡ false = is_clear _ _ one in

@@ -29,5 +29,5 @@ pub mod Value
 pub mod Counts
 pub mod PagesDropped
 pub mod FewRuns
-pub mod ToldPlace
+pub mod HintedPlace
 pub mod FreePages

@@ -25,7 +25,7 @@ marked_more a b c from at to v low high one two = record {
   ];
 }
 
--- what lies behind a range is as before
+-- what lies after a range is as before
 pub behind_mark : (a b : List Bool) (from at : ℕ) (v : Bool) → IsMarked a from at v b → (i : ℕ) → at ≤ i → get_or b i false ≡ get_or a i false
 behind_mark a b from at v marked i low = marked.each i ∙ cond-false _ _ _ (out_of_range_from from at i (λ _. low))
 

@@ -5,11 +5,11 @@ use Rattle.std.proofs.lemmas.List.{get_or_past}
 use Rattle.page_map.specs.Owners.{is_usable, owner_of}
 use Rattle.subpool_store.specs.Search.{may_take, NoneFits}
 
--- behind the last doubleword there is nothing to take
+-- after the last doubleword there is nothing to take
 pub past_fails : (bits : List Bool) (pages : List (Option ℕ)) (s i : ℕ) → length bits ≤ i → may_take bits pages s i ≡ false
 past_fails bits pages s i past = ap (λ b. not b && is_usable s (owner_of pages (i / 512))) (get_or_past bits i true past)
 
--- what does not go on with a run begins behind its end
+-- what does not go on with a run begins after its end
 pub begins_behind : (start end : ℕ) → (start ≡ end → ⊥) → end ≤ start → end < start
 begins_behind start end no_more low = elim (cases_eq start end) [ inl is ↦ absurd (no_more is) | inr other ↦ omega (arith, other, low) ]
 

@@ -29,7 +29,7 @@ pub enum PageUse {
     End,
 }
 
-// What the entry of a page of this owner is.
+// Returns what the entry of a page of this owner is.
 fn entry_by(owner: Option<SubpoolId>, subpool: SubpoolId) -> PageUse
     ensures { result ≡ entry_by subpool owner }
 {
@@ -40,7 +40,7 @@ fn entry_by(owner: Option<SubpoolId>, subpool: SubpoolId) -> PageUse
     }
 }
 
-// Whether the page of an entry is the subpool's own and nothing of it is free: its queue is empty.
+// Returns whether the page of an entry is the subpool's own and nothing of it is free: its queue is empty.
 fn is_full(memory: &Memory, page: usize, entry: PageUse) -> bool
     requires { IsOwn entry → is_open memory.now.bytes page ≡ true }
     ensures full { result ≡ true
@@ -50,7 +50,7 @@ fn is_full(memory: &Memory, page: usize, entry: PageUse) -> bool
 {
     match entry {
         PageUse::Own => memory.is_full(page),
-        _ => false,
+        PageUse::Free | PageUse::Other | PageUse::End => false,
     }
 }
 

@@ -23,12 +23,12 @@ pub fn are_held_in(memory: &Memory, page: usize, from: usize, to: usize) -> bool
 {
     let mut at = PAGE_DOUBLEWORDS * page;
     let mut queue = memory.first(page);
-    'runs: while let Some((run, behind)) = memory.next_free(page, at, queue) {
+    'runs: while let Some((run, rest)) = memory.next_free(page, at, queue) {
         if from < run.end {
             return to <= run.start;
         }
         at = run.end;
-        queue = behind;
+        queue = rest;
     }
     true
 }
@@ -44,17 +44,17 @@ pub fn are_free_in(memory: &Memory, page: usize, from: usize, to: usize) -> bool
 {
     let mut at = PAGE_DOUBLEWORDS * page;
     let mut queue = memory.first(page);
-    'runs: while let Some((run, behind)) = memory.next_free(page, at, queue) {
+    'runs: while let Some((run, rest)) = memory.next_free(page, at, queue) {
         if from < run.end {
             return run.start <= from && to <= run.end;
         }
         at = run.end;
-        queue = behind;
+        queue = rest;
     }
     false
 }
 
-// Whether each of some doublewords of open pages is held.
+// Returns whether each of some doublewords of open pages is held.
 pub fn are_held(memory: &Memory, run: Run) -> bool
     requires some { run.start ≤ run.end }
     requires few { run.end ≤ most_doublewords }
@@ -86,10 +86,10 @@ pub fn count(memory: &Memory, page: usize) -> u32
     let mut count = 0;
     let mut at = PAGE_DOUBLEWORDS * page;
     let mut queue = memory.first(page);
-    'runs: while let Some((run, behind)) = memory.next_free(page, at, queue) {
+    'runs: while let Some((run, rest)) = memory.next_free(page, at, queue) {
         count += (run.start - at) as u32;
         at = run.end;
-        queue = behind;
+        queue = rest;
     }
     count + (PAGE_DOUBLEWORDS * page + PAGE_DOUBLEWORDS - at) as u32
 }

@@ -12,7 +12,7 @@ use mvs_model::numbers::PAGE_DOUBLEWORDS;
 use mvs_model::subpool::SubpoolId;
 use page_map::PageMap;
 
-// Whether the subpool may take each of some doublewords of a page.
+// Returns whether the subpool may take each of some doublewords of a page.
 fn may_take_part(
     memory: &Memory,
     pages: &PageMap,

@@ -97,7 +97,7 @@ impl Memory {
         self.heads[page] = queue::take(&mut self.region, page, self.heads[page], at, len);
     }
 
-    // The same, with the value in each byte of them.
+    // Takes free doublewords of a page, and sets each of their bytes to the value.
     pub fn take(&mut self, page: usize, from: usize, to: usize, value: u8)
         requires few { page < most_pages_above }
         requires some { from < to }
@@ -148,7 +148,7 @@ impl Memory {
         }
     }
 
-    // Whether all doublewords of an open page are free.
+    // Returns whether all doublewords of an open page are free.
     pub fn is_whole(&self, page: usize) -> bool
         requires { is_open self.now.bytes page ≡ true }
         ensures { MatchBool result (HasNoBit self.now.held page) (HasBit self.now.held page) }
@@ -156,7 +156,7 @@ impl Memory {
         queue::is_whole(&self.region, page, self.heads[page])
     }
 
-    // Whether all doublewords of an open page are held.
+    // Returns whether all doublewords of an open page are held.
     pub fn is_full(&self, page: usize) -> bool
         requires { is_open self.now.bytes page ≡ true }
         ensures { IsTrue result
@@ -167,7 +167,7 @@ impl Memory {
         self.heads[page].is_none()
     }
 
-    // The queue of what is free in an open page.
+    // Returns the queue of what is free in an open page.
     pub fn first(&self, page: usize) -> Head
         requires { is_open self.now.bytes page ≡ true }
         ensures { IsCursor self.now page (page_doublewords * page) result }
@@ -223,7 +223,7 @@ impl Memory {
         self.region.fill(at, n, value);
     }
 
-    // Some bytes that are held.
+    // Returns some bytes that are held.
     pub fn part(&self, at: usize, n: usize) -> &[u8]
         requires { IsHeldPart self.now.held at n }
         ensures len { length result.now ≡ n }

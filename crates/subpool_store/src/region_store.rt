@@ -44,7 +44,7 @@ use page_map::PageMap;
 use std::alloc::Global;
 use std::marker::Model;
 
-// The indices of the doublewords of a place.
+// Returns the indices of the doublewords of a place.
 fn run_of(first: u32, place: Place) -> Run
     requires { first ≤ place.addr / 8 }
     ensures start { result.start ≡ place.addr / 8 - first }
@@ -179,7 +179,7 @@ fn give_up_pages(pages: &mut PageMap, memory: &mut Memory, from: usize, to: usiz
     }
 }
 
-// Whether the pages of a range are all the subpool's.
+// Returns whether the pages of a range are all the subpool's.
 fn are_of(pages: &PageMap, subpool: SubpoolId, from: usize, to: usize) -> bool
     requires ordered { from ≤ to }
     requires within { to ≤ length pages.now }
@@ -193,7 +193,7 @@ fn are_of(pages: &PageMap, subpool: SubpoolId, from: usize, to: usize) -> bool
     true
 }
 
-// Whether the subpool holds each doubleword of a run.
+// Returns whether the subpool holds each doubleword of a run.
 fn holds_run(memory: &Memory, pages: &PageMap, subpool: SubpoolId, run: Run) -> bool
     requires some { run.start < run.end }
     requires within { run.end ≤ length memory.now.held }
@@ -215,7 +215,7 @@ fn holds_run(memory: &Memory, pages: &PageMap, subpool: SubpoolId, run: Run) -> 
     are_held(memory, run)
 }
 
-// Whether the page is the subpool's.
+// Returns whether the page is the subpool's.
 fn is_own(pages: &PageMap, subpool: SubpoolId, page: usize) -> bool
     requires { page < length pages.now }
     ensures { MatchBool result (owner_of pages.now page ≡ Some subpool)
@@ -224,7 +224,7 @@ fn is_own(pages: &PageMap, subpool: SubpoolId, page: usize) -> bool
     pages.owner(page) == Some(subpool)
 }
 
-// How many doublewords of a page the subpool holds.
+// Returns how many doublewords of a page the subpool holds.
 fn count_page(memory: &Memory, pages: &PageMap, subpool: SubpoolId, page: usize) -> u32
     requires few { length pages.now ≤ most_pages_above }
     requires within { page < length pages.now }
@@ -241,7 +241,7 @@ fn count_page(memory: &Memory, pages: &PageMap, subpool: SubpoolId, page: usize)
     }
 }
 
-// How many doublewords the subpool holds.
+// Returns how many doublewords the subpool holds.
 fn count(memory: &Memory, pages: &PageMap, subpool: SubpoolId) -> u32
     requires few { length pages.now ≤ most_pages_above }
     requires opened { IsOpened pages.now memory.now.bytes }
@@ -256,16 +256,14 @@ fn count(memory: &Memory, pages: &PageMap, subpool: SubpoolId) -> u32
     count
 }
 
-// Who holds a doubleword.
+// Returns who holds a doubleword.
 fn cell(memory: &Memory, pages: &PageMap, index: usize) -> Option<SubpoolId>
     requires within { index < page_doublewords * length pages.now }
     requires few { length pages.now ≤ most_pages_above }
     requires opened { IsOpened pages.now memory.now.bytes }
     ensures { result ≡ cell memory.now.held pages.now index }
 {
-    let Some(owner) = pages.owner(index / PAGE_DOUBLEWORDS) else {
-        return None;
-    };
+    let owner = pages.owner(index / PAGE_DOUBLEWORDS)?;
     if are_held_in(memory, index / PAGE_DOUBLEWORDS, index, index + 1) {
         Some(owner)
     } else {
@@ -340,7 +338,7 @@ impl RegionStore {
         take_run(&mut self.pages, &mut self.memory, subpool, run, fill);
     }
 
-    // Whether the subpool holds each doubleword of the place.
+    // Returns whether the subpool holds each doubleword of the place.
     pub fn holds(&self, subpool: SubpoolId, place: Place) -> bool
         requires whole { IsWhole place }
         requires some { 8 ≤ place.len }
@@ -398,7 +396,7 @@ impl RegionStore {
         drop_pages(&mut self.pages, &mut self.memory, subpools);
     }
 
-    // Who holds the doubleword of an address.
+    // Returns who holds the doubleword of an address.
     pub fn holder(&self, addr: Addr) -> Option<SubpoolId>
         ensures { result ≡ get self.now.held (addr / 8) }
     {
@@ -409,7 +407,7 @@ impl RegionStore {
         cell(&self.memory, &self.pages, (at - self.first) as usize)
     }
 
-    // How many doublewords the subpool holds.
+    // Returns how many doublewords the subpool holds.
     pub fn count(&self, subpool: SubpoolId) -> u32
         ensures count { result
             ≡ count_below (page_doublewords * self.now.pages)
@@ -419,14 +417,14 @@ impl RegionStore {
         count(&self.memory, &self.pages, subpool)
     }
 
-    // How many pages the region has.
+    // Returns how many pages the region has.
     pub fn page_count(&self) -> u32
         ensures { result ≡ self.now.pages }
     {
         self.pages.pages() as u32
     }
 
-    // How many pages hold nothing.
+    // Returns how many pages hold nothing.
     pub fn free_pages(&self) -> u32
         ensures free { AreFree self.now result }
         ensures most { result ≤ most_pages_above }
@@ -434,7 +432,7 @@ impl RegionStore {
         self.pages.free_pages() as u32
     }
 
-    // The subpool that the page of an address is assigned to.
+    // Returns the subpool that the page of an address is assigned to.
     pub fn page_owner(&self, addr: Addr) -> Option<SubpoolId>
         ensures { OwnsPage self.now (addr / page_bytes) result }
     {
@@ -446,7 +444,7 @@ impl RegionStore {
         self.pages.owner((page - first) as usize)
     }
 
-    // The bytes of a place.
+    // Returns the bytes of a place.
     pub fn part(&self, place: Place) -> &[u8]
         requires { AllHeldIn self.now place }
         ensures len { length result.now ≡ place.len }

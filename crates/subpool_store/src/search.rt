@@ -35,6 +35,7 @@ pub struct SearchResult {
 }
 
 impl SearchResult {
+    /// Makes the result of a search.
     pub fn new(place: Option<Place>, steps: u32) -> SearchResult
         ensures place { result.place ≡ place }
         ensures steps { result.steps ≡ steps }
@@ -43,7 +44,7 @@ impl SearchResult {
     }
 }
 
-// The bytes of a run.
+// Returns the bytes of a run.
 fn run_place(first: u32, run: Run) -> Place
     requires end { 8 * (first + run.end) ≤ 2 ^ 31 }
     requires some { run.start < run.end }
@@ -89,7 +90,7 @@ fn lowest_in(run: Place, want: &Want, only: Option<u32>) -> Option<Place>
     }
 }
 
-// The highest of the longest places of a run.
+// Returns the highest of the longest places of a run.
 fn highest_in(run: Place, want: &Want, only: Option<u32>) -> Option<Place>
     requires run { IsRun run }
     requires wanted { IsWant want.now }
@@ -102,7 +103,7 @@ fn highest_in(run: Place, want: &Want, only: Option<u32>) -> Option<Place>
     }
 }
 
-// A longest place of a run, the one that the placement takes.
+// Returns a longest place of a run, the one that the placement takes.
 fn best_in(placement: Placement, run: Place, want: &Want, only: Option<u32>) -> Option<Place>
     requires run { IsRun run }
     requires wanted { IsWant want.now }
@@ -115,7 +116,7 @@ fn best_in(placement: Placement, run: Place, want: &Want, only: Option<u32>) -> 
     }
 }
 
-// The longer of two places, the first one if they are of one length.
+// Returns the longer of two places, the first one if they are of one length.
 pub fn longer(one: Option<Place>, other: Option<Place>) -> Option<Place>
     ensures either { (result ≡ one) ⊎ ((result ≡ other) × IsShorter one other) }
     ensures one { (n : ℕ) → Beats one n → Beats result n }
@@ -141,14 +142,14 @@ pub fn is_longest(place: &Option<Place>, want: &Want) -> bool
 }
 
 // Returns the longer one of two places, or if they are equally long, the one that the placement selects.
-fn preferred(placement: Placement, one: Option<Place>, behind: Option<Place>) -> Option<Place>
-    ensures either { (result ≡ one) ⊎ (result ≡ behind) }
+fn preferred(placement: Placement, one: Option<Place>, other: Option<Place>) -> Option<Place>
+    ensures either { (result ≡ one) ⊎ (result ≡ other) }
     ensures one { (n : ℕ) → Beats one n → Beats result n }
-    ensures behind { (n : ℕ) → Beats behind n → Beats result n }
+    ensures other { (n : ℕ) → Beats other n → Beats result n }
 {
     match placement {
-        Placement::Low => longer(one, behind),
-        Placement::High => longer(behind, one),
+        Placement::Low => longer(one, other),
+        Placement::High => longer(other, one),
     }
 }
 

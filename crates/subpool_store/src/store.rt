@@ -36,7 +36,9 @@ use crate::region_store::RegionStore;
 use crate::search::{SearchResult, is_longest, longer};
 use boundary_loc::at_in;
 use mvs_model::error::OutOfMemory;
-use mvs_model::numbers::{ABOVE_BEGINS, FIRST_DOUBLEWORD_ABOVE, FIRST_DOUBLEWORD_BELOW};
+use mvs_model::numbers::{
+    ABOVE_BEGINS, FIRST_DOUBLEWORD_ABOVE, FIRST_DOUBLEWORD_BELOW, LAST_ADDRESS,
+};
 use mvs_model::place::{Addr, Place};
 use mvs_model::subpool::SubpoolId;
 use mvs_model::subpool_set::SubpoolSet;
@@ -86,13 +88,13 @@ fn is_below(place: Place) -> bool
     u64::from(place.addr().get()) + u64::from(place.len()) <= u64::from(ABOVE_BEGINS)
 }
 
-// Whether the place ends at the last address or before.
+// Returns whether the place ends at the last address or before.
 fn has_addresses(place: Place) -> bool
     ensures within { MatchBool result (place.addr + place.len ≤ 2 ^ 31)
         (2 ^ 31 < place.addr + place.len) }
     ensures some { 1 ≤ place.len }
 {
-    place.addr().get() + place.len() <= 0x8000_0000
+    place.addr().get() + place.len() <= LAST_ADDRESS + 1
 }
 
 // Returns the doublewords that have a byte of the place, as a place.
@@ -107,7 +109,7 @@ fn whole_doublewords(place: Place) -> Place
     Place::new(Addr::new(first), len)
 }
 
-// The best place in the region above, if a place may be there.
+// Returns the best place in the region above, if a place may be there.
 fn find_above(
     placement: Placement,
     above: &RegionStore,
@@ -171,7 +173,7 @@ impl Store {
         SearchResult::new(longer(above.place, below.place), above.steps + below.steps)
     }
 
-    /// The place that an `obtain` takes, which is not made.
+    /// Returns the place that an `obtain` takes, which is not made.
     pub fn find(&self, subpool: SubpoolId, want: &Want) -> Option<Place>
         ensures { MatchOption result
             (NoPlace self.now.storage.regions (holder self.now.storage) subpool want.now)
@@ -180,7 +182,7 @@ impl Store {
         self.search(subpool, want).place
     }
 
-    // How many pages the regions have that a side allows.
+    // Returns how many pages the regions have that a side allows.
     fn page_entries(&self, side: Side) -> u32
         ensures { result ≡ page_entries self.now.storage.regions side }
     {
@@ -207,7 +209,7 @@ impl Store {
         }
     }
 
-    // Whether the place is open to the subpool.
+    // Returns whether the place is open to the subpool.
     fn is_open(&self, subpool: SubpoolId, place: Place) -> bool
         requires whole { IsWhole place }
         requires some { 8 ≤ place.len }
@@ -310,17 +312,13 @@ impl Store {
         let _ = want.least();
         let found = self.search(subpool, want);
         self.steps = found.steps;
-        match found.place {
-            None => None,
-            Some(found) => {
-                let taken = self.hint(subpool, want, found, hint);
-                self.take(subpool, taken);
-                Some(taken)
-            }
-        }
+        let place = found.place?;
+        let taken = self.hint(subpool, want, place, hint);
+        self.take(subpool, taken);
+        Some(taken)
     }
 
-    /// How many page entries and free runs the latest `obtain` counted; 0 before one.
+    /// Returns how many page entries and free runs the latest `obtain` counted; 0 before one.
     pub fn steps(&self) -> u32
         ensures { result ≡ self.now.steps }
     {
@@ -406,7 +404,7 @@ impl Store {
         }
     }
 
-    /// The subpool that holds the doubleword of an address.
+    /// Returns the subpool that holds the doubleword of an address.
     pub fn held(&self, addr: Addr) -> Option<SubpoolId>
         ensures held { result ≡ holder self.now.storage (addr / 8) }
         ensures storage { IsStorage self.now.storage }
@@ -418,21 +416,21 @@ impl Store {
         }
     }
 
-    /// How many pages the region below has.
+    /// Returns how many pages the region below has.
     pub fn pages_below(&self) -> u32
         ensures { result ≡ self.now.storage.regions.below }
     {
         self.below.page_count()
     }
 
-    /// How many pages the region above has.
+    /// Returns how many pages the region above has.
     pub fn pages_above(&self) -> u32
         ensures { result ≡ self.now.storage.regions.above }
     {
         self.above.page_count()
     }
 
-    /// How many pages of the region below hold nothing.
+    /// Returns how many pages of the region below hold nothing.
     pub fn free_below(&self) -> u32
         ensures free { result
             ≡ free_pages self.now.storage first_page_below self.now.storage.regions.below }
@@ -441,7 +439,7 @@ impl Store {
         self.below.free_pages()
     }
 
-    /// How many pages of the region above hold nothing.
+    /// Returns how many pages of the region above hold nothing.
     pub fn free_above(&self) -> u32
         ensures free { result
             ≡ free_pages self.now.storage first_page_above self.now.storage.regions.above }
@@ -450,14 +448,14 @@ impl Store {
         self.above.free_pages()
     }
 
-    /// How many bytes the subpool holds.
+    /// Returns how many bytes the subpool holds.
     pub fn held_bytes(&self, subpool: SubpoolId) -> u32
         ensures { result ≡ held_bytes self.now.storage subpool }
     {
         8 * (self.below.count(subpool) + self.above.count(subpool))
     }
 
-    /// The subpool that the page of an address is assigned to: the one that holds a doubleword of the page.
+    /// Returns the subpool that the page of an address is assigned to: the one that holds a doubleword of the page.
     pub fn page_owner(&self, addr: Addr) -> Option<SubpoolId>
         ensures { IsPageOwner self.now.storage addr result }
     {
@@ -468,7 +466,7 @@ impl Store {
         }
     }
 
-    /// The bytes of a place that is held.
+    /// Returns the bytes of a place that is held.
     pub fn bytes(&self, place: Place) -> &[u8]
         requires { AllHeld self.now.storage place }
         ensures len { length result.now ≡ place.len }
@@ -501,7 +499,7 @@ impl Store {
         }
     }
 
-    // Both places are below.
+    // Borrows the bytes of two places below.
     fn two_below(&mut self, from: Place, to: Place) -> (&[u8], &mut [u8])
         requires source { AllHeld self.old.storage from }
         requires target { AllHeld self.old.storage to }
@@ -521,7 +519,7 @@ impl Store {
         self.below.two(from, to)
     }
 
-    // Both places are above.
+    // Borrows the bytes of two places above.
     fn two_above(&mut self, from: Place, to: Place) -> (&[u8], &mut [u8])
         requires source { AllHeld self.old.storage from }
         requires target { AllHeld self.old.storage to }
@@ -541,7 +539,7 @@ impl Store {
         self.above.two(from, to)
     }
 
-    // The bytes to read are below, and those to write above.
+    // Borrows bytes below for reading, and bytes above for writing.
     fn two_up(&mut self, from: Place, to: Place) -> (&[u8], &mut [u8])
         requires source { AllHeld self.old.storage from }
         requires target { AllHeld self.old.storage to }
@@ -560,7 +558,7 @@ impl Store {
         (self.below.part(from), self.above.part_mut(to))
     }
 
-    // The bytes to read are above, and those to write below.
+    // Borrows bytes above for reading, and bytes below for writing.
     fn two_down(&mut self, from: Place, to: Place) -> (&[u8], &mut [u8])
         requires source { AllHeld self.old.storage from }
         requires target { AllHeld self.old.storage to }

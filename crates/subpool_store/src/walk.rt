@@ -40,7 +40,7 @@ pub struct PageWalk {
     pub counted: Counted,
 }
 
-// The queue of what is free in a page, where its entry is the subpool's own.
+// Returns the queue of what is free in a page, where its entry is the subpool's own.
 fn queue_of(
     memory: &Memory,
     pages: &PageMap,
@@ -56,7 +56,7 @@ fn queue_of(
     let _ = subpool;
     match entry {
         PageUse::Own => memory.first(page),
-        _ => Head::none(),
+        PageUse::Free | PageUse::Other | PageUse::End => Head::none(),
     }
 }
 
@@ -168,14 +168,14 @@ fn take_run(
     ensures { IsNextPart memory.now pages.now subpool from (counted.steps - 1) result }
 {
     let mut counted = counted;
-    let (run, behind) = found;
+    let (run, rest) = found;
     let next = from / PAGE_DOUBLEWORDS + 1;
     if run.end < PAGE_DOUBLEWORDS * next {
         return ReadPart {
             start: run.start,
             end: run.end,
             entry: PageUse::Own,
-            queue: behind,
+            queue: rest,
             counted,
         };
     }
@@ -225,9 +225,9 @@ fn examine_run(
     let page = from / PAGE_DOUBLEWORDS;
     match counted.free_run(memory, page, from, queue) {
         None => leave_page(counted, memory, pages, subpool, from),
-        Some((at, end, behind)) => {
+        Some((at, end, rest)) => {
             let run = run_at(page, at, end);
-            take_run(counted, memory, pages, subpool, from, (run, behind))
+            take_run(counted, memory, pages, subpool, from, (run, rest))
         }
     }
 }
@@ -240,7 +240,7 @@ fn continues(start: usize, end: usize) -> bool
 }
 
 impl PageWalk {
-    // A pass before the first page, whose entry it has looked at.
+    // Makes a pass before the first page, whose entry it has looked at.
     pub fn new(memory: &Memory, pages: &PageMap, subpool: SubpoolId) -> PageWalk
         requires opened { IsOpened pages.now memory.now.bytes }
         ensures walk { IsWalk memory.now pages.now subpool result }
@@ -297,7 +297,7 @@ impl PageWalk {
         let first = PAGE_DOUBLEWORDS * page;
         let mut passed = 8 * (self.end - first) as u32;
         let mut counted = self.counted;
-        'runs: while let Some((at, end, behind)) = counted.free_run(
+        'runs: while let Some((at, end, rest)) = counted.free_run(
             memory,
             page,
             first + (passed / 8) as usize,
@@ -306,17 +306,17 @@ impl PageWalk {
             if least <= ((end - at) / 8) as usize || end == PAGE_BYTES {
                 self.stand(first + (passed / 8) as usize);
                 let run = run_at(page, at, end);
-                return take_run(counted, memory, pages, subpool, self.end, (run, behind));
+                return take_run(counted, memory, pages, subpool, self.end, (run, rest));
             }
             passed = end;
-            self.queue = behind;
+            self.queue = rest;
             self.counted = counted;
         }
         self.stand(first + (passed / 8) as usize);
         leave_page(counted, memory, pages, subpool, self.end)
     }
 
-    // Whether the run that is joined so far is still of use: it may go on in the page that the pass has entered, or it is
+    // Returns whether the run that is joined so far is still of use: it may go on in the page that the pass has entered, or it is
     // no shorter than the least length.
     fn is_of_use(&self, least: usize) -> bool
         requires ordered { self.now.start ≤ self.now.end }
@@ -381,11 +381,17 @@ impl PageWalk {
         match self.entry {
             PageUse::Free => join_pages(self.counted, memory, pages, subpool, self.end),
             PageUse::Own => self.examine_own(memory, pages, subpool, least),
-            _ => pass_pages(self.counted, memory, pages, subpool, self.end),
+            PageUse::Other | PageUse::End => pass_pages(
+                self.counted,
+                memory,
+                pages,
+                subpool,
+                self.end,
+            ),
         }
     }
 
-    // The next run of doublewords that the subpool may take, joined across pages, which is no shorter than the least
+    // Returns the next run of doublewords that the subpool may take, joined across pages, which is no shorter than the least
     // length.
     pub fn next_run(
         &mut self,

@@ -17,7 +17,7 @@ use Rattle.task_owner.proofs.Reading.{the_seat, name_is, a_task, found, view-ent
 use Rattle.task_owner.proofs.Entering.{owns_given}
 use Rattle.task_owner.proofs.Admitting.{admitted_sound, admits, named_here, nobody_before, others_named}
 
--- what the callers are told, and that the fields are sound
+-- what callers learn, and that the fields are sound
 pub record AdmitsAt (d : TasksValue) (t name : Name) (gifts : GiftsValue) (residence : Residence) (key : ℕ) (next : List (Option TaskSlot)) (left : List (Option Owned)) : Type 0 where
   pub sound : IsSound next left
   pub admits : Admits d.owners t name gifts residence (directory next left).owners

@@ -12,7 +12,7 @@ use Rattle.task_owner.proofs.Reading.{the_seat, entry_is}
 use Rattle.task_owner.proofs.Labels.{unowned}
 use Rattle.task_owner.proofs.Binding.{bound_sound, binds_at, names_at}
 
--- what the callers are told, and that the fields are sound
+-- what callers learn, and that the fields are sound
 pub record BindsAt (d : TasksValue) (t : Name) (number s : ℕ) (next : List (Option TaskSlot)) (left : List (Option Owned)) : Type 0 where
   pub sound : IsSound next left
   pub binds : Binds d.owners t number s (directory next left).owners

@@ -45,7 +45,7 @@ both_not false c h = refl
 pub number_read : (x : TaskSlot) (n : ℕ) (o : Option ℕ) → o ≡ slice_index_or x.numbers n o → n < 133 → length x.numbers ≡ 133 → number_of x n ≡ o
 number_read x n o e low long = ap (λ b. cond b (item_at x.numbers n) None) (let t : ltb n 133 ≡ true = grind (arith, nat_tests) in t) ∙ read_at x.numbers n n o e refl (omega (arith, long))
 
--- two that are told to be one, and two that are not
+-- two that are reported as equal, and two that are not
 pub told_same : (o : Option ℕ) (s : ℕ) → option_eq nat_eq o (Some s) ≡ true → o ≡ Some s
 told_same None s e = absurd (let f : false ≡ true = e in cc)
 told_same (Some r) s e = ap Some (eqb-true r s e)

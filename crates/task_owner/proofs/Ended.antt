@@ -23,7 +23,7 @@ use Rattle.task_owner.proofs.Fallen.{goes_sorted, fallen_is}
 use Rattle.task_owner.proofs.Ending.{ended_sound, ends, names_end, freed_test}
 use Rattle.mvs_model.proofs.Tests.{kept_is}
 
--- what the callers are told, and that the fields are sound
+-- what callers learn, and that the fields are sound
 pub record EndsAt (d : TasksValue) (t : Name) (names : List Name) (subpools : List ℕ) (next : List (Option TaskSlot)) (left : List (Option Owned)) : Type 0 where
   pub sound : IsSound next left
   pub fallen : AreDescendants d.owners t names

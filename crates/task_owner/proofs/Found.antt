@@ -8,7 +8,7 @@ use Rattle.slab.specs.Slab.{Slab, get, entries}
 use Rattle.slab.proofs.SlabLemmas.{Contains-cons, Contains-cons_cases, Contains-entries}
 use Rattle.task_owner.specs.declared.task_slot.TaskSlot.{TaskSlot}
 
--- two names that are told to be one, and two that are not
+-- two names that are reported as equal, and two that are not
 pub one_name : (a b : List ℕ) → pointwise nat_eq a b ≡ true → a ≡ b
 one_name a b e = (slice_eq-Decides Decides-eqb a b _ refl).0 e
 

@@ -5,6 +5,8 @@ pub mod Reading
 pub mod Labels
 pub mod Subtasks
 pub mod Room
+pub mod NextNames
+pub mod NextTasks
 pub mod Nones
 pub mod Starting
 pub mod Binding

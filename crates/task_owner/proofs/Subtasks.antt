@@ -68,7 +68,7 @@ subtask_test seats owned d key id e f sound active r there back = same_test r (h
       let at = found_at seats q.0 y.0 y.1 in
       back (at.0, y.0, at.1, mother_key seats sound.distinct y.0.mother key mother.0 mother.1 (ap (λ n. has (same_name n) (mother_of seats y.0.mother)) (sym named) ∙ ap (λ (t : Task). has (same_name (name_of d id)) t.mother) y.2 ∙ q.3))
 
--- what is told of a subtask that was looked for
+-- what is known of a subtask that was looked for
 pub child_test : (seats : List (Option TaskSlot)) (owned : List (Option Owned)) (d : TasksValue) (key id : ℕ) (e : directory seats owned ≡ d) (f : key ≡ id) (sound : IsSound seats owned) (active : IsTask d id)
     → (r : Option Name) → MatchOption r ((k : ℕ) (x : TaskSlot) → item_at seats k ≡ Some x → x.mother ≢ Some key) (λ name. (k : ℕ) × (x : TaskSlot) × (item_at seats k ≡ Some x) × (x.mother ≡ Some key) × (x.name ≡ name))
     → is_some r ≡ has_subtask d.owners (name_of d id)

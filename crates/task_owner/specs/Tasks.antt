@@ -37,3 +37,7 @@ name_of d id = unwrap_or (name_at d id) []
 -- where the task of this name resides
 abbrev pub residence_of : Owners → Name → Option Residence
 residence_of o t = option_map (λ task. task.residence) (get o.tasks t)
+
+-- the task that attached the task of this name, if one did
+abbrev pub mother_of : Owners → Name → Option (Option Name)
+mother_of o t = option_map (λ task. task.mother) (get o.tasks t)

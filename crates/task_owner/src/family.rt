@@ -15,7 +15,7 @@ use mvs_model::request::TaskNames;
 use mvs_model::subpool_set::SubpoolSet;
 use slab::Slab;
 
-// A task whose mother is not active.
+// Returns a task whose mother is not active.
 fn orphan(active: &Slab<TaskSlot>) -> Option<usize>
     ensures { MatchOption result (MothersActive active.now.slots)
         (λ k. (m : ℕ) × (x : TaskSlot) × (get active.now k ≡ Some x) × (x.mother ≡ Some m)

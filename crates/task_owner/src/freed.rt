@@ -71,7 +71,7 @@ fn lose(active: &mut Slab<TaskSlot>, key: usize, number: usize, subpool: Subpool
     }
 }
 
-// Whether a task has the subpool under the number.
+// Returns whether a task has the subpool under the number.
 fn is_held(active: &Slab<TaskSlot>, number: usize, subpool: SubpoolId) -> bool
     requires { number < subpool_numbers }
     ensures { IsTrue result

@@ -3,7 +3,7 @@
 ghost use Rattle.std.specs.Prelude.{◌≡◌, ◌<◌, ◌≤◌, ℕ, None, not, is_some, length, slice_index_or};
 ghost use Rattle.std.specs.List.{list_all};
 
-// Whether none of some entries holds something.
+// Returns whether none of some entries holds something.
 fn are_none<T: Copy>(entries: &[Option<T>]) -> bool
     ensures { result ≡ list_all (λ s. not (is_some s)) entries.now }
 {

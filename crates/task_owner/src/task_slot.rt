@@ -1,7 +1,8 @@
 //! A task with its subpools, and who owns a subpool.
 
-ghost use Rattle.std.specs.Prelude.{◌≡◌, ◌≢◌, ◌<◌, ◌≤◌, ◌↔◌, ℕ, length, replicate, IsTrue, IsSome, IfOk, MatchOption, Some, None, slice_set};
+ghost use Rattle.std.specs.Prelude.{◌≡◌, ◌≢◌, ◌<◌, ◌≤◌, ◌↔◌, ℕ, false, length, replicate, IsTrue, IsSome, IfOk, MatchOption, Some, None, slice_set};
 ghost use Rattle.slab.specs.Slab.{get, slab_len};
+ghost use Rattle.mvs_model.specs.NextName.{is_before, IsAfter};
 ghost use Rattle.mvs_model.specs.Numbers.{most_subpools, subpool_numbers};
 ghost use Rattle.task_owner.specs.Seats.{item_at};
 ghost use Rattle.task_owner.specs.declared.task_slot.TaskSlot.{TaskSlot};
@@ -9,6 +10,7 @@ ghost use Rattle.task_owner.specs.declared.task_slot.Owned.{Owned};
 
 use crate::skipping::pass_none;
 use mvs_model::name::Name;
+use mvs_model::next_name::first_of;
 use mvs_model::numbers::{MOST_SUBPOOLS, SUBPOOL_NUMBERS};
 use mvs_model::subpool::SubpoolId;
 use mvs_model::want::Residence;
@@ -37,7 +39,7 @@ pub(crate) struct Owned {
     pub(crate) number: u8,
 }
 
-// The task at a key.
+// Returns the task at a key.
 pub(crate) fn seat_at(active: &Slab<TaskSlot>, key: usize) -> &TaskSlot
     requires { IsSome (get active.now key) }
     ensures { get active.now key ≡ Some result.now }
@@ -66,7 +68,7 @@ pub(crate) fn enter(active: &mut Slab<TaskSlot>, key: usize, number: usize, subp
     }
 }
 
-// The key of the task of this name.
+// Returns the key of the task of this name.
 pub(crate) fn find_key(active: &Slab<TaskSlot>, name: Name) -> Option<usize>
     ensures { MatchOption result ((k : ℕ) (x : TaskSlot) → get active.now k ≡ Some x → x.name ≢ name)
         (λ k. (x : TaskSlot) × (get active.now k ≡ Some x) × (x.name ≡ name)) }
@@ -79,7 +81,7 @@ pub(crate) fn find_key(active: &Slab<TaskSlot>, name: Name) -> Option<usize>
     None
 }
 
-// The task without a mother.
+// Returns the task without a mother.
 pub(crate) fn find_first(active: &Slab<TaskSlot>) -> Option<usize>
     ensures { MatchOption result ((k : ℕ) (x : TaskSlot) → get active.now k ≡ Some x → x.mother ≢ None)
         (λ k. (x : TaskSlot) × (get active.now k ≡ Some x) × (x.mother ≡ None)) }
@@ -92,7 +94,7 @@ pub(crate) fn find_first(active: &Slab<TaskSlot>) -> Option<usize>
     None
 }
 
-// The name of a task that has the mother at the key.
+// Returns the name of a task that has the mother at the key.
 pub(crate) fn find_child(active: &Slab<TaskSlot>, mother: usize) -> Option<Name>
     ensures { MatchOption result
         ((k : ℕ) (x : TaskSlot) → get active.now k ≡ Some x → x.mother ≢ Some mother)
@@ -107,7 +109,23 @@ pub(crate) fn find_child(active: &Slab<TaskSlot>, mother: usize) -> Option<Name>
     None
 }
 
-// The lowest subpool without an owner.
+// Returns the first name of a task in byte order after the given one.
+pub(crate) fn find_next(active: &Slab<TaskSlot>, given: &Option<Name>) -> Option<Name>
+    ensures { MatchOption result
+        ((k : ℕ) (x : TaskSlot) → get active.now k ≡ Some x → IsAfter x.name given.now → ⊥)
+        (λ next. ((k : ℕ) × (x : TaskSlot) × (get active.now k ≡ Some x) × (x.name ≡ next)
+        × IsAfter next given.now)
+        × ((k : ℕ) (x : TaskSlot) → get active.now k ≡ Some x → IsAfter x.name given.now
+        → is_before x.name next ≡ false)) }
+{
+    let mut next = None;
+    for (_, seat) in active.iter() {
+        next = first_of(next, seat.name, given);
+    }
+    next
+}
+
+// Returns the lowest subpool without an owner.
 pub(crate) fn first_spare(owned: &[Option<Owned>]) -> usize
     requires { (s : ℕ) × (s < length owned.now) × (item_at owned.now s ≡ None) }
     ensures spare { item_at owned.now result ≡ None }
@@ -122,7 +140,7 @@ pub(crate) fn first_spare(owned: &[Option<Owned>]) -> usize
     unreachable!()
 }
 
-// The first subpool from a number on that has an owner.
+// Returns the first subpool from a number on that has an owner.
 pub(crate) fn first_owned(owned: &[Option<Owned>], from: usize) -> Option<usize>
     requires { from ≤ length owned.now }
     ensures { MatchOption result
@@ -143,8 +161,6 @@ pub(crate) fn first_owned(owned: &[Option<Owned>], from: usize) -> Option<usize>
 pub(crate) fn no_owners(alloc: Global) -> Result<Vec<Option<Owned>>, AllocError>
     ensures { IfOk result (λ v. v.items ≡ replicate most_subpools None) }
 {
-    match vec![in alloc; None; MOST_SUBPOOLS] {
-        Ok(owned) => Ok(owned),
-        Err(error) => Err(error),
-    }
+    let owned = vec![in alloc; None; MOST_SUBPOOLS]?;
+    Ok(owned)
 }

@@ -14,15 +14,16 @@ ghost use Rattle.mvs_model.specs.Causes.{Passed, Refused, attach_causes};
 ghost use Rattle.mvs_model.specs.declared.name.Name.{Name as TheName};
 ghost use Rattle.mvs_model.specs.Start.{first_owners};
 ghost use Rattle.task_owner.specs.Handing.{GetsEntry, SharesBelow, Admits};
+ghost use Rattle.mvs_model.specs.NextName.{IsNextName};
 ghost use Rattle.mvs_model.specs.NextOwned.{IsNextOwned};
-ghost use Rattle.task_owner.specs.Tasks.{name_at, IsTask, name_of, residence_of};
+ghost use Rattle.task_owner.specs.Tasks.{name_at, IsTask, mother_of, name_of, residence_of};
 
 use crate::family::{remove_alone, remove_family};
 use crate::freed::free_subpools;
 use crate::handing::{hand_over, pass_on};
 use crate::task_slot::{
-    Owned, SLOTS, TaskSlot, enter, find_child, find_first, find_key, first_owned, first_spare,
-    no_owners, seat_at,
+    Owned, SLOTS, TaskSlot, enter, find_child, find_first, find_key, find_next, first_owned,
+    first_spare, no_owners, seat_at,
 };
 use mvs_model::error::OutOfMemory;
 use mvs_model::gifts::Gifts;
@@ -107,19 +108,17 @@ impl Tasks {
         Ok(Tasks { active, owned })
     }
 
-    /// The active task of this name.
+    /// Returns the active task of this name.
     pub fn find(&self, name: &Name) -> Option<TaskId>
         ensures active { is_some result ≡ is_active self.now.owners name.now }
         ensures named { IfSome result (λ id. name_at self.now id ≡ Some name.now) }
         ensures kept { OwnersConsistent self.now.owners }
     {
-        match find_key(&self.active, *name) {
-            Some(key) => Some(TaskId { key }),
-            None => None,
-        }
+        let key = find_key(&self.active, *name)?;
+        Some(TaskId { key })
     }
 
-    /// The active task of a name.
+    /// Returns the active task of a name.
     pub fn task_of(&self, name: Name) -> TaskId
         requires { is_active self.now.owners name ≡ true }
         ensures { name_at self.now result ≡ Some name }
@@ -130,7 +129,7 @@ impl Tasks {
         t
     }
 
-    /// Whether the task has a subtask that is active.
+    /// Returns whether the task has a subtask that is active.
     pub fn has_active_subtasks(&self, t: TaskId) -> bool
         requires { IsTask self.now t }
         ensures { result ≡ has_subtask self.now.owners (name_of self.now t) }
@@ -138,7 +137,7 @@ impl Tasks {
         self.subtask(t).is_some()
     }
 
-    /// A subtask of the task that is active.
+    /// Returns an active subtask of the task.
     pub fn subtask(&self, t: TaskId) -> Option<Name>
         requires { IsTask self.now t }
         ensures active { is_some result ≡ has_subtask self.now.owners (name_of self.now t) }
@@ -148,7 +147,7 @@ impl Tasks {
         find_child(&self.active, t.key)
     }
 
-    /// Where the task's program resides (Assembler Services Reference, GETMAIN, LOC=RES).
+    /// Returns where the task's program resides (Assembler Services Reference, GETMAIN, LOC=RES).
     pub fn residence(&self, t: TaskId) -> Residence
         requires { IsTask self.now t }
         ensures { residence_of self.now.owners (name_of self.now t) ≡ Some result }
@@ -156,7 +155,18 @@ impl Tasks {
         seat_at(&self.active, t.key).residence
     }
 
-    // The task whose subpool a task means by a number: the job step task for 131 and 132, and else the task itself.
+    /// Returns the name of the task that attached the task. The job step task has none.
+    pub fn mother(&self, t: TaskId) -> Option<Name>
+        requires { IsTask self.now t }
+        ensures { mother_of self.now.owners (name_of self.now t) ≡ Some result }
+    {
+        match seat_at(&self.active, t.key).mother {
+            Some(mother) => Some(seat_at(&self.active, mother).name),
+            None => None,
+        }
+    }
+
+    // Returns the task whose subpool a task means by a number: the job step task for 131 and 132, and else the task itself.
     fn effective_task(&self, t: TaskId, number: SubNo) -> TaskId
         requires { IsTask self.now t }
         ensures { name_at self.now result
@@ -168,7 +178,7 @@ impl Tasks {
         }
     }
 
-    /// The name of the task whose subpool a task means by a number.
+    /// Returns the name of the task whose subpool a task means by a number.
     pub fn keeper_name(&self, t: TaskId, number: SubNo) -> Name
         requires { IsTask self.now t }
         ensures { result ≡ effective_task self.now.owners (name_of self.now t) number }
@@ -176,7 +186,7 @@ impl Tasks {
         seat_at(&self.active, self.effective_task(t, number).key).name
     }
 
-    // The job step task, where each task means its subpool by the number.
+    // Returns the job step task, where each task means its subpool by the number.
     fn common_keeper(&self, number: SubNo) -> Option<TaskId>
         ensures { MatchOption result ((t : TheName) → effective_task self.now.owners t number ≡ t)
             (λ id. (t : TheName) → name_at self.now id ≡ Some (effective_task self.now.owners t number)) }
@@ -184,13 +194,11 @@ impl Tasks {
         if !number.is_of_step() {
             return None;
         }
-        match find_first(&self.active) {
-            Some(first) => Some(TaskId { key: first }),
-            None => None,
-        }
+        let key = find_first(&self.active)?;
+        Some(TaskId { key })
     }
 
-    /// The subpool that the task has under the number, its own or one that it shares (Assembler Services Guide, owning and
+    /// Returns the subpool that the task has under the number, its own or one that it shares (Assembler Services Guide, owning and
     /// sharing subpools).
     pub fn entry(&self, t: TaskId, number: SubNo) -> Option<SubpoolId>
         requires { IsTask self.now t }
@@ -199,7 +207,7 @@ impl Tasks {
         seat_at(&self.active, t.key).numbers[number.get() as usize]
     }
 
-    /// The subpools that the task has, its own and those that it shares, each at the place of its number.
+    /// Returns the subpools that the task has, its own and those that it shares, each at the place of its number.
     pub fn entries(&self, t: TaskId) -> &[Option<SubpoolId>]
         requires { IsTask self.now t }
         ensures len { length result.now ≡ subpool_numbers }
@@ -209,7 +217,7 @@ impl Tasks {
         &seat_at(&self.active, t.key).numbers
     }
 
-    /// The subpool that the task means by the number: that of the job step task for 131 and 132, and else its own (this
+    /// Returns the subpool that the task means by the number: that of the job step task for 131 and 132, and else its own (this
     /// project's choice).
     pub fn subpool(&self, t: TaskId, number: SubNo) -> Option<SubpoolId>
         requires { IsTask self.now t }
@@ -218,7 +226,7 @@ impl Tasks {
         self.entry(self.effective_task(t, number), number)
     }
 
-    /// Whether the task has a subpool under the number and owns it.
+    /// Returns whether the task has a subpool under the number and owns it.
     pub fn owns(&self, t: TaskId, number: SubNo) -> bool
         requires { IsTask self.now t }
         ensures { result
@@ -231,7 +239,7 @@ impl Tasks {
         }
     }
 
-    // Whether the task owns the subpool.
+    // Returns whether the task owns the subpool.
     fn is_owner(&self, t: TaskId, subpool: SubpoolId) -> bool
         requires { IsTask self.now t }
         ensures { result ≡ owns self.now.owners (name_of self.now t) subpool }
@@ -242,7 +250,7 @@ impl Tasks {
         }
     }
 
-    /// The lowest subpool that no task owns, for a number by which the task means none. That it is the lowest is this
+    /// Returns the lowest subpool that no task owns, for a number by which the task means none. That it is the lowest is this
     /// project's choice.
     pub fn spare(&self, t: TaskId, number: SubNo) -> SubpoolId
         requires active { IsTask self.now t }
@@ -313,7 +321,7 @@ impl Tasks {
         Ok(self.admit(mother, name, gifts, residence))
     }
 
-    // Why an attach is refused, if it is.
+    // Returns why an ATTACH is refused, if it is.
     fn refusal(&self, mother: TaskId, name: &Name, gifts: &Gifts) -> Option<Refusal>
         requires { IsTask self.now mother }
         ensures { let causes = attach_causes self.now.owners (name_of self.now mother) name.now
@@ -332,14 +340,14 @@ impl Tasks {
         None
     }
 
-    /// Whether no more tasks can be active.
+    /// Returns whether no more tasks can be active.
     pub fn is_full(&self) -> bool
         ensures { result ≡ nat_le most_tasks (len self.now.owners.tasks) }
     {
         self.active.len() >= MOST_TASKS
     }
 
-    /// A number that the task gives, under which it has a subpool that it does not own.
+    /// Returns a number that the task gives, under which it has a subpool that it does not own.
     pub fn shared_gift(&self, mother: TaskId, gifts: &Gifts) -> Option<SubNo>
         requires { IsTask self.now mother }
         ensures given { is_some result
@@ -361,7 +369,7 @@ impl Tasks {
         None
     }
 
-    // Whether the task has a subpool under the number and does not own it.
+    // Returns whether the task has a subpool under the number and does not own it.
     fn is_shared(&self, t: TaskId, number: SubNo) -> bool
         requires { IsTask self.now t }
         ensures { result
@@ -473,23 +481,26 @@ impl Tasks {
             × (entry self.now.owners r.1 r.0 ≡ Some subpool)) }
         ensures kept { OwnersConsistent self.now.owners }
     {
-        match self.owned[subpool.get() as usize] {
-            Some(owned) => Some((
-                SubNo::of(owned.number),
-                seat_at(&self.active, owned.owner).name,
-            )),
-            None => None,
-        }
+        let owned = self.owned[subpool.get() as usize]?;
+        Some((
+            SubNo::of(owned.number),
+            seat_at(&self.active, owned.owner).name,
+        ))
     }
 
-    /// The first subpool from a number on that a task owns.
+    /// Returns the name of the first task in byte order after the given one, or of the first of all where none is given.
+    pub fn next_task(&self, given: &Option<Name>) -> Option<Name>
+        ensures { IsNextName (get self.now.owners.tasks) given.now result }
+    {
+        find_next(&self.active, given)
+    }
+
+    /// Returns the first subpool from a number on that a task owns.
     pub fn next_owned(&self, from: u16) -> Option<SubpoolId>
         requires { from ≤ most_subpools }
         ensures { IsNextOwned self.now.owners from result }
     {
-        match first_owned(&self.owned, usize::from(from)) {
-            Some(s) => Some(SubpoolId::new(s as u16)),
-            None => None,
-        }
+        let first = first_owned(&self.owned, usize::from(from))?;
+        Some(SubpoolId::new(first as u16))
     }
 }

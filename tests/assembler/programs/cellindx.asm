@@ -35,8 +35,7 @@ NODES    CPOOL GET,U,CPID=NODEPOOL,CELL=(4),REGS=SAVE
          BZ    NOTEXT
          ST    1,TEXT
 NOTEXT   DS    0H
-         L     2,ROOT
-         ST    5,0(,2)
+         BAS   14,SETKEYS
          BAS   14,TEXTS
          B     REMOVE
 *
@@ -49,6 +48,20 @@ TEXTS    LR    9,14
          L     3,WORKTEXT
          CPOOL FREE,CPID=TEXTPOOL,CELL=(3)
          BR    9
+*
+*  SETKEYS: gives both nodes their keys, and links them.
+*
+SETKEYS  L     3,LEFT
+         USING NODE,3
+         XC    NODEL(8),NODEL
+         MVC   NODEKEY,=CL16'LEFT'
+         MVC   NODETEXT,TEXT
+         L     3,ROOT
+         MVC   NODEL,LEFT
+         XC    NODER,NODER
+         MVC   NODEKEY,=CL16'ROOT'
+         DROP  3
+         BR    14
 *
 *  LEAK: the pool of nodes is deleted, that of texts is not.
 *

@@ -34,8 +34,15 @@ R15      EQU   15
          LHI   R4,FIRSTLEN
          ST    R4,BUFLEN
          STORAGE OBTAIN,LENGTH=FIRSTLEN,ADDR=BUFFER,SP=2
+         OPEN  (INPUT,(INPUT),ERRORS,(OUTPUT))
          SR    R7,R7
 READ     GET   INPUT,LINE
+         L     R1,BUFFER
+         ALR   R1,R7
+         MVC   0(80,R1),LINE
+         L     R1,LINES
+         AHI   R1,1
+         ST    R1,LINES
          LA    R7,80(,R7)
          C     R7,BUFLEN
          JH    GROW
@@ -74,7 +81,8 @@ TOOLONG  WTO   'GROWBUF - TEXT TOO LONG'
          PUT   ERRORS,(R2)
          L     R2,ERRPTR
          FREEMAIN RU,LV=ERRLEN,A=(R2)
-DONE     L     R2,WORKPTR
+DONE     CLOSE (INPUT,,ERRORS)
+         L     R2,WORKPTR
          STORAGE RELEASE,LENGTH=WORKLEN,ADDR=(R2)
 NOWORK   SR    R15,R15
          PR
@@ -85,6 +93,7 @@ ERRTEXT  DC    CL120'THE TEXT HAS MORE THAN 65536 CHARACTERS'
 WORKPTR  DS    A
 BUFFER   DS    A
 BUFLEN   DS    F
+LINES    DC    F'0'                           how many were read
 ERRPTR   DS    A
 LINE     DS    CL80
 INPUT    DCB   DDNAME=INPUT,DSORG=PS,MACRF=GM,EODAD=ENDREAD

@@ -19,7 +19,8 @@ INVENT   RMODE 24
          LR    13,1
          GETMAIN RU,LV=INVMAX*INVLEN,SP=INVSP,BNDRY=PAGE
          ST    1,TABLE
-         LR    9,1
+         OPEN  (REPORT,OUTPUT)
+         L     9,TABLE
          USING INVREC,9
          LHI   10,INVMAX
 *
@@ -48,7 +49,9 @@ COUNTED  BAS   14,TOTALS
          LTR   15,15
          BZ    LAST
          WTO   'INVENT - TOTALS DO NOT AGREE'
-LAST     L     2,TABLE
+LAST     BAS   14,HEADING
+         CLOSE (REPORT)
+         L     2,TABLE
          FREEMAIN RU,LV=INVMAX*INVLEN,A=(2),SP=INVSP
          L     13,SAVEAREA+4
          LM    14,12,12(13)
@@ -66,11 +69,28 @@ TOTALS   ST    14,TOTRET
          SR    15,15
          L     14,TOTRET
          BR    14
+*
+*  HEADING: prints a heading and the number of articles.
+*
+HEADING  L     3,INVCOUNT
+         CVD   3,DOUBLE
+         MVC   TOTLINE,BLANKS
+         MVC   TOTLINE(20),=CL20'1ARTICLES COUNTED'
+         UNPK  TOTLINE+21(8),DOUBLE
+         OI    TOTLINE+28,C'0'
+         ST    14,HEADRET
+         PUT   REPORT,TOTLINE
+         L     14,HEADRET
+         BR    14
 SAVEAREA DC    18F'0'
 TABLE    DS    A
 ARTICLE  DS    A
 TOTRET   DS    A
 TOTLINE  DC    CL133' '
+BLANKS   DC    CL133' '
+HEADRET  DS    A
+DOUBLE   DS    D
+REPORT   DCB   DDNAME=REPORT,DSORG=PS,MACRF=PM,RECFM=FBA,LRECL=133
          LTORG
          DROP
 *

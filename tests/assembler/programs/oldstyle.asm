@@ -12,7 +12,7 @@ OLDSTYLE START 0
          LA    15,SAVE
          ST    15,8(13)
          LR    13,15
-         OPEN  (CARDS,INPUT)
+         OPEN  (CARDS,INPUT,LISTING,OUTPUT)
          GETMAIN LC,LA=LENGTHS,A=AREAS,SP=1
          LTR   15,15
          BNZ   NOCORE
@@ -52,7 +52,8 @@ PRINT    STM   9,10,SAVEP
          GETMAIN VU,LA=MINMAX,A=LINES,SP=3
          L     6,LINES
          L     7,LINES+4
-PRINTL   MVC   0(120,6),BLANKS
+         BAL   9,HEAD
+PRINTL   MVC   0(120,6),TITLE
          LA    6,120(6)
          SH    7,=H'120'
          BP    PRINTL
@@ -60,11 +61,21 @@ PRINTL   MVC   0(120,6),BLANKS
          LM    9,10,SAVEP
          BR    10
 *
+*        HEAD COUNTS THE PAGES, AND PRINTS THE HEADING OF ONE.
+*
+HEAD     AP    PAGENO,=P'1'
+         MVC   TITLE,BLANKS
+         MVC   TITLE(16),=C'OLDSTYLE, PAGE  '
+         UNPK  TITLE+16(3),PAGENO
+         OI    TITLE+18,X'F0'
+         PUT   LISTING,TITLE
+         BR    9
+*
 NOCORE   WTO   'OLDSTYLE - NOT ENOUGH STORAGE'
          LA    15,16
          B     EXIT1
 EXIT     SR    15,15
-EXIT1    CLOSE (CARDS)
+EXIT1    CLOSE (CARDS,,LISTING)
          L     13,SAVE+4
          RETURN (14,12),RC=(15)
 *
@@ -81,5 +92,9 @@ AREAS    DS    2A
 MINMAX   DC    F'120',F'12000'
 LINES    DS    2F
 BLANKS   DC    CL120' '
+TITLE    DC    CL120' '
+PAGENO   DC    PL2'0'
 CARDS    DCB   DDNAME=SYSIN,DSORG=PS,MACRF=GM,EODAD=NOCORE
+LISTING  DCB   DDNAME=SYSPRINT,DSORG=PS,MACRF=PM,LRECL=120,RECFM=FB
+         LTORG
          END   OLDSTYLE

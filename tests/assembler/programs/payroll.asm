@@ -1,6 +1,7 @@
 ***********************************************************************
 *  PAYROLL: the records of a month. A subtask prints the report; it   *
-*  gets the table by GSPV and shares the subpool of its buffers.      *
+*  gets the table by GSPV and shares the subpool of its buffers, and  *
+*  subpool 0, as it does unless SZERO=NO is written.                  *
 *                                                                     *
 *  OPTIONS --region 2M --schedule attach --path NEXTREC,ENDREC        *
 *  LEAK    HEADADDR                                                   *
@@ -25,24 +26,29 @@ PAYROLL  RMODE 24
          BNZ   NOTAB
          ST    1,TABADDR
          ST    0,TABLEN
+         OPEN  (PAYFILE,INPUT)
 NEXTREC  GET   PAYFILE
          CLI   0(1),C'E'
          BE    ENDREC
          LR    2,1
          L     3,TABADDR
          MVC   0(80,3),0(2)
+         PACK  DOUBLE,GROSS-RECORD(7,2)
+         AP    TOTAL,DOUBLE+3(5)
+         AP    RECORDS,=P'1'
          B     NEXTREC
 ENDREC   GETMAIN EC,LV=132,A=LINEADDR,SP=20
          LTR   15,15
          BNZ   NOLINE
-         ATTACH EP=REPORT,GSPV=10,SHSPV=20,SZERO=NO,ECB=REPECB
+         ATTACH EP=REPORT,GSPV=10,SHSPV=20,ECB=REPECB
          ST    1,REPTCB
          LTR   15,15
          BNZ   NOATT
          WAIT  ECB=REPECB
          DETACH REPTCB
 NOATT    FREEMAIN EC,LV=132,A=LINEADDR,SP=20
-NOLINE   L     2,INADDR
+NOLINE   CLOSE (PAYFILE)
+         L     2,INADDR
          FREEMAIN RU,LV=INLEN,A=(2)
 NOTAB    L     2,SAVEADDR
          L     13,4(,2)
@@ -58,6 +64,9 @@ TABLEN   DS    F
 LINEADDR DS    A
 REPECB   DC    F'0'
 REPTCB   DS    A
+DOUBLE   DS    D
+TOTAL    DC    PL6'0'
+RECORDS  DC    PL4'0'
 PAYFILE  DCB   DDNAME=PAYFILE,DSORG=PS,MACRF=GL,EODAD=ENDREC
 *
 *  The subtask. Its program is a section of the same source.
@@ -71,8 +80,8 @@ REPORT   CSECT
          LTR   1,1
          BZ    REPEND
 *
-*  LEAK: the headings are in subpool 0 of the subtask, and nobody
-*  releases them. The system does, at its end.
+*  LEAK: the headings are in subpool 0, which the subtask shares by
+*  SZERO=YES, and nobody releases them: its end does not free them.
 *
          GETMAIN R,LV=80
          ST    1,HEADADDR
@@ -87,4 +96,11 @@ REPEND   RETURN (14,12),RC=0
 BUFADDR  DS    A
 HEADADDR DS    A
 PRINTER  DCB   DDNAME=PRINTER,DSORG=PS,MACRF=PM
+*
+*  A record of the file.
+*
+RECORD   DSECT
+NUMBER   DS    CL6
+NAME     DS    CL30
+GROSS    DS    CL7
          END   PAYROLL

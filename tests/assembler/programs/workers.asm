@@ -74,6 +74,10 @@ SERVE    ST    14,SERVRET
          STORAGE OBTAIN,LENGTH=2048,ADDR=SERVBUF
          L     2,SERVBUF
          XC    0(256,2),0(2)
+         MVC   0(16,2),=CL16'REQUEST SERVED'
+         L     4,SERVED
+         LA    4,1(,4)
+         ST    4,SERVED
          STORAGE RELEASE,LENGTH=2048,ADDR=(2)
          L     14,SERVRET
          BR    14
@@ -81,6 +85,8 @@ STACKPTR DS    A
 REQPTR   DS    A
 SERVBUF  DS    A
 SERVRET  DS    A
+SERVED   DC    F'0'                           by this copy
+         LTORG
 *
 LOGGER   CSECT
          STM   14,12,12(13)

@@ -33,16 +33,22 @@ from ._library import (
     AskKind,
     EventKind,
     Form,
+    Holder,
     Location,
     Place,
+    Position,
     RawArea,
     RawAsk,
     RawEvent,
     RawHeld,
+    RawPool,
+    RawReason,
     RawRegion,
     RawRun,
     RawSession,
     RawSubpool,
+    RawTask,
+    ReasonKind,
     Status,
     StepEnd,
     field_name,
@@ -59,9 +65,14 @@ __all__ = [
     "FieldError",
     "Form",
     "HeldRun",
+    "Holder",
     "Location",
     "Page",
     "Place",
+    "Pool",
+    "Position",
+    "Reason",
+    "ReasonKind",
     "Run",
     "RunResult",
     "ScriptError",
@@ -70,6 +81,7 @@ __all__ = [
     "StepEnd",
     "StorageError",
     "Subpool",
+    "Task",
     "run",
     "version",
 ]
@@ -168,6 +180,61 @@ class HeldRun:
     number: int
     owner: Union[str, None]
     pool: Union[str, None]
+
+
+@dataclass(frozen=True)
+class Task:
+    """An active task. `mother` is the task that attached it; None for the job step task."""
+
+    name: str
+    mother: Union[str, None]
+
+
+@dataclass(frozen=True)
+class Pool:
+    """A cell pool: the bytes of a cell, and how many parts it has.
+
+    `address`, `length` and `cells` are those of the part that was added last. `owner` has the subpool of its first page under `number`.
+    """
+
+    name: str
+    cell_size: int
+    parts: int
+    address: int
+    length: int
+    cells: int
+    number: int
+    owner: str
+
+
+@dataclass(frozen=True)
+class Reason:
+    """Why a request was refused. include/mvs.h says which fields each kind has; the others are 0, None or empty.
+
+    `rule` and `second_rule` are rules of docs/RULES.md.
+    """
+
+    kind: ReasonKind
+    rule: int
+    second_rule: int = 0
+    address: int = 0
+    number: int = 0
+    length: int = 0
+    member: int = 0
+    cells: int = 0
+    cell_size: int = 0
+    longest: int = 0
+    free_runs: int = 0
+    pages_below: int = 0
+    pages_above: int = 0
+    first_address: int = 0
+    second_address: int = 0
+    position: Union[Position, None] = None
+    holder: Union[Holder, None] = None
+    holder_number: int = 0
+    holder_name: str = ""
+    task: str = ""
+    name: str = ""
 
 
 @dataclass(frozen=True)
@@ -310,6 +377,26 @@ class Session:
                 self._check(status)
                 return out.raw[: wanted.value].decode("ascii")
 
+    def why(self) -> str:
+        """Returns why the last request was refused, as mvsjob --explain prints it; an empty text if it was granted."""
+        wanted, out = ctypes.c_size_t(0), ctypes.create_string_buffer(256)
+        self._check(Status(library.mvs_why_into(self._session, out, len(out), ctypes.byref(wanted))))
+        return out.raw[: wanted.value].decode("ascii")
+
+    def reason(self) -> Union[Reason, None]:
+        """Returns why the last request was refused, as fields; None if it was granted."""
+        raw = RawReason(size=ctypes.sizeof(RawReason))
+        status = Status(library.mvs_why_fields(self._session, raw))
+        if status is Status.NO_MORE:
+            return None
+        self._check(status)
+        fields = {name: getattr(raw, name) for name, _ in RawReason._fields_ if name != "size"}
+        fields.update((name, fields[name].decode("ascii").rstrip()) for name in ("holder_name", "task", "name"))
+        fields["kind"] = ReasonKind(raw.kind)
+        fields["position"] = Position(raw.position) if raw.position else None
+        fields["holder"] = Holder(raw.holder) if raw.holder else None
+        return Reason(**fields)
+
     def end(self) -> tuple[Status, Event]:
         """Ends the job. Returns its status, OK, SOME_ABEND, or SCRIPT_FAULT if there was no step, and how its last step ended.
 
@@ -431,6 +518,10 @@ class Session:
         """Ends a task and its subtasks with a user completion code, 0 to 4095."""
         return self._request(AskKind.ABEND, task, code=code)
 
+    def system_abend(self, task: str, code: int) -> Event:
+        """Ends a task and its subtasks with a system completion code, as 0x0C1. `script` has an abend with the user code of this number."""
+        return self._request(AskKind.SYSTEM_ABEND, task, code=code)
+
     def move(self, task: str, target: int, source: int, length: int) -> Event:
         """Copies 1 to 65,536 bytes. A task that cannot access them abends with 0C4."""
         return self._request(AskKind.MOVE, task, address=target, source=source, length=length)
@@ -503,6 +594,39 @@ class Session:
             owner, pool = (bytes(name).decode("ascii").rstrip() for name in (raw.owner, raw.pool))
             yield HeldRun(raw.address, raw.length, raw.number, None if raw.pooled else owner, pool if raw.pooled else None)
             address = raw.address + raw.length
+
+    def pool(self, name: str) -> Union[Pool, None]:
+        """Returns the cell pool of a name; None if there is none."""
+        raw = RawPool(size=ctypes.sizeof(RawPool))
+        status = Status(library.mvs_pool(self._session, _name(name, "name"), raw))
+        if status is Status.NO_MORE:
+            return None
+        self._check(status)
+        owner = raw.owner.decode("ascii").rstrip()
+        return Pool(name, raw.cell_size, raw.parts, raw.address, raw.length, raw.cells, raw.number, owner)
+
+    def pools(self) -> Iterator[Pool]:
+        """Iterates over the cell pools, in the byte order of their names."""
+        raw = ctypes.create_string_buffer(8)
+        while True:
+            status = Status(library.mvs_next_pool(self._session, raw.raw, raw))
+            if status is Status.NO_MORE:
+                return
+            self._check(status)
+            found = self.pool(raw.raw.decode("ascii").rstrip())
+            if found is not None:
+                yield found
+
+    def tasks(self) -> Iterator[Task]:
+        """Iterates over the active tasks, in the byte order of their names."""
+        raw, after = RawTask(size=ctypes.sizeof(RawTask)), bytes(8)
+        while True:
+            status = Status(library.mvs_next_task(self._session, after, raw))
+            if status is Status.NO_MORE:
+                return
+            self._check(status)
+            after = raw.name
+            yield Task(raw.name.decode("ascii").rstrip(), raw.mother.decode("ascii").rstrip() or None)
 
     @property
     def script(self) -> str:

@@ -7,7 +7,7 @@ import ctypes.util
 import enum
 import os
 
-VERSION = 2001
+VERSION = 2003
 """The version of the calls that this module was written for."""
 
 
@@ -80,6 +80,51 @@ class AskKind(enum.IntEnum):
     ABEND = 10
     SHOW = 11
     MOVE = 12
+    SYSTEM_ABEND = 13
+
+
+class ReasonKind(enum.IntEnum):
+    """Why a request was refused: mvs_reason_kind."""
+
+    NOT_ACTIVE = 1
+    INVALID_NUMBER = 2
+    SHORTAGE = 3
+    NO_MEMBER = 4
+    NO_PART = 5
+    OFF_DOUBLEWORD = 6
+    NO_SUBPOOL = 7
+    NOT_HELD = 8
+    OVERLAP = 9
+    WHOLE_OF_ZERO = 10
+    POOL_IN_USE = 11
+    TOO_MANY_POOLS = 12
+    NO_POOL = 13
+    NO_FREE_CELL = 14
+    NO_TAKEN_CELL = 15
+    TASK_IN_USE = 16
+    TOO_MANY_TASKS = 17
+    NOT_OWNED = 18
+    ACTIVE_SUBTASK = 19
+    ASKED = 20
+    NO_ACCESS = 21
+
+
+class Holder(enum.IntEnum):
+    """What holds the doubleword of an address: mvs_holder."""
+
+    NOBODY = 1
+    OUTSIDE = 2
+    SUBPOOL = 3
+    POOL = 4
+    UNOWNED = 5
+
+
+class Position(enum.IntEnum):
+    """Where an address is, if no allocated cell of the pool begins there: mvs_position."""
+
+    FREE_CELL = 1
+    INSIDE = 2
+    NO_CELL = 3
 
 
 class Form(enum.IntEnum):
@@ -195,6 +240,32 @@ class RawHeld(ctypes.Structure):
     ]
 
 
+class RawPool(ctypes.Structure):
+    """mvs_pool_line."""
+
+    _fields_ = [
+        *((name, ctypes.c_uint32) for name in ("size", "cell_size", "parts", "address", "length", "cells", "number")),
+        ("owner", ctypes.c_char * 8),
+    ]
+
+
+class RawTask(ctypes.Structure):
+    """mvs_task_line."""
+
+    _fields_ = [("size", ctypes.c_uint32), ("name", ctypes.c_char * 8), ("mother", ctypes.c_char * 8)]
+
+
+class RawReason(ctypes.Structure):
+    """mvs_reason."""
+
+    _fields_ = [
+        *((name, ctypes.c_uint32) for name in ("size", "kind", "rule", "second_rule", "address", "number", "length", "member")),
+        *((name, ctypes.c_uint32) for name in ("cells", "cell_size", "longest", "free_runs", "pages_below", "pages_above")),
+        *((name, ctypes.c_uint32) for name in ("first_address", "second_address", "position", "holder", "holder_number")),
+        *((name, ctypes.c_char * 8) for name in ("holder_name", "task", "name")),
+    ]
+
+
 class RawSession(ctypes.Structure):
     """mvs_session."""
 
@@ -223,12 +294,18 @@ _FUNCTIONS = {
     "mvs_list": [_SESSION, _POINTER(RawAsk), _POINTER(RawArea), ctypes.c_size_t, _EVENT],
     "mvs_end": [_SESSION, _EVENT],
     "mvs_text_into": [_SESSION, ctypes.c_char_p, ctypes.c_size_t, _SIZE],
+    "mvs_why_into": [_SESSION, ctypes.c_char_p, ctypes.c_size_t, _SIZE],
+    "mvs_why_fields": [_SESSION, _POINTER(RawReason)],
     "mvs_read": [_SESSION, ctypes.c_uint32, ctypes.c_char_p, ctypes.c_size_t],
     "mvs_write": [_SESSION, ctypes.c_uint32, ctypes.c_char_p, ctypes.c_size_t],
     "mvs_fallen": [_SESSION, ctypes.c_size_t, ctypes.c_char_p],
     "mvs_subpool": [_SESSION, ctypes.c_char_p, ctypes.c_uint8, _POINTER(RawSubpool)],
     "mvs_map": [_SESSION, ctypes.c_uint32, _POINTER(RawRun)],
     "mvs_held": [_SESSION, ctypes.c_uint32, _POINTER(RawHeld)],
+    "mvs_pool": [_SESSION, ctypes.c_char_p, _POINTER(RawPool)],
+    "mvs_next_task": [_SESSION, ctypes.c_char_p, _POINTER(RawTask)],
+    "mvs_next_pool": [_SESSION, ctypes.c_char_p, ctypes.c_char_p],
+    "mvs_statement_into": [_POINTER(RawAsk), ctypes.c_char_p, ctypes.c_char_p, ctypes.c_size_t, _SIZE],
     "mvs_free_session": [_SESSION],
     "mvs_run_into": [ctypes.c_uint32, ctypes.c_char_p, ctypes.c_size_t, ctypes.c_char_p, ctypes.c_size_t, _SIZE],
 }

@@ -5,7 +5,7 @@ use core::ffi::{c_char, c_void};
 use core::mem::size_of;
 
 /// The version of the calls that these declarations are for: `MVS_VERSION`.
-pub const MVS_VERSION: u32 = 2_001;
+pub const MVS_VERSION: u32 = 2_003;
 
 pub const MVS_STATUS_OK: u32 = 0;
 pub const MVS_STATUS_SOME_ABEND: u32 = 8;
@@ -61,6 +61,7 @@ pub const MVS_ASK_RETURN: u32 = 9;
 pub const MVS_ASK_ABEND: u32 = 10;
 pub const MVS_ASK_SHOW: u32 = 11;
 pub const MVS_ASK_MOVE: u32 = 12;
+pub const MVS_ASK_SYSTEM_ABEND: u32 = 13;
 
 pub const MVS_FORM_R: u32 = 1;
 pub const MVS_FORM_RC: u32 = 2;
@@ -79,6 +80,38 @@ pub const MVS_FORM_LU: u32 = 13;
 pub const MVS_LOCATION_RES: u32 = 0;
 pub const MVS_LOCATION_BELOW: u32 = 1;
 pub const MVS_LOCATION_ANY: u32 = 2;
+
+pub const MVS_REASON_NOT_ACTIVE: u32 = 1;
+pub const MVS_REASON_INVALID_NUMBER: u32 = 2;
+pub const MVS_REASON_SHORTAGE: u32 = 3;
+pub const MVS_REASON_NO_MEMBER: u32 = 4;
+pub const MVS_REASON_NO_PART: u32 = 5;
+pub const MVS_REASON_OFF_DOUBLEWORD: u32 = 6;
+pub const MVS_REASON_NO_SUBPOOL: u32 = 7;
+pub const MVS_REASON_NOT_HELD: u32 = 8;
+pub const MVS_REASON_OVERLAP: u32 = 9;
+pub const MVS_REASON_WHOLE_OF_ZERO: u32 = 10;
+pub const MVS_REASON_POOL_IN_USE: u32 = 11;
+pub const MVS_REASON_TOO_MANY_POOLS: u32 = 12;
+pub const MVS_REASON_NO_POOL: u32 = 13;
+pub const MVS_REASON_NO_FREE_CELL: u32 = 14;
+pub const MVS_REASON_NO_TAKEN_CELL: u32 = 15;
+pub const MVS_REASON_TASK_IN_USE: u32 = 16;
+pub const MVS_REASON_TOO_MANY_TASKS: u32 = 17;
+pub const MVS_REASON_NOT_OWNED: u32 = 18;
+pub const MVS_REASON_ACTIVE_SUBTASK: u32 = 19;
+pub const MVS_REASON_ASKED: u32 = 20;
+pub const MVS_REASON_NO_ACCESS: u32 = 21;
+
+pub const MVS_HOLDER_NOBODY: u32 = 1;
+pub const MVS_HOLDER_OUTSIDE: u32 = 2;
+pub const MVS_HOLDER_SUBPOOL: u32 = 3;
+pub const MVS_HOLDER_POOL: u32 = 4;
+pub const MVS_HOLDER_UNOWNED: u32 = 5;
+
+pub const MVS_POSITION_FREE_CELL: u32 = 1;
+pub const MVS_POSITION_INSIDE: u32 = 2;
+pub const MVS_POSITION_NO_CELL: u32 = 3;
 
 pub const MVS_PLACE_LOW: u32 = 1;
 pub const MVS_PLACE_HIGH: u32 = 2;
@@ -263,6 +296,117 @@ impl Default for mvs_held_run {
     }
 }
 
+/// `mvs_pool_line` of `mvs.h`.
+#[repr(C)]
+#[derive(Clone, Copy, Debug, PartialEq, Eq)]
+#[allow(non_camel_case_types)]
+pub struct mvs_pool_line {
+    pub size: u32,
+    pub cell_size: u32,
+    pub parts: u32,
+    pub address: u32,
+    pub length: u32,
+    pub cells: u32,
+    pub number: u32,
+    pub owner: [u8; 8],
+}
+
+impl Default for mvs_pool_line {
+    /// All fields are 0, except the size.
+    fn default() -> Self {
+        Self {
+            size: size_of::<Self>() as u32,
+            cell_size: 0,
+            parts: 0,
+            address: 0,
+            length: 0,
+            cells: 0,
+            number: 0,
+            owner: [0; 8],
+        }
+    }
+}
+
+/// `mvs_task_line` of `mvs.h`.
+#[repr(C)]
+#[derive(Clone, Copy, Debug, PartialEq, Eq)]
+#[allow(non_camel_case_types)]
+pub struct mvs_task_line {
+    pub size: u32,
+    pub name: [u8; 8],
+    pub mother: [u8; 8],
+}
+
+impl Default for mvs_task_line {
+    /// All fields are 0, except the size.
+    fn default() -> Self {
+        Self {
+            size: size_of::<Self>() as u32,
+            name: [0; 8],
+            mother: [0; 8],
+        }
+    }
+}
+
+/// `mvs_reason` of `mvs.h`.
+#[repr(C)]
+#[derive(Clone, Copy, Debug, PartialEq, Eq)]
+#[allow(non_camel_case_types)]
+pub struct mvs_reason {
+    pub size: u32,
+    pub kind: u32,
+    pub rule: u32,
+    pub second_rule: u32,
+    pub address: u32,
+    pub number: u32,
+    pub length: u32,
+    pub member: u32,
+    pub cells: u32,
+    pub cell_size: u32,
+    pub longest: u32,
+    pub free_runs: u32,
+    pub pages_below: u32,
+    pub pages_above: u32,
+    pub first_address: u32,
+    pub second_address: u32,
+    pub position: u32,
+    pub holder: u32,
+    pub holder_number: u32,
+    pub holder_name: [u8; 8],
+    pub task: [u8; 8],
+    pub name: [u8; 8],
+}
+
+impl Default for mvs_reason {
+    /// All fields are 0, except the size.
+    fn default() -> Self {
+        Self {
+            size: size_of::<Self>() as u32,
+            kind: 0,
+            rule: 0,
+            second_rule: 0,
+            address: 0,
+            number: 0,
+            length: 0,
+            member: 0,
+            cells: 0,
+            cell_size: 0,
+            longest: 0,
+            free_runs: 0,
+            pages_below: 0,
+            pages_above: 0,
+            first_address: 0,
+            second_address: 0,
+            position: 0,
+            holder: 0,
+            holder_number: 0,
+            holder_name: [0; 8],
+            task: [0; 8],
+            name: [0; 8],
+        }
+    }
+}
+
 /// `mvs_region` of `mvs.h`.
 #[repr(C)]
 #[derive(Clone, Copy, Debug, PartialEq, Eq)]
@@ -308,12 +452,18 @@ unsafe extern "C" {
     pub fn mvs_list(session: *mut mvs_session, ask: *const mvs_ask, areas: *mut mvs_area, count: usize, event: *mut mvs_event) -> u32;
     pub fn mvs_end(session: *mut mvs_session, event: *mut mvs_event) -> u32;
     pub fn mvs_text_into(session: *mut mvs_session, out: *mut c_char, room: usize, wanted: *mut usize) -> u32;
+    pub fn mvs_why_into(session: *mut mvs_session, out: *mut c_char, room: usize, wanted: *mut usize) -> u32;
+    pub fn mvs_why_fields(session: *mut mvs_session, reason: *mut mvs_reason) -> u32;
     pub fn mvs_read(session: *mut mvs_session, address: u32, out: *mut u8, length: usize) -> u32;
     pub fn mvs_write(session: *mut mvs_session, address: u32, bytes: *const u8, length: usize) -> u32;
     pub fn mvs_fallen(session: *mut mvs_session, index: usize, name: *mut [u8; 8]) -> u32;
     pub fn mvs_subpool(session: *mut mvs_session, task: *const [u8; 8], from: u8, line: *mut mvs_subpool_line) -> u32;
     pub fn mvs_map(session: *mut mvs_session, from: u32, run: *mut mvs_map_run) -> u32;
     pub fn mvs_held(session: *mut mvs_session, from: u32, run: *mut mvs_held_run) -> u32;
+    pub fn mvs_pool(session: *mut mvs_session, name: *const [u8; 8], pool: *mut mvs_pool_line) -> u32;
+    pub fn mvs_next_task(session: *mut mvs_session, after: *const [u8; 8], task: *mut mvs_task_line) -> u32;
+    pub fn mvs_next_pool(session: *mut mvs_session, after: *const [u8; 8], name: *mut [u8; 8]) -> u32;
+    pub fn mvs_statement_into(ask: *const mvs_ask, area: *const [u8; 8], out: *mut c_char, room: usize, wanted: *mut usize) -> u32;
     pub fn mvs_free_session(session: *mut mvs_session);
     pub fn mvs_run_into(place: u32, script: *const c_char, length: usize, out: *mut c_char, room: usize, wanted: *mut usize) -> u32;
 }

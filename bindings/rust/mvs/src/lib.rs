@@ -24,6 +24,9 @@ mod numbers;
 mod request;
 mod session;
 
-pub use numbers::{EventKind, Form, Location, Place, Status, StepEnd};
+pub use numbers::{EventKind, Form, Location, Place, Position, ReasonKind, Status, StepEnd};
 pub use request::{Area, Name, Obtain, Pool, Region, Request, Subtask};
-pub use session::{run, version, Error, Event, HeldRun, HeldRuns, Holder, Pages, Run, Session, Subpool, Subpools};
+pub use session::{
+    run, statement, version, AddressHolder, Error, Event, HeldRun, HeldRuns, Holder, Pages, PoolNames, PoolState, Reason, Run, Session,
+    Subpool, Subpools, Task, Tasks,
+};

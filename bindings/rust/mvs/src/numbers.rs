@@ -131,6 +131,66 @@ numbers! {
 }
 
 numbers! {
+    /// Why a request was refused.
+    ReasonKind {
+        /// The task is not active.
+        NotActive = MVS_REASON_NOT_ACTIVE,
+        /// A program cannot use the subpool number.
+        InvalidNumber = MVS_REASON_INVALID_NUMBER,
+        /// No place is long enough.
+        Shortage = MVS_REASON_SHORTAGE,
+        /// No place is long enough for a member of a list, after grants for those before it.
+        NoMember = MVS_REASON_NO_MEMBER,
+        /// No place is long enough for a part of a cell pool.
+        NoPart = MVS_REASON_NO_PART,
+        /// A release does not begin on a doubleword.
+        OffDoubleword = MVS_REASON_OFF_DOUBLEWORD,
+        /// The task has no such subpool.
+        NoSubpool = MVS_REASON_NO_SUBPOOL,
+        /// The subpool does not hold the address.
+        NotHeld = MVS_REASON_NOT_HELD,
+        /// Two members of a list have the address.
+        Overlap = MVS_REASON_OVERLAP,
+        /// Subpool 0 is not released as a whole.
+        WholeOfZero = MVS_REASON_WHOLE_OF_ZERO,
+        /// The pool exists.
+        PoolInUse = MVS_REASON_POOL_IN_USE,
+        /// There are 64 pools.
+        TooManyPools = MVS_REASON_TOO_MANY_POOLS,
+        /// There is no such pool.
+        NoPool = MVS_REASON_NO_POOL,
+        /// No cell of the pool is free.
+        NoFreeCell = MVS_REASON_NO_FREE_CELL,
+        /// No allocated cell begins at the address.
+        NoTakenCell = MVS_REASON_NO_TAKEN_CELL,
+        /// The subtask is active.
+        TaskInUse = MVS_REASON_TASK_IN_USE,
+        /// There are 32 active tasks.
+        TooManyTasks = MVS_REASON_TOO_MANY_TASKS,
+        /// The task gives a subpool that it shares.
+        NotOwned = MVS_REASON_NOT_OWNED,
+        /// The task returns, and has an active subtask.
+        ActiveSubtask = MVS_REASON_ACTIVE_SUBTASK,
+        /// The task requests the abend.
+        Asked = MVS_REASON_ASKED,
+        /// The address cannot be accessed.
+        NoAccess = MVS_REASON_NO_ACCESS,
+    }
+}
+
+numbers! {
+    /// Where an address is, if no allocated cell of the pool begins there.
+    Position {
+        /// A free cell begins there.
+        FreeCell = MVS_POSITION_FREE_CELL,
+        /// It is inside of a cell.
+        Inside = MVS_POSITION_INSIDE,
+        /// It is in no cell of the pool.
+        NoCell = MVS_POSITION_NO_CELL,
+    }
+}
+
+numbers! {
     /// The forms of GETMAIN and FREEMAIN, and STORAGE with COND=NO and COND=YES.
     Form {
         /// One area; a shortage abends.

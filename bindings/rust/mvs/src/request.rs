@@ -229,6 +229,8 @@ pub enum Request {
     Return,
     /// Ends the task with a user completion code, 0 to 4095.
     Abend(u32),
+    /// Ends the task with a system completion code, as 0x0C1. No statement does this.
+    SystemAbend(u32),
     /// Tests whether 1 to 4,096 bytes can be accessed.
     Show(Area),
     /// Copies 1 to 65,536 bytes.
@@ -274,7 +276,7 @@ impl Request {
                 (ask.shared_low, ask.shared_high) = (subtask.shared as u64, (subtask.shared >> 64) as u64);
             }
             Request::Return => {}
-            Request::Abend(code) => ask.code = code,
+            Request::Abend(code) | Request::SystemAbend(code) => ask.code = code,
             Request::Show(area) => (ask.address, ask.length) = (area.address, area.length),
             Request::Move { to, from } => (ask.address, ask.length, ask.source) = (to.address, to.length, from),
         }
@@ -293,6 +295,7 @@ impl Request {
             Request::Attach(_) => mvs_sys::MVS_ASK_ATTACH,
             Request::Return => mvs_sys::MVS_ASK_RETURN,
             Request::Abend(_) => mvs_sys::MVS_ASK_ABEND,
+            Request::SystemAbend(_) => mvs_sys::MVS_ASK_SYSTEM_ABEND,
             Request::Show(_) => mvs_sys::MVS_ASK_SHOW,
             Request::Move { .. } => mvs_sys::MVS_ASK_MOVE,
         }

@@ -1,8 +1,11 @@
 //! A session, and what it returns.
 
-use crate::numbers::{EventKind, Form, Place, Status, StepEnd};
+use crate::numbers::{EventKind, Form, Place, Position, ReasonKind, Status, StepEnd};
 use crate::request::{Area, Name, Region, Request};
-use mvs_sys::{mvs_area, mvs_ask, mvs_event, mvs_held_run, mvs_map_run, mvs_region, mvs_session, mvs_subpool_line};
+use mvs_sys::{
+    mvs_area, mvs_ask, mvs_event, mvs_held_run, mvs_map_run, mvs_pool_line, mvs_reason, mvs_region, mvs_session, mvs_subpool_line,
+    mvs_task_line,
+};
 use std::ffi::c_char;
 use std::{fmt, mem, ptr};
 
@@ -83,7 +86,7 @@ impl Event {
             address: raw.address,
             length: raw.length,
             ended: StepEnd::of(raw.ended),
-            task: (raw.task != [b' '; 8]).then_some(Name::of(raw.task)),
+            task: some_name(raw.task),
         })
     }
 
@@ -133,6 +136,123 @@ pub struct HeldRun {
     pub holder: Holder,
 }
 
+/// An active task.
+#[derive(Clone, Copy, Debug, PartialEq, Eq)]
+pub struct Task {
+    /// Its name.
+    pub name: Name,
+    /// The task that attached it; None for the job step task.
+    pub mother: Option<Name>,
+}
+
+/// A cell pool.
+#[derive(Clone, Copy, Debug, PartialEq, Eq)]
+pub struct PoolState {
+    /// The bytes of a cell.
+    pub cell: u32,
+    /// How many parts it has.
+    pub parts: u32,
+    /// The part that was added last.
+    pub area: Area,
+    /// How many cells that part has.
+    pub cells: u32,
+    /// The task that owns the subpool of that part, and its number there.
+    pub owner: Option<(Name, u32)>,
+}
+
+/// What holds the doubleword of an address.
+#[derive(Clone, Copy, Debug, PartialEq, Eq)]
+#[non_exhaustive]
+pub enum AddressHolder {
+    /// It is free.
+    Nobody,
+    /// It is in no region.
+    Outside,
+    /// The subpool that this task owns, and has under this number, outside of cell pools.
+    Subpool(Name, u32),
+    /// A part of this cell pool.
+    Pool(Name),
+    /// A subpool without an owner: no statement leads to this.
+    Unowned,
+}
+
+/// Why a request was refused. `mvs.h` says which fields each kind has; the others are 0 or None.
+#[derive(Clone, Copy, Debug, PartialEq, Eq)]
+#[non_exhaustive]
+pub struct Reason {
+    /// The kind.
+    pub kind: ReasonKind,
+    /// The rule of RULES.md.
+    pub rule: u32,
+    /// A second rule.
+    pub second_rule: Option<u32>,
+    /// The address that the reason is about.
+    pub address: u32,
+    /// A subpool number.
+    pub number: u32,
+    /// The bytes that have no place.
+    pub length: u32,
+    /// A member of a list, from 1 on.
+    pub member: u32,
+    /// The cells of a part.
+    pub cells: u32,
+    /// The bytes of each cell.
+    pub cell_size: u32,
+    /// The largest area that has a place.
+    pub longest: u32,
+    /// The free runs in the pages of the subpool.
+    pub free_runs: u32,
+    /// The free pages below and above.
+    pub free_pages: (u32, u32),
+    /// Where two members of a list begin; or a cell, in the first.
+    pub others: (u32, u32),
+    /// Where the address is, if no allocated cell begins there.
+    pub position: Option<Position>,
+    /// What holds the address.
+    pub holder: Option<AddressHolder>,
+    /// The task that the reason is about.
+    pub task: Option<Name>,
+    /// The cell pool or the subtask of the request.
+    pub name: Option<Name>,
+}
+
+/// Returns a name, or None if it is blank.
+fn some_name(bytes: [u8; 8]) -> Option<Name> {
+    (bytes != [b' '; 8]).then_some(Name::of(bytes))
+}
+
+impl Reason {
+    fn of(raw: &mvs_reason) -> Result<Reason, Error> {
+        let holder = match raw.holder {
+            mvs_sys::MVS_HOLDER_NOBODY => Some(AddressHolder::Nobody),
+            mvs_sys::MVS_HOLDER_OUTSIDE => Some(AddressHolder::Outside),
+            mvs_sys::MVS_HOLDER_SUBPOOL => Some(AddressHolder::Subpool(Name::of(raw.holder_name), raw.holder_number)),
+            mvs_sys::MVS_HOLDER_POOL => Some(AddressHolder::Pool(Name::of(raw.holder_name))),
+            mvs_sys::MVS_HOLDER_UNOWNED => Some(AddressHolder::Unowned),
+            _ => None,
+        };
+        Ok(Reason {
+            kind: ReasonKind::of(raw.kind).ok_or(Error::Unknown(raw.kind))?,
+            rule: raw.rule,
+            second_rule: (raw.second_rule != 0).then_some(raw.second_rule),
+            address: raw.address,
+            number: raw.number,
+            length: raw.length,
+            member: raw.member,
+            cells: raw.cells,
+            cell_size: raw.cell_size,
+            longest: raw.longest,
+            free_runs: raw.free_runs,
+            free_pages: (raw.pages_below, raw.pages_above),
+            others: (raw.first_address, raw.second_address),
+            position: Position::of(raw.position),
+            holder,
+            task: some_name(raw.task),
+            name: some_name(raw.name),
+        })
+    }
+}
+
 /// Returns the version of the library's calls: 2000 is 2.0.
 pub fn version() -> u32 {
     // SAFETY: the function has no argument.
@@ -170,6 +290,13 @@ fn text_of(mut call: impl FnMut(*mut c_char, usize, *mut usize) -> u32) -> Resul
 pub fn run(script: &[u8], place: Place) -> Result<(Status, Vec<u8>), Error> {
     // SAFETY: the pointer of a slice is not null, the buffer is initialised, and nothing overlaps.
     text_of(|out, room, wanted| unsafe { mvs_sys::mvs_run_into(place.number(), script.as_ptr().cast(), script.len(), out, room, wanted) })
+}
+
+/// Returns the statement of a request, without a newline: an area or a cell that is granted gets this name.
+pub fn statement(task: Name, request: &Request, area: Name) -> Result<Vec<u8>, Error> {
+    let ask = request.ask(task);
+    // SAFETY: the buffer is initialised, and nothing overlaps.
+    Ok(text_of(|out, room, wanted| unsafe { mvs_sys::mvs_statement_into(&ask, &area.bytes(), out, room, wanted) })?.1)
 }
 
 /// A job that executes its statements one by one.
@@ -289,6 +416,44 @@ impl Session {
         Ok(text_of(|out, room, wanted| unsafe { mvs_sys::mvs_text_into(raw, out, room, wanted) })?.1)
     }
 
+    /// Returns why the last request was refused, as `mvsjob --explain` prints it; nothing if it was granted.
+    pub fn why(&mut self) -> Result<Vec<u8>, Error> {
+        let raw: *mut mvs_session = &mut self.raw;
+        // SAFETY: as above.
+        Ok(text_of(|out, room, wanted| unsafe { mvs_sys::mvs_why_into(raw, out, room, wanted) })?.1)
+    }
+
+    /// Returns why the last request was refused, as fields; None if it was granted.
+    pub fn reason(&mut self) -> Result<Option<Reason>, Error> {
+        let mut raw = mvs_reason::default();
+        // SAFETY: as above.
+        match status_of(unsafe { mvs_sys::mvs_why_fields(&mut self.raw, &mut raw) })? {
+            Status::Ok => Reason::of(&raw).map(Some),
+            Status::NoMore => Ok(None),
+            status => Err(Error::Status(status)),
+        }
+    }
+
+    /// Returns the cell pool of a name; None if there is none.
+    pub fn pool(&mut self, name: Name) -> Result<Option<PoolState>, Error> {
+        let mut raw = mvs_pool_line::default();
+        // SAFETY: as above.
+        match status_of(unsafe { mvs_sys::mvs_pool(&mut self.raw, &name.bytes(), &mut raw) })? {
+            Status::Ok => Ok(Some(PoolState {
+                cell: raw.cell_size,
+                parts: raw.parts,
+                area: Area {
+                    address: raw.address,
+                    length: raw.length,
+                },
+                cells: raw.cells,
+                owner: some_name(raw.owner).map(|owner| (owner, raw.number)),
+            })),
+            Status::NoMore => Ok(None),
+            status => Err(Error::Status(status)),
+        }
+    }
+
     /// Returns bytes from an address on, or [`Status::NoAccess`].
     pub fn read(&mut self, address: u32, length: usize) -> Result<Vec<u8>, Error> {
         let mut out = vec![0; length];
@@ -338,6 +503,22 @@ impl Session {
     /// Iterates over the runs of doublewords that are held alike, in the order of their addresses.
     pub fn held_runs(&mut self) -> HeldRuns<'_> {
         HeldRuns { session: self, from: 0 }
+    }
+
+    /// Iterates over the active tasks, in the byte order of their names.
+    pub fn tasks(&mut self) -> Tasks<'_> {
+        Tasks {
+            session: self,
+            after: [0; 8],
+        }
+    }
+
+    /// Iterates over the names of the cell pools, in byte order.
+    pub fn pools(&mut self) -> PoolNames<'_> {
+        PoolNames {
+            session: self,
+            after: [0; 8],
+        }
     }
 }
 
@@ -439,5 +620,46 @@ impl Iterator for HeldRuns<'_> {
                 Holder::Subpool(Name::of(run.owner), run.number)
             },
         })
+    }
+}
+
+/// The active tasks: [`Session::tasks`].
+#[derive(Debug)]
+pub struct Tasks<'a> {
+    session: &'a mut Session,
+    after: [u8; 8],
+}
+
+impl Iterator for Tasks<'_> {
+    type Item = Task;
+
+    fn next(&mut self) -> Option<Task> {
+        let mut line = mvs_task_line::default();
+        // SAFETY: as in `Session`.
+        served(unsafe { mvs_sys::mvs_next_task(&mut self.session.raw, &self.after, &mut line) }).ok()?;
+        self.after = line.name;
+        Some(Task {
+            name: Name::of(line.name),
+            mother: some_name(line.mother),
+        })
+    }
+}
+
+/// The names of the cell pools: [`Session::pools`].
+#[derive(Debug)]
+pub struct PoolNames<'a> {
+    session: &'a mut Session,
+    after: [u8; 8],
+}
+
+impl Iterator for PoolNames<'_> {
+    type Item = Name;
+
+    fn next(&mut self) -> Option<Name> {
+        let mut name = [0; 8];
+        // SAFETY: as in `Session`.
+        served(unsafe { mvs_sys::mvs_next_pool(&mut self.session.raw, &self.after, &mut name) }).ok()?;
+        self.after = name;
+        Some(Name::of(name))
     }
 }

@@ -1,6 +1,7 @@
 //! Each call of the crate, and what it refuses. The replies of the library itself are tested in C.
 use mvs::{
-    Area, Error, EventKind, Form, HeldRun, Holder, Location, Name, Obtain, Place, Pool, Region, Request, Session, Status, StepEnd, Subtask,
+    AddressHolder, Area, Error, EventKind, Form, HeldRun, Holder, Location, Name, Obtain, Place, Pool, ReasonKind, Region, Request,
+    Session, Status, StepEnd, Subtask, Task,
 };
 
 fn job() -> Name {
@@ -108,6 +109,49 @@ fn lists() {
 }
 
 #[test]
+fn reasons() {
+    let mut session = begun();
+    assert_eq!(session.why().unwrap(), b"");
+    assert_eq!(session.line("JOB GETMAIN R,LV=8,A=X,SP=200").unwrap().kind, EventKind::Abended);
+    assert_eq!(
+        session.why().unwrap(),
+        b"* A program can use SP 0 to 127, 131 and 132, but not 200. (rule 8)\n"
+    );
+    let reason = session.reason().unwrap().unwrap();
+    assert_eq!((reason.kind, reason.rule, reason.number), (ReasonKind::InvalidNumber, 8, 200));
+}
+
+#[test]
+fn reason_fields() {
+    let mut session = begun();
+    assert_eq!(session.reason(), Ok(None));
+    let area = session.request(job(), &Request::Obtain(Obtain::new(Form::Rc, 8))).unwrap();
+    assert_eq!(session.reason(), Ok(None));
+    let release = Request::Release {
+        form: Form::Rc,
+        subpool: 0,
+        area: Area {
+            address: area.address,
+            length: 16,
+        },
+    };
+    assert_eq!(session.request(job(), &release).unwrap().kind, EventKind::Rc4);
+    let reason = session.reason().unwrap().unwrap();
+    assert_eq!((reason.kind, reason.rule, reason.second_rule), (ReasonKind::NotHeld, 26, Some(66)));
+    assert_eq!(
+        (reason.address, reason.holder, reason.task),
+        (area.address + 8, Some(AddressHolder::Nobody), Some(job()))
+    );
+    let abend = session.request(job(), &Request::SystemAbend(0x0C1)).unwrap();
+    assert_eq!((abend.kind, abend.system_code()), (EventKind::Abended, Some(0x0C1)));
+    assert_eq!(session.reason().unwrap().unwrap().kind, ReasonKind::Asked);
+    assert_eq!(
+        session.request(job(), &Request::SystemAbend(0x1000)).unwrap_err().field(),
+        Some("code")
+    );
+}
+
+#[test]
 fn refused_fields() {
     let mut session = begun();
     let wanted = Obtain {
@@ -143,7 +187,16 @@ fn pools_and_tasks() {
         secondary: 0,
         location: Location::Res,
     };
+    assert_eq!(session.pool(pool), Ok(None));
     assert_eq!(session.request(job(), &Request::Build(build)).unwrap().kind, EventKind::Rc0);
+    let found = session.pool(pool).unwrap().unwrap();
+    assert_eq!((found.cell, found.parts, found.cells, found.owner), (12, 1, 1, Some((job(), 0))));
+    assert_eq!(session.pools().collect::<Vec<_>>(), [pool]);
+    let job_step = Task {
+        name: job(),
+        mother: None,
+    };
+    assert_eq!(session.tasks().collect::<Vec<_>>(), [job_step]);
     let get = Request::Get { pool, conditional: true };
     let cell = session.request(job(), &get).unwrap();
     assert_eq!(
@@ -198,6 +251,24 @@ fn other_threads() {
     });
     assert_eq!(moved.join().unwrap().line("JOB FREEMAIN R,LV=8,A=X").unwrap().kind, EventKind::Rc0);
     assert_eq!(mvs::version() / 1000, 2);
+}
+
+#[test]
+fn statements() {
+    let area = Name::new("X").unwrap();
+    let wanted = Obtain {
+        least: 8,
+        boundary: 12,
+        ..Obtain::new(Form::Vc, 100)
+    };
+    assert_eq!(
+        mvs::statement(job(), &Request::Obtain(wanted), area).unwrap(),
+        b"JOB GETMAIN VC,LV=(100,8),A=X,SP=0,BNDRY=PAGE"
+    );
+    assert_eq!(
+        mvs::statement(job(), &Request::Abend(4096), area),
+        Err(Error::Status(Status::NoRequest))
+    );
 }
 
 #[test]

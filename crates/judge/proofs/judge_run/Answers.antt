@@ -16,7 +16,7 @@ returns-in-Some-clause-agrees c =
     let said = found_ended c.args.script.now c.args.output.now f.text.items c.in-Some.outcome f.passes ended in
     subst (λ x. (x ≡ Accepted) ↔ (f.text.items ≡ c.args.output.now)) (sym c.finding_of.ensures) said.2
 
-reason_part : (c : goal.After-drop-told-2) → IsSaid c.args.script.now c.args.output.now c.in-Ok-run_rest.ran.text.items c.in-Ok-run_rest.ran.outcome c.finding_of-2.result
+reason_part : (c : goal.After-drop-hints-2) → IsSaid c.args.script.now c.args.output.now c.in-Ok-run_rest.ran.text.items c.in-Ok-run_rest.ran.outcome c.finding_of-2.result
 reason_part c =
     let f = c.in-Ok.followed in
     let on = followed_on c.args.script.now c.args.output.now c.follow.new.walk f.at f.text.items f.passes f.ended f.open_line c.in_default-ended.is c.in-Ok.ensures in

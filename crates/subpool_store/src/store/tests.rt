@@ -50,7 +50,7 @@ fn each_call(rt: HostRuntime) -> Result<(), Fail> {
     Ok(())
 }
 
-// A page of 256 free runs of one doubleword each.
+// Makes a page of 256 free runs of one doubleword each.
 #[test]
 fn a_page_of_256_runs(rt: HostRuntime) -> Result<(), Fail> {
     let one = SubpoolId::new(1);

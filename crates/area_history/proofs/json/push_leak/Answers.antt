@@ -5,4 +5,4 @@ use Rattle.job_script.proofs.Appending.{behind}
 use Rattle.area_history.proofs.json.push_leak.Goals as goal
 
 pub returns-clause-text : goal.returns-clause-text
-returns-clause-text c = behind c.args.text.now c.push_origin.new.text c.push_str-3.new.self (codes "{\"event\":\"leak\",\"name\":\"" ++ trimmed c.args.leak.now.grant.area ++ codes "\"" ++ place_members c.args.leak.now.grant.place ++ bytes_member c.args.leak.now.bytes ++ subpool_members c.args.leak.now.grant.subpool c.args.leak.now.grant.owner ++ origin_members c.args.leak.now.grant.task c.args.leak.now.grant.line) (codes "}\n") (behind c.args.text.now c.push_subpool.new.text c.push_origin.new.text (codes "{\"event\":\"leak\",\"name\":\"" ++ trimmed c.args.leak.now.grant.area ++ codes "\"" ++ place_members c.args.leak.now.grant.place ++ bytes_member c.args.leak.now.bytes ++ subpool_members c.args.leak.now.grant.subpool c.args.leak.now.grant.owner) (origin_members c.args.leak.now.grant.task c.args.leak.now.grant.line) (behind c.args.text.now c.push_bytes.new.text c.push_subpool.new.text (codes "{\"event\":\"leak\",\"name\":\"" ++ trimmed c.args.leak.now.grant.area ++ codes "\"" ++ place_members c.args.leak.now.grant.place ++ bytes_member c.args.leak.now.bytes) (subpool_members c.args.leak.now.grant.subpool c.args.leak.now.grant.owner) (behind c.args.text.now c.push_place.new.text c.push_bytes.new.text (codes "{\"event\":\"leak\",\"name\":\"" ++ trimmed c.args.leak.now.grant.area ++ codes "\"" ++ place_members c.args.leak.now.grant.place) (bytes_member c.args.leak.now.bytes) (behind c.args.text.now c.push_str-2.new.self c.push_place.new.text (codes "{\"event\":\"leak\",\"name\":\"" ++ trimmed c.args.leak.now.grant.area ++ codes "\"") (place_members c.args.leak.now.grant.place) (behind c.args.text.now c.push_name.new.self c.push_str-2.new.self (codes "{\"event\":\"leak\",\"name\":\"" ++ trimmed c.args.leak.now.grant.area) (codes "\"") (behind c.args.text.now c.push_str.new.self c.push_name.new.self (codes "{\"event\":\"leak\",\"name\":\"") (trimmed c.args.leak.now.grant.area) (c.push_str.ensures.text) (c.push_name.ensures.text)) (c.push_str-2.ensures.text)) (c.push_place.ensures.text)) (c.push_bytes.ensures.text)) (c.push_subpool.ensures.text)) (c.push_origin.ensures.text)) (c.push_str-3.ensures.text)
+returns-clause-text c = behind c.args.text.now c.push_origin.new.text c.push_str-3.new.self (c.args.head.now ++ trimmed c.args.leak.now.grant.area ++ codes "\"" ++ place_members c.args.leak.now.grant.place ++ bytes_member c.args.leak.now.bytes ++ subpool_members c.args.leak.now.grant.subpool c.args.leak.now.grant.owner ++ origin_members c.args.leak.now.grant.task c.args.leak.now.grant.line) (codes "}\n") (behind c.args.text.now c.push_subpool.new.text c.push_origin.new.text (c.args.head.now ++ trimmed c.args.leak.now.grant.area ++ codes "\"" ++ place_members c.args.leak.now.grant.place ++ bytes_member c.args.leak.now.bytes ++ subpool_members c.args.leak.now.grant.subpool c.args.leak.now.grant.owner) (origin_members c.args.leak.now.grant.task c.args.leak.now.grant.line) (behind c.args.text.now c.push_bytes.new.text c.push_subpool.new.text (c.args.head.now ++ trimmed c.args.leak.now.grant.area ++ codes "\"" ++ place_members c.args.leak.now.grant.place ++ bytes_member c.args.leak.now.bytes) (subpool_members c.args.leak.now.grant.subpool c.args.leak.now.grant.owner) (behind c.args.text.now c.push_place.new.text c.push_bytes.new.text (c.args.head.now ++ trimmed c.args.leak.now.grant.area ++ codes "\"" ++ place_members c.args.leak.now.grant.place) (bytes_member c.args.leak.now.bytes) (behind c.args.text.now c.push_str-2.new.self c.push_place.new.text (c.args.head.now ++ trimmed c.args.leak.now.grant.area ++ codes "\"") (place_members c.args.leak.now.grant.place) (behind c.args.text.now c.push_name.new.self c.push_str-2.new.self (c.args.head.now ++ trimmed c.args.leak.now.grant.area) (codes "\"") (behind c.args.text.now c.push_str.new.self c.push_name.new.self (c.args.head.now) (trimmed c.args.leak.now.grant.area) (c.push_str.ensures.text) (c.push_name.ensures.text)) (c.push_str-2.ensures.text)) (c.push_place.ensures.text)) (c.push_bytes.ensures.text)) (c.push_subpool.ensures.text)) (c.push_origin.ensures.text)) (c.push_str-3.ensures.text)

@@ -11,4 +11,4 @@ returns-in_err-print_each g c =
     rw (p.1) (record { bytes = front_longer _ _ _ _ q.bytes; ok = tt; err = q.err })
 
 pub returns : goal.returns
-returns g c = both_written g.W.Write.contents c.args.writer.now c.print_each.new.writer c.print_more.new.writer c.in_ok-print_each.field-0 c.print_more.result _ _ (rw (c.as_slice.ensures.items) at c.in_ok-print_each.ensures) (rw (c.saturating_sub.ensures) at c.print_more.ensures)
+returns g c = both_written g.W.Write.contents c.args.writer.now c.print_each.new.writer c.print_rest.new.writer c.in_ok-print_each.field-0 c.print_rest.result _ _ (rw (c.as_slice.ensures.items) at c.in_ok-print_each.ensures) c.print_rest.ensures

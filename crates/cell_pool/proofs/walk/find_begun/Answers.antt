@@ -3,16 +3,16 @@ use Rattle.cell_pool.proofs.Within.{none_begins}
 use Rattle.cell_pool.proofs.Untaken.{none_there}
 use Rattle.cell_pool.proofs.walk.find_begun.Goals as goal
 
-pub returns-in_default : goal.returns-in_default
-returns-in_default c = none_there c.args.store.now.storage c.args.root.now c.requires c.args.addr c.in_default.ensures
+pub returns-in_err-found : goal.returns-in_err-found
+returns-in_err-found c = rw c.from_residual.ensures (none_there c.args.store.now.storage c.args.root.now c.requires c.args.addr c.in_err-found.ensures)
 
-pub returns-in_default-cell_number : goal.returns-in_default-cell_number
-returns-in_default-cell_number c = none_begins c.args.store.now.storage c.args.root.now c.requires c.args.addr _ _ _ c.in-Some.ensures.0 c.in-Some.ensures.1 _ _ (ap (λ n. c.in-Some.found.part + n) c.bytes_before.ensures) c.cell_size.ensures.size c.in_default-cell_number.ensures
+pub returns-in_err-cell : goal.returns-in_err-cell
+returns-in_err-cell c = rw c.from_residual-in_err-cell.ensures (none_begins c.args.store.now.storage c.args.root.now c.requires c.args.addr _ _ _ c.in_ok-found.ensures.0 c.in_ok-found.ensures.1 _ _ (ap (λ n. c.in_ok-found.found.part + n) c.bytes_before.ensures) c.cell_size.ensures.size c.in_err-cell.ensures)
 
 pub returns : goal.returns
 returns c = (
-  c.in-Some.ensures.0,
-  c.in-Some.ensures.1,
-  c.in-Some-cell_number.ensures.0,
-  c.in-Some-cell_number.ensures.1 ∙ (λ k. (c.in-Some.found.part + c.bytes_before.ensures k) + c.in-Some-cell_number.cell * c.cell_size.ensures.size k),
+  c.in_ok-found.ensures.0,
+  c.in_ok-found.ensures.1,
+  c.in_ok-cell.ensures.0,
+  c.in_ok-cell.ensures.1 ∙ (λ k. (c.in_ok-found.found.part + c.bytes_before.ensures k) + c.in_ok-cell.cell * c.cell_size.ensures.size k),
 )

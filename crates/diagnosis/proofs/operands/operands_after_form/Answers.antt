@@ -11,16 +11,16 @@ use Rattle.diagnosis.specs.AfterForm.{AreAfterForm}
 use Rattle.diagnosis.proofs.Lines.{same_row, one_form}
 use Rattle.diagnosis.proofs.operands.operands_after_form.Goals as goal
 
-pub returns-in_default-clause-behind : goal.returns-in_default-clause-behind
-returns-in_default-clause-behind c row is =
+pub returns-in_default-clause-operands : goal.returns-in_default-clause-operands
+returns-in_default-clause-operands c row is =
     let op = operation_text c.args.field.now.operation in
     let form = c.next_operand.result.0.now in
     let more = some_operand (parts_within 0 (field_in c.args.field.now.text.now)) form c.next_operand.result.1 c.next_operand.ensures.parts in
     let none : None ≡ Some row = sym c.in_default.ensures.row ∙ sym (same_row op form more.0) ∙ ap (row_of op) (sym more.1) ∙ is in
     absurd cc
 
-pub returns-clause-behind : goal.returns-clause-behind
-returns-clause-behind c row is =
+pub returns-clause-operands : goal.returns-clause-operands
+returns-clause-operands c row is =
     let op = operation_text c.args.field.now.operation in
     let os = parts_within 0 (field_in c.args.field.now.text.now) in
     let form = c.next_operand.result.0.now in

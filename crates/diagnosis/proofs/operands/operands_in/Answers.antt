@@ -10,7 +10,7 @@ returns-then-takes_form-clause-operands c row is =
     let line = c.args.line.now in
     let text = c.in-Some.field.text.now in
     let os = parts_within 0 (field_in text) in
-    line_behind row line c.operands_after_form.result c.in-Some.field.at text os f.1 f.2 (c.operands_after_form.ensures.behind row (row_line line (operation_text c.in-Some.field.operation) os row f.0 f.2 is))
+    line_behind row line c.operands_after_form.result c.in-Some.field.at text os f.1 f.2 (c.operands_after_form.ensures.operands row (row_line line (operation_text c.in-Some.field.operation) os row f.0 f.2 is))
 
 pub returns-else-takes_form-clause-operands : goal.returns-else-takes_form-clause-operands
 returns-else-takes_form-clause-operands c row is =
@@ -18,4 +18,4 @@ returns-else-takes_form-clause-operands c row is =
     let line = c.args.line.now in
     let text = c.in-Some.field.text.now in
     let os = parts_within 0 (field_in text) in
-    line_behind row line c.without_form.result c.in-Some.field.at text os f.1 f.2 (c.without_form.ensures.behind row (row_line line (operation_text c.in-Some.field.operation) os row f.0 f.2 is))
+    line_behind row line c.without_form.result c.in-Some.field.at text os f.1 f.2 (c.without_form.ensures.operands row (row_line line (operation_text c.in-Some.field.operation) os row f.0 f.2 is))

@@ -9,8 +9,8 @@ use Rattle.diagnosis.specs.AfterForm.{AreAfterForm}
 use Rattle.diagnosis.proofs.Lines.{no_form}
 use Rattle.diagnosis.proofs.operands.without_form.Goals as goal
 
-pub returns-clause-behind : goal.returns-clause-behind
-returns-clause-behind c row is =
+pub returns-clause-operands : goal.returns-clause-operands
+returns-clause-operands c row is =
     let os = parts_within 0 (field_in c.args.field.now.text.now) in
     let here = row_at c.in-Some.row in
     let formed : is_empty here.forms ≡ true = c.in-Some.ensures.formed ∙ ap not c.requires in

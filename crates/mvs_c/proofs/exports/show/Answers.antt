@@ -1,7 +1,7 @@
 use Rattle.std.proofs.Common.{List, ℕ, arith, sym, subst, ap}
 use Rattle.mvs_model.specs.Texts.{printing}
 use Rattle.mvs_c.specs.Exports.{HandsOver}
-use Rattle.mvs_c.proofs.Told.{none_fit}
+use Rattle.mvs_c.proofs.Outputs.{none_fit}
 use Rattle.mvs_c.proofs.exports.show.Goals as goal
 
 pub returns-then-prints_nothing-clause-memory : goal.returns-then-prints_nothing-clause-memory

@@ -13,12 +13,12 @@ returns-after-matches-clause-ran g c first history known =
     let line = c.args.line.now in
     let n = c.number-line_number.result in
     let mid = c.look.new.self in
-    let told = told_by (Takes c.args.hints.now) w w' line c.in-Ok.told c.in-Ok.ensures.told in
-    let accepts = accepted_at g.C.Consumer.piece g.C.Observer.heard g.C.Consumer.sees (g.C.Consumer.knows first) _ _ c.observed_line.new.observer c.entry.new.self mid w w' line n c.in-Ok.told history {X = Unit {0}} (Ok tt) in
+    let executed = told_by (Takes c.args.hints.now) w w' line c.in-Ok.line_event c.in-Ok.ensures.executed in
+    let accepts = accepted_at g.C.Consumer.piece g.C.Observer.heard g.C.Consumer.sees (g.C.Consumer.knows first) _ _ c.observed_line.new.observer c.entry.new.self mid w w' line n c.in-Ok.line_event history {X = Unit {0}} (Ok tt) in
     let mine = c.look.ensures.knows first history known in
     elim c.match-matches.branch [
-      | in-Faulted b ↦ rw (b.matches-is) (let r = entry_faulty w w' line n c.in-Ok.told _ c.number-line_number.ensures b.in-Faulted.is told in let q = accepts r.0 (c.in-Ok-entry.ensures.accepted first) (inr (inl r.1)) r.2 c.look.ensures.sees c.in-Ok.ensures.observed mine in (r.0, r.1, q.0, q.1))
-      | in_default b ↦ rw (b.matches-is) (let r = entry_executed w w' line n c.in-Ok.told c.number-line_number.ensures b.in_default.not-Faulted told in let q = accepts r.0 (c.in-Ok-entry.ensures.accepted first) (inl r.1.0) r.2 c.look.ensures.sees c.in-Ok.ensures.observed mine in (r.0, r.1.0, r.1.1, q.0, q.1))
+      | in-Faulted b ↦ rw (b.matches-is) (let r = entry_faulty w w' line n c.in-Ok.line_event _ c.number-line_number.ensures b.in-Faulted.is executed in let q = accepts r.0 (c.in-Ok-entry.ensures.accepted first) (inr (inl r.1)) r.2 c.look.ensures.sees c.in-Ok.ensures.observed mine in (r.0, r.1, q.0, q.1))
+      | in_default b ↦ rw (b.matches-is) (let r = entry_executed w w' line n c.in-Ok.line_event c.number-line_number.ensures b.in_default.not-Faulted executed in let q = accepts r.0 (c.in-Ok-entry.ensures.accepted first) (inl r.1.0) r.2 c.look.ensures.sees c.in-Ok.ensures.observed mine in (r.0, r.1.0, r.1.1, q.0, q.1))
     ]
 
 pub returns-in-Err-entry-clause-ran : goal.returns-in-Err-entry-clause-ran
@@ -27,22 +27,22 @@ returns-in-Err-entry-clause-ran g c first history known =
     let w' = c.observed_line.new.self in
     let line = c.args.line.now in
     let n = c.number-line_number.result in
-    let told = told_by (Takes c.args.hints.now) w w' line c.in-Ok.told c.in-Ok.ensures.told in
-    let r = entry_any w w' line n c.in-Ok.told c.number-line_number.ensures told in
-    let q = accepted_at g.C.Consumer.piece g.C.Observer.heard g.C.Consumer.sees (g.C.Consumer.knows first) _ _ c.observed_line.new.observer c.entry.new.self c.look.new.self w w' line n c.in-Ok.told history {X = Unit {0}} (Err c.in-Err-entry.stop) r.0 (c.in-Err-entry.ensures.accepted first) r.1 r.2 c.look.ensures.sees c.in-Ok.ensures.observed
+    let executed = told_by (Takes c.args.hints.now) w w' line c.in-Ok.line_event c.in-Ok.ensures.executed in
+    let r = entry_any w w' line n c.in-Ok.line_event c.number-line_number.ensures executed in
+    let q = accepted_at g.C.Consumer.piece g.C.Observer.heard g.C.Consumer.sees (g.C.Consumer.knows first) _ _ c.observed_line.new.observer c.entry.new.self c.look.new.self w w' line n c.in-Ok.line_event history {X = Unit {0}} (Err c.in-Err-entry.stop) r.0 (c.in-Err-entry.ensures.accepted first) r.1 r.2 c.look.ensures.sees c.in-Ok.ensures.observed
     (c.look.ensures.knows first history known) in
-    entry_stopped g.C.Consumer.piece g.C.Observer.heard g.C.Consumer.sees (g.C.Consumer.knows first) _ _ c.observed_line.new.observer c.entry.new.self c.look.new.self w w' line n c.in-Ok.told history (Unit {0}) c.in-Err-entry.stop r.0 r.1 q
+    entry_stopped g.C.Consumer.piece g.C.Observer.heard g.C.Consumer.sees (g.C.Consumer.knows first) _ _ c.observed_line.new.observer c.entry.new.self c.look.new.self w w' line n c.in-Ok.line_event history (Unit {0}) c.in-Err-entry.stop r.0 r.1 q
 
 pub returns-in-Ok-end-clause-ran : goal.returns-in-Ok-end-clause-ran
 returns-in-Ok-end-clause-ran g c first history known =
-    let r = entry_exhausted c.args.walk.now c.args.line.now c.number-line_number.result c.in-Err.stopped.ended c.number-line_number.ensures c.in-Err.ensures.told in
+    let r = entry_exhausted c.args.walk.now c.args.line.now c.number-line_number.result c.in-Err.stopped.ended c.number-line_number.ensures c.in-Err.ensures.executed in
     let mine = subst (λ s. (g.C.Consumer.knows first).has s history) (sym c.in-Err.ensures.unheard) (c.look.ensures.knows first history known) in
     let q = c.in-Ok-end.ensures.accepted first history r.0 r.2 tt mine in
     inl (r.0, r.1, q.0, q.1)
 
 pub returns-in-Err-end-clause-ran : goal.returns-in-Err-end-clause-ran
 returns-in-Err-end-clause-ran g c first history known =
-    let r = entry_exhausted c.args.walk.now c.args.line.now c.number-line_number.result c.in-Err.stopped.ended c.number-line_number.ensures c.in-Err.ensures.told in
+    let r = entry_exhausted c.args.walk.now c.args.line.now c.number-line_number.result c.in-Err.stopped.ended c.number-line_number.ensures c.in-Err.ensures.executed in
     let mine = subst (λ s. (g.C.Consumer.knows first).has s history) (sym c.in-Err.ensures.unheard) (c.look.ensures.knows first history known) in
     let q = c.in-Err-end.ensures.accepted first history r.0 r.2 tt mine in
     (r.0, inr (inr r.1), q.0, q.1)

@@ -1,22 +1,27 @@
-use Rattle.std.proofs.Common.{ℕ, ◌++◌, List, length, ap, sym, ◌∙◌, arith}
+use Rattle.std.proofs.Common.{◌≡◌, ℕ, ◌++◌, List, length, ap, sym, ◌∙◌, arith}
+use Rattle.std.proofs.lemmas.List.{append_assoc}
 use Rattle.mvs_model.specs.declared.fact.Fact.{Fact}
 use Rattle.mvs_model.specs.Reports.{each_below}
 use Rattle.request_forms.specs.Facts.{listed}
-use Rattle.mvs_job.specs.Granting.{subtask_fact}
+use Rattle.mvs_job.specs.Granting.{attach_facts, created_fact, subtask_fact}
 use Rattle.mvs_job.proofs.Numbers.{each_next, each_none}
 use Rattle.mvs_job.proofs.granting.put_subtask.Goals as goal
 
 pub loop-n-init : goal.loop-n-init
 loop-n-init c = record {
   few = (let e = ap length c.clear.ensures in omega (arith, e));
-  each = c.clear.ensures ∙ sym (each_none (λ n. listed (subtask_fact c.args.job.now c.args.mother.now c.args.subtask.now n)));
+  each = c.clear.ensures ∙ sym (each_none (attach_facts c.args.before.now c.args.job.now c.args.attaching.now c.args.subtask.now));
 }
 
 pub loop-n-preserved : goal.loop-n-preserved
 loop-n-preserved c =
-    let fact = subtask_fact c.args.job.now c.args.mother.now c.args.subtask.now in
-    let row = λ (n : ℕ). listed (fact n) in
+    let created = created_fact c.args.before.now c.args.job.now c.args.attaching.now in
+    let has = subtask_fact c.args.job.now c.args.attaching.now c.args.subtask.now in
+    let row = attach_facts c.args.before.now c.args.job.now c.args.attaching.now c.args.subtask.now in
+    let n = c.loop-n.n in
+    let first : c.push_some.new.facts ≡ each_below n row ++ listed (created n) =
+    c.push_some.ensures.facts ∙ ap (λ (z : List Fact). z ++ listed c.created_fact.result) c.loop-n.invariant.each ∙ ap (λ v. each_below n row ++ listed v) (c.created_fact.ensures ∙ ap created c.of-number.ensures) in
     record {
-      few = omega (arith, c.push_some.ensures.len, c.loop-n.invariant.few);
-      each = c.push_some.ensures.facts ∙ ap (λ (z : List Fact). z ++ listed c.subtask_fact.result) c.loop-n.invariant.each ∙ ap (λ v. each_below c.loop-n.n row ++ listed v) (c.subtask_fact.ensures ∙ ap fact c.of.ensures) ∙ sym (each_next row c.loop-n.n);
+      few = omega (arith, c.push_some.ensures.len, c.push_some-in-loop-n.ensures.len, c.loop-n.invariant.few);
+      each = c.push_some-in-loop-n.ensures.facts ∙ ap (λ (z : List Fact). z ++ listed c.subtask_fact.result) first ∙ ap (λ v. (each_below n row ++ listed (created n)) ++ listed v) (c.subtask_fact.ensures ∙ ap has c.of-number.ensures) ∙ append_assoc (each_below n row) (listed (created n)) (listed (has n)) ∙ sym (each_next row n);
     }

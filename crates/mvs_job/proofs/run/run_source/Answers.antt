@@ -18,25 +18,25 @@ reading-init g c = record {
 
 pub reading-preserved : goal.reading-preserved
 reading-preserved g c =
-    let on = c.in_ok-told.ensures.on c.in-On.told (ap (λ x. Ok x) c.in-On.is) in
+    let on = c.in_ok-consumed.ensures.on c.in-On.consumed (ap (λ x. Ok x) c.in-On.is) in
     record {
-      under_way = rw (c.in-On.is) at (c.in_ok-told.ensures.pump c.args.consumer.now _ _ _ c.reading.invariant.under_way);
+      under_way = rw (c.in-On.is) at (c.in_ok-consumed.ensures.pump c.args.consumer.now _ _ _ c.reading.invariant.under_way);
       room = on.3;
       number = omega (arith, on.2);
       small = grind (arith, common_steps);
-      reader = c.in_ok-told.ensures.healthy.0 ∙ c.reading.invariant.reader;
-      since = λ start h. c.in_ok-told.ensures.since start (c.reading.invariant.since start h);
-      writer = c.in_ok-told.ensures.healthy.1 ∙ c.reading.invariant.writer;
+      reader = c.in_ok-consumed.ensures.healthy.0 ∙ c.reading.invariant.reader;
+      since = λ start h. c.in_ok-consumed.ensures.since start (c.reading.invariant.since start h);
+      writer = c.in_ok-consumed.ensures.healthy.1 ∙ c.reading.invariant.writer;
     }
 
-pub returns-in_err-told-clause-fault : goal.returns-in_err-told-clause-fault
-returns-in_err-told-clause-fault g c =
+pub returns-in_err-consumed-clause-fault : goal.returns-in_err-consumed-clause-fault
+returns-in_err-consumed-clause-fault g c =
     let p = err_from_is_err_and c.from_residual.result c.from_residual.ensures.1 in
-    rw (p.1, p.2) (given_up g.C.Consumer.piece (g.C.Consumer.knows c.args.consumer.now) _ _ _ _ 16777215 _ _ _ (c.in_err-told.ensures.pump c.args.consumer.now _ _ _ c.reading.invariant.under_way) (grind (arith, common_steps)) (λ e. c.in_err-told.ensures.not_long (ap (λ x. Err x) e)))
+    rw (p.1, p.2) (given_up g.C.Consumer.piece (g.C.Consumer.knows c.args.consumer.now) _ _ _ _ 16777215 _ _ _ (c.in_err-consumed.ensures.pump c.args.consumer.now _ _ _ c.reading.invariant.under_way) (grind (arith, common_steps)) (λ e. c.in_err-consumed.ensures.not_long (ap (λ x. Err x) e)))
 
 pub returns-in-Ended-clause-ok : goal.returns-in-Ended-clause-ok
 returns-in-Ended-clause-ok g c =
-    ended_within g.C.Consumer.piece (g.C.Consumer.knows c.args.consumer.now) _ _ _ _ _ _ c.in-Ended.outcome (rw (c.in-Ended.is) at (c.in_ok-told.ensures.pump c.args.consumer.now _ _ _ c.reading.invariant.under_way)) (grind (arith, common_steps))
+    ended_within g.C.Consumer.piece (g.C.Consumer.knows c.args.consumer.now) _ _ _ _ _ _ c.in-Ended.outcome (rw (c.in-Ended.is) at (c.in_ok-consumed.ensures.pump c.args.consumer.now _ _ _ c.reading.invariant.under_way)) (grind (arith, common_steps))
 
 pub returns-clause-ok : goal.returns-clause-ok
 returns-clause-ok g c =

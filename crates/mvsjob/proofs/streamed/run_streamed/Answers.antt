@@ -1,5 +1,5 @@
 use Rattle.std.proofs.Common.{ap}
-use Rattle.mvsjob.proofs.Coming.{written_answers, written_ok, written_front, written_before}
+use Rattle.mvsjob.proofs.Streaming.{written_answers, written_ok, written_front, written_before}
 use Rattle.mvsjob.proofs.streamed.run_streamed.Goals as goal
 
 pub returns-clause-ok : goal.returns-clause-ok

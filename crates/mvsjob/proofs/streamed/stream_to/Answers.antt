@@ -3,7 +3,7 @@ use Rattle.mvs_job.specs.Consuming.{WritesText}
 use Rattle.mvs_job.specs.Streams.{StopsText}
 use Rattle.mvs_job.proofs.Forgetting.{ended_text, given_up_text}
 use Rattle.mvs_job.proofs.Printed.{err_so, ok_so}
-use Rattle.mvsjob.proofs.Coming.{written_by, written_part}
+use Rattle.mvsjob.proofs.Streaming.{written_by, written_part}
 use Rattle.mvsjob.proofs.streamed.stream_to.Goals as goal
 
 pub returns-clause-ok : goal.returns-clause-ok

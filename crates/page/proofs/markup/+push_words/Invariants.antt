@@ -2,4 +2,4 @@ use Rattle.std.proofs.Common.{length}
 use Rattle.page.proofs.markup.+push_words.Given as goal
 
 abbrev pub decreases-push_words : goal.decreases-push_words
-decreases-push_words l = length l.behind.now
+decreases-push_words l = length l.explanation.now

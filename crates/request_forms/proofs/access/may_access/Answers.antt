@@ -13,8 +13,8 @@ returns-then-at-gt-LAST_ADDRESS-clause-granted c = λ o.
     let len : c.len.result ≡ p.len = c.len.ensures.len in (
       λ no. absurd (let f : false ≡ true = no in cc),
       λ h. absurd (
-          let l : p.addr + (c.walk.at - p.addr) < 2147483648 = address_held c.args.store.now.storage p.addr p.len (c.walk.at - p.addr) (step_storage c.args.pools.now c.args.store.now.storage c.requires) (held_place c.args.pools.now c.args.store.now.storage c.requires o p (omega (arith, c.len.ensures.some, len)) h) (omega (arith, c.walk-test.true, c.walk.invariant.behind, at, len)) in
-          omega (arith, l, c.walk.invariant.behind, c.if-at-gt-LAST_ADDRESS.true)),
+          let l : p.addr + (c.walk.at - p.addr) < 2147483648 = address_held c.args.store.now.storage p.addr p.len (c.walk.at - p.addr) (step_storage c.args.pools.now c.args.store.now.storage c.requires) (held_place c.args.pools.now c.args.store.now.storage c.requires o p (omega (arith, c.len.ensures.some, len)) h) (omega (arith, c.walk-test.true, c.walk.invariant.low, at, len)) in
+          omega (arith, l, c.walk.invariant.low, c.if-at-gt-LAST_ADDRESS.true)),
     )
 
 pub walk-smaller : goal.walk-smaller
@@ -22,7 +22,7 @@ walk-smaller c = omega (arith, c.walk-test.true, (c.in-Some.ensures some_owners)
 
 pub walk-preserved : goal.walk-preserved
 walk-preserved c = record {
-  behind = omega (arith, c.walk.invariant.behind, (c.in-Some.ensures some_owners).0, c.new.ensures);
+  low = omega (arith, c.walk.invariant.low, (c.in-Some.ensures some_owners).0, c.new.ensures);
   so_far = λ o a low high. elim (cases_lt a c.walk.at) [
     | inl l ↦ c.walk.invariant.so_far o a low l
     | inr l ↦ (c.in-Some.ensures o).1 a (omega (arith, l, c.new.ensures)) high

@@ -6,7 +6,7 @@ use Rattle.request_forms.proofs.access.may_access.Given as goal
 
 abbrev pub invariant-walk : goal.invariant-walk
 invariant-walk l = record {
-  behind : l.fn.place.addr ≤ l.at;
+  low : l.fn.place.addr ≤ l.at;
   so_far : (o : Owners) (a : ℕ) → l.fn.place.addr ≤ a → a < l.at → granted (machine_state l.pools l.store.storage o) a ≡ true;
 }
 

@@ -21,7 +21,7 @@ runs-preserved c =
     let e = c.preferred-best.ensures in record {
       walk = c.next_run.ensures.walk;
       found = best_found test c.args.first c.least_doublewords-least.result c.args.want.now _ _ _ _ c.run_place.result c.runs.best c.preferred-best.result c.best_in.result k c.run_place.ensures.addr c.run_place.ensures.len c.best_in.ensures e.either c.runs.invariant.found;
-      behind = best_behind test c.args.first c.least_doublewords-least.result c.args.want.now _ _ _ _ c.run_place.result c.runs.best c.preferred-best.result c.best_in.result k c.only_length-only.ensures.wanted.some c.least_doublewords-least.ensures.least c.run_place.ensures.addr c.run_place.ensures.len c.best_in.ensures e.one e.behind c.runs.invariant.behind;
+      behind = best_behind test c.args.first c.least_doublewords-least.result c.args.want.now _ _ _ _ c.run_place.result c.runs.best c.preferred-best.result c.best_in.result k c.only_length-only.ensures.wanted.some c.least_doublewords-least.ensures.least c.run_place.ensures.addr c.run_place.ensures.len c.best_in.ensures e.one e.other c.runs.invariant.behind;
     }
 
 pub returns-clause-longest : goal.returns-clause-longest

@@ -6,5 +6,5 @@ split : (P : Option Owned → Type 0) → (P None → ◌≡◌ {A = Option Owne
 split P f g None h = f h
 split P f g (Some o) h = g o h
 
-pub returns-in-Ok : goal.returns-in-Ok
-returns-in-Ok c = c.in-Ok.ensures.items_if_clones_equal (split _ (λ _. refl) (λ o h. absurd h))
+pub returns : goal.returns
+returns c = c.in_ok-owned.ensures.items_if_clones_equal (split _ (λ _. refl) (λ o h. absurd h))

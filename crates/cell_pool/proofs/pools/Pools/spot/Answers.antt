@@ -1,5 +1,5 @@
 use Rattle.std.proofs.Common.{◌≡◌, Some, None, sym, ◌∙◌}
-use Rattle.cell_pool.proofs.Told.{no_pool, spot_told, untaken}
+use Rattle.cell_pool.proofs.PoolFacts.{no_pool, spot_told, untaken}
 use Rattle.cell_pool.proofs.Walking.{chain_of}
 use Rattle.cell_pool.proofs.pools.Pools.spot.Goals as goal
 

@@ -78,9 +78,9 @@ of_spec 𝓤 𝓛 𝓜 𝓡 wired T A L LA g d dx dd allocator glue glued =
     in_a_block ! r.0 (λ p. box_owns (token E.al a) (R E) p x) (fst∗ 𝓤 (never 𝓤) (sem 𝓛 (token E.al a (bare (layout T)) null_ptr))) (λ b' o' at. fsplit ! $
     -- [the value; the right; the tokens and the pair]
     move ! (2 ∷ []) $ split ! $ move ! (1 ∷ []) $ fpick ! (λ vss. fsplit ! $ feq_l ! (λ paired. fsplit ! $ feq_l ! (λ pointed. fsplit ! $
-    rewrite ! 0 (λ (s : A.Denot). ‵ ((P E).own_val s vss.1.0)) same refl $ handle_tells E.al ! a vss.1.0 (λ h' told fits'.
+    rewrite ! 0 (λ (s : A.Denot). ‵ ((P E).own_val s vss.1.0)) same refl $ handle_tells E.al ! a vss.1.0 (λ h' is fits'.
     let after : Val = word E h' b' o' in let typed = box_typed E h' b' o' fits' in
-    lands_as ! (ap only (paired ∙ (λ j. vstruct (of_list ((pointed ∙ ap (λ (p : Ptr). ptr_val p ∷ []) at) j ++ (told j ++ []))) ∷ []))) refl typed $
+    lands_as ! (ap only (paired ∙ (λ j. vstruct (of_list ((pointed ∙ ap (λ (p : Ptr). ptr_val p ∷ []) at) j ++ (is j ++ []))) ∷ []))) refl typed $
     sets ! (of_opd ! (get_in ! (fld ! refl (stop !)) (sub ! 0 refl (whole !)))) refl (tt, tt) $
     sets ! (of_opd ! (get_in ! (fld ! refl (stop !)) (sub ! 1 refl (whole !)))) refl fits' $
     sets ! (of_opd ! (get ! refl)) refl fits' $

@@ -6,7 +6,7 @@ use Rattle.mvs_job.specs.Serving.{RunsLine}
 use Rattle.mvs_job.specs.Explaining.{explanation_text}
 use Rattle.mvs_job.specs.NamedAddress.{RecordsOrigins}
 use Rattle.mvs_job.specs.LineEvents.{events_of_line}
-use Rattle.mvs_job.proofs.Behind.{stands_behind}
+use Rattle.mvs_job.proofs.AfterLines.{stands_behind}
 use Rattle.mvs_job.proofs.apart.Explainer.serve.Goals.{in-Ok-print_explanation, in-Err-print_explanation}
 use Rattle.mvs_job.proofs.apart.Explainer.serve.Goals as goal
 
@@ -16,19 +16,19 @@ returns g c = elim c.match-print_explanation.branch [
       let set = c.self.inside.explained.lines in
       let p = w.in-Ok-print_explanation.ensures.printed c.args.walk.now.number in
       rw (w.result-is, ← c.self.view_is) (record {
-        told = c.in-Ok.ensures.ran.0;
+        executed = c.in-Ok.ensures.ran.0;
         printed = c.in-Ok.ensures.ran.1;
-        behind = stands_behind _ _ c.args.walk.now set c.args.line.now c.run_line.new.walk c.in-Ok.told (explanation_text c.run_line.new.self (events_of_line c.args.walk.now.number c.run_line.new.walk c.in-Ok.told) c.run_line.new.walk.step) p.bytes c.in-Ok.ensures.behind;
-        lines = subst (λ later. RecordsOrigins c.args.walk.now set c.args.line.now c.run_line.new.walk c.in-Ok.told later) (sym c.print_explanation.ensures.lines) c.in-Ok.ensures.lines;
+        explained = stands_behind _ _ c.args.walk.now set c.args.line.now c.run_line.new.walk c.in-Ok.line_event (explanation_text c.run_line.new.self (events_of_line c.args.walk.now.number c.run_line.new.walk c.in-Ok.line_event) c.run_line.new.walk.step) p.bytes c.in-Ok.ensures.explained;
+        lines = subst (λ later. RecordsOrigins c.args.walk.now set c.args.line.now c.run_line.new.walk c.in-Ok.line_event later) (sym c.print_explanation.ensures.lines) c.in-Ok.ensures.lines;
         full_answer = c.in-Ok.ensures.full_answer;
         number = c.in-Ok.ensures.number;
         memory = λ e. absurd (is_ok Memory e);
         write = λ e. absurd (is_ok Write e);
       })
   | in-Err-print_explanation w ↦ rw (w.result-is) (record {
-    told = tt;
+    executed = tt;
     printed = tt;
-    behind = tt;
+    explained = tt;
     lines = tt;
     full_answer = tt;
     number = c.in-Ok.ensures.number;
@@ -39,7 +39,7 @@ returns g c = elim c.match-print_explanation.branch [
   is_write : (◌≡◌ {A = Result LineEvent Stop} (Err Write) (Err Memory)) → ⊥
   is_write e = cc
 
-  is_ok : (stop : Stop) → (◌≡◌ {A = Result LineEvent Stop} (Ok c.in-Ok.told) (Err stop)) → ⊥
+  is_ok : (stop : Stop) → (◌≡◌ {A = Result LineEvent Stop} (Ok c.in-Ok.line_event) (Err stop)) → ⊥
   is_ok stop e = cc
 
 -- where the line itself stopped

@@ -6,7 +6,7 @@ use Rattle.mvs_job.specs.Granting.{IsReadIn}
 use Rattle.mvs_job.specs.Looking.{IsLooking}
 use Rattle.mvs_job.specs.NamedAddress.{names_after}
 use Rattle.mvs_job.specs.LineEvents.{events_of_line}
-use Rattle.mvs_job.proofs.Behind.{line_keeps}
+use Rattle.mvs_job.proofs.AfterLines.{line_keeps}
 use Rattle.mvs_job.proofs.ExplainedLine.{explained_text, needs_names, set_next}
 use Rattle.mvs_job.proofs.Serving.{err_of}
 use Rattle.mvs_job.proofs.explained.ExplainedConsumer.entry.Goals as goal
@@ -16,7 +16,7 @@ returns-in_default-clause-accepted g c first mid history e is seen observed know
     let n = c.args.line_number in
     let line = c.args.line.now in
     let w = c.args.walk.now in
-    let t = c.args.told.now in
+    let t = c.args.line_event.now in
     let after = c.args.self.now in
     let x = c.keep.new.self in
     let stays = line_keeps e.before w line mid after t observed in
@@ -29,7 +29,7 @@ returns-in-Ok-print-clause-accepted g c first mid history e is seen observed kno
     let n = c.args.line_number in
     let line = c.args.line.now in
     let w = c.args.walk.now in
-    let t = c.args.told.now in
+    let t = c.args.line_event.now in
     let after = c.args.self.now in
     let x = c.keep.new.self in
     let stays = line_keeps e.before w line mid after t observed in
@@ -44,7 +44,7 @@ returns-in-Err-clause-accepted g c first mid history e is seen observed known =
     let n = c.args.line_number in
     let line = c.args.line.now in
     let w = c.args.walk.now in
-    let t = c.args.told.now in
+    let t = c.args.line_event.now in
     let after = c.args.self.now in
     let x = c.keep.new.self in
     let stays = line_keeps e.before w line mid after t observed in

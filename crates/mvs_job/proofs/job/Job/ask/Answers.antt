@@ -34,13 +34,13 @@ returns-clause-served g c =
     let st = c.self-2.inside.step.state in
     let new : JobValue = record { state = st; names = c.set_names.new.names; abended = c.self-2.inside.step.abended; former = c.self-2.inside.former } in
     let step = subst (λ x. Step old.state t r reply x) is c.settle_or_do.ensures.step in
-    let takes = subst (λ x. Takes c.args.told.now old.state t r reply x) is c.settle_or_do.ensures.told in
+    let takes = subst (λ x. Takes c.args.hints.now old.state t r reply x) is c.settle_or_do.ensures.hinted in
     let rest = c.settle_or_do.ensures.rest in
     let names = c.in-Ok.ensures.ok ∙ ap (λ n. all_set n (names_set a) (places_in reply)) (ap (λ (j : JobValue). j.names) view ∙ rest.0) in
     let resolves = ap (λ (j : JobValue). resolved j.names a) (sym c.self.view_is) ∙ c.in-Some.ensures in
-    let m = made (Takes c.args.told.now) old t a r reply new resolves step takes names (ap (λ (j : JobValue). j.abended) view ∙ rest.2) (ap (λ (j : JobValue). j.former) view ∙ rest.1) in
-    let told = c.answer_of.ensures.answer st t ∙ answer_same old.state t a r reply st step in
-    subst (λ answer. Asks (Takes c.args.told.now) old t a (resolved old.names a) answer new) (sym told) m
+    let m = made (Takes c.args.hints.now) old t a r reply new resolves step takes names (ap (λ (j : JobValue). j.abended) view ∙ rest.2) (ap (λ (j : JobValue). j.former) view ∙ rest.1) in
+    let answers = c.answer_of.ensures.answer st t ∙ answer_same old.state t a r reply st step in
+    subst (λ answer. Asks (Takes c.args.hints.now) old t a (resolved old.names a) answer new) (sym answers) m
 
 -- the reply is that of the step
 pub returns-clause-reply : goal.returns-clause-reply
@@ -59,9 +59,9 @@ returns-clause-reply g c =
     let names = c.in-Ok.ensures.ok ∙ ap (λ n. all_set n (names_set a) (places_in reply)) (ap (λ (j : JobValue). j.names) view ∙ rest.0) in
     let resolves = ap (λ (j : JobValue). resolved j.names a) (sym c.self.view_is) ∙ c.in-Some.ensures in
     let m = made_by (Replies reply) old t a r reply new step refl names (ap (λ (j : JobValue). j.abended) view ∙ rest.2) (ap (λ (j : JobValue). j.former) view ∙ rest.1) in
-    let told = c.answer_of.ensures.answer st t ∙ answer_same old.state t a r reply st step in
+    let answers = c.answer_of.ensures.answer st t ∙ answer_same old.state t a r reply st step in
     subst (λ o. MatchOption o (reply ≡ c.args.reply.now) (λ asked. Makes (Replies reply) old t a asked (full_answer st (ended_with_in reply) t c.answer_of.result) new)) (sym resolves)
-    (subst (λ answer. Makes (Replies reply) old t a r answer new) (sym told) m)
+    (subst (λ answer. Makes (Replies reply) old t a r answer new) (sym answers) m)
 
 pub returns-clause-full_answer : goal.returns-clause-full_answer
 returns-clause-full_answer g c =

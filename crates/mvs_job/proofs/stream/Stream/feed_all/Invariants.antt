@@ -4,8 +4,8 @@ use Rattle.mvs_job.proofs.stream.Stream.feed_all.Given as goal
 
 abbrev pub invariant-loop-at : goal.invariant-loop-at
 invariant-loop-at g l = record {
-  stands : (first : _) (start : Option (List ℕ)) (told : List ℕ) → HasConsumed g.C.Consumer.piece (g.C.Consumer.knows first) start (g.W.Write.contents l.initial.writer.inner) told l.initial.self.walk l.initial.self.line l.initial.consumer
-      → HasConsumed g.C.Consumer.piece (g.C.Consumer.knows first) start (g.W.Write.contents l.writer.inner) (told ++ take l.at l.bytes) l.self.walk l.self.line l.consumer;
+  stands : (first : _) (start : Option (List ℕ)) (consumed : List ℕ) → HasConsumed g.C.Consumer.piece (g.C.Consumer.knows first) start (g.W.Write.contents l.initial.writer.inner) consumed l.initial.self.walk l.initial.self.line l.initial.consumer
+      → HasConsumed g.C.Consumer.piece (g.C.Consumer.knows first) start (g.W.Write.contents l.writer.inner) (consumed ++ take l.at l.bytes) l.self.walk l.self.line l.consumer;
   within : l.at ≤ length l.bytes;
   room : length l.self.line < 256;
   number : l.self.walk.number ≤ l.initial.self.walk.number + l.at;

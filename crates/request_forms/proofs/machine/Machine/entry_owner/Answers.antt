@@ -8,6 +8,6 @@ pub returns : goal.returns
 returns c = rw (← c.self.view_is) (
     let tasks = c.self.inside.tasks in
     let t = c.args.name.now in
-    let s = c.in-Some-entry.subpool in
-    had_told tasks.owners t c.args.number s c.label.result c.in-Some.ensures.active (ap (λ x. entry tasks.owners x c.args.number) (sym (found_name tasks c.in-Some.t t c.in-Some.ensures.named)) ∙ sym c.entry.ensures ∙ c.in-Some-entry.is)
+    let s = c.in_ok-subpool.subpool in
+    had_told tasks.owners t c.args.number s c.label.result c.in_ok-t.ensures.active (ap (λ x. entry tasks.owners x c.args.number) (sym (found_name tasks c.in_ok-t.t t c.in_ok-t.ensures.named)) ∙ sym c.entry.ensures ∙ c.in_ok-subpool.was)
     (label_told tasks.owners s c.label.result c.label.ensures.kept c.label.ensures.label))

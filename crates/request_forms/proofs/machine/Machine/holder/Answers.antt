@@ -3,11 +3,11 @@ use Rattle.mvs_model.specs.Place.{place_at}
 use Rattle.mvs_model.specs.Storage.{Covers}
 use Rattle.cell_pool.specs.Cells.{HasPart, TouchesNone}
 use Rattle.cell_pool.specs.Roots.{pools_of}
-use Rattle.request_forms.proofs.Holding.{nobody_holds, part_holds, subpool_holds, unowned_holds}
+use Rattle.request_forms.proofs.Holding.{none_holds, part_holds, subpool_holds, unowned_holds}
 use Rattle.request_forms.proofs.machine.Machine.holder.Goals as goal
 
-pub returns-in_default : goal.returns-in_default
-returns-in_default c = rw (← c.self.view_is) (nobody_holds c.self.inside.pools c.self.inside.store.storage c.self.inside.tasks.owners c.self.invariant (c.args.addr / 8) (sym c.held.ensures.held ∙ c.in_default.is))
+pub unheld-requires : goal.unheld-requires
+unheld-requires c = rw (← c.self.view_is) (none_holds c.self.inside.pools c.self.inside.store.storage c.self.inside.tasks.owners c.self.invariant (c.args.addr / 8) (sym c.held.ensures.held ∙ c.in_default.is))
 
 pub returns-in-Some-part_in : goal.returns-in-Some-part_in
 returns-in-Some-part_in c =

@@ -9,8 +9,8 @@ pub returns : goal.returns
 returns c = rw (← c.self.view_is) (
     let tasks = c.self.inside.tasks in
     let t = c.args.name.now in
-    let id = c.in-Some-find.t in
-    let s = c.in-Some-subpool.subpool in
-    meant_told tasks.owners t c.args.number s c.label.result (sym c.in-Some.ensures.0) c.in-Some-find.ensures.active
-    (ap (λ x. subpool_meant tasks.owners x c.args.number) (sym (found_name tasks id t c.in-Some-find.ensures.named)) ∙ ap (subpool_meant tasks.owners (name_of tasks id)) (sym c.in-Some.ensures.1) ∙ sym c.subpool.ensures ∙ c.in-Some-subpool.is)
+    let id = c.in_ok-t.t in
+    let s = c.in_ok-subpool.subpool in
+    meant_told tasks.owners t c.args.number s c.label.result (sym c.in_ok-number.ensures.0) c.in_ok-t.ensures.active
+    (ap (λ x. subpool_meant tasks.owners x c.args.number) (sym (found_name tasks id t c.in_ok-t.ensures.named)) ∙ ap (subpool_meant tasks.owners (name_of tasks id)) (sym c.in_ok-number.ensures.1) ∙ sym c.subpool.ensures ∙ c.in_ok-subpool.was)
     (label_told tasks.owners s c.label.result c.label.ensures.kept c.label.ensures.label))

@@ -1,6 +1,6 @@
 use Rattle.std.proofs.Common.{◌≡◌, false, true, sym, subst}
 use Rattle.mvs_model.specs.Storage.{Places, holder}
-use Rattle.subpool_store.proofs.ToldPlace.{chosen_serves}
+use Rattle.subpool_store.proofs.HintedPlace.{chosen_serves}
 use Rattle.subpool_store.proofs.store.Store.at_hint.Goals as goal
 
 pub returns-else-serves-clause-hint : goal.returns-else-serves-clause-hint

@@ -1,5 +1,5 @@
 use Rattle.std.proofs.Common.{◌≡◌, ◌%◌, refl, arith}
-use Rattle.subpool_store.proofs.ToldPlace.{open_run}
+use Rattle.subpool_store.proofs.HintedPlace.{open_run}
 use Rattle.subpool_store.proofs.Value.{stored}
 use Rattle.subpool_store.proofs.store.Store.serves.Goals as goal
 

@@ -32,12 +32,12 @@ runs-preserved c =
     let steps = ap (λ k. k.steps) now.counted in
     let inside : end < 512 * page + 512 = elim (cases_lt c.in-Some.end 4096) [ inl low ↦ omega (arith, low) | inr past ↦ absurd (c.if-end-eq-PAGE_BYTES.false (omega (arith, past, found.inside))) ] in record {
       walk =
-          let on : IsWalk m pages s (walk_at end c.runs.self.entry c.in-Some.behind c.free_run.new.self) =
-          short_passed m pages s n exact old now.walk now.own page start end c.in-Some.behind now.page run inside found.cursor c.free_run.new.self (c.in-Some.ensures.counted ∙ ap (λ k. k + 1) steps) in
+          let on : IsWalk m pages s (walk_at end c.runs.self.entry c.in-Some.rest c.free_run.new.self) =
+          short_passed m pages s n exact old now.walk now.own page start end c.in-Some.rest now.page run inside found.cursor c.free_run.new.self (c.in-Some.ensures.counted ∙ ap (λ k. k + 1) steps) in
           search (rules, on);
-      own = short_inside m pages s n exact old now.walk now.own page start end c.in-Some.behind now.page run inside;
-      page = short_page m pages s n exact old now.walk now.own page start end c.in-Some.behind now.page run inside;
+      own = short_inside m pages s n exact old now.walk now.own page start end c.in-Some.rest now.page run inside;
+      page = short_page m pages s n exact old now.walk now.own page start end c.in-Some.rest now.page run inside;
       counted = refl;
       after = omega (arith, now.after, run.some, run.after);
-      none = short_fits m pages s n exact old now.walk now.own page start end c.in-Some.behind now.page run inside (let short = c.if-least-end.false in omega (arith, short, run.some, found.whole)) c.args.self.now.start now.none;
+      none = short_fits m pages s n exact old now.walk now.own page start end c.in-Some.rest now.page run inside (let short = c.if-least-end.false in omega (arith, short, run.some, found.whole)) c.args.self.now.start now.none;
     }

@@ -1,0 +1,14 @@
+use Rattle.std.proofs.Common.{Err}
+use Rattle.std.proofs.lemmas.Result.{err_from_is_err_and}
+use Rattle.job_script.proofs.Appending.{front_longer}
+use Rattle.mvs_job.proofs.Serving.{both_written}
+use Rattle.area_history.proofs.history_texts.print_held_and_stays.Goals as goal
+
+pub returns-in_err-print_held : goal.returns-in_err-print_held
+returns-in_err-print_held g c =
+    let p = err_from_is_err_and c.from_residual.result c.from_residual.ensures.1 in
+    let q = c.in_err-print_held.ensures in
+    rw (p.1) (record { bytes = front_longer _ _ _ _ q.bytes; ok = tt; err = q.err })
+
+pub returns : goal.returns
+returns g c = both_written g.W.Write.contents c.args.writer.now c.print_held.new.writer c.print_stays.new.writer c.in_ok-print_held.field-0 c.print_stays.result _ _ c.in_ok-print_held.ensures c.print_stays.ensures

@@ -1,0 +1,14 @@
+use Rattle.std.proofs.Common.{Err}
+use Rattle.std.proofs.lemmas.Result.{err_from_is_err_and}
+use Rattle.job_script.proofs.Appending.{front_longer}
+use Rattle.mvs_job.proofs.Serving.{both_written}
+use Rattle.area_history.proofs.history_texts.print_held_lines.Goals as goal
+
+pub returns-in_err-print_largest : goal.returns-in_err-print_largest
+returns-in_err-print_largest g c =
+    let p = err_from_is_err_and c.from_residual.result c.from_residual.ensures.1 in
+    let q = rw (c.as_slice.ensures.items) at c.in_err-print_largest.ensures in
+    rw (p.1) (record { bytes = front_longer _ _ _ _ q.bytes; ok = tt; err = q.err })
+
+pub returns : goal.returns
+returns g c = both_written g.W.Write.contents c.args.writer.now c.print_largest.new.writer c.print_totals.new.writer c.in_ok-print_largest.field-0 c.print_totals.result _ _ (rw (c.as_slice.ensures.items) at c.in_ok-print_largest.ensures) (rw (c.as_slice-2.ensures.items) at c.print_totals.ensures)

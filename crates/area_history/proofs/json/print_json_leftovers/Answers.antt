@@ -1,0 +1,14 @@
+use Rattle.std.proofs.Common.{Err}
+use Rattle.std.proofs.lemmas.Result.{err_from_is_err_and}
+use Rattle.job_script.proofs.Appending.{front_longer}
+use Rattle.mvs_job.proofs.Serving.{both_written}
+use Rattle.area_history.proofs.json.print_json_leftovers.Goals as goal
+
+pub returns-in_err-print_counts : goal.returns-in_err-print_counts
+returns-in_err-print_counts g c =
+    let p = err_from_is_err_and c.from_residual.result c.from_residual.ensures.1 in
+    let q = rw (c.len.ensures.len) at c.in_err-print_counts.ensures in
+    rw (p.1) (record { bytes = front_longer _ _ _ _ q.bytes; ok = tt; err = q.err })
+
+pub returns : goal.returns
+returns g c = both_written g.W.Write.contents c.args.writer.now c.print_counts.new.writer c.print_details.new.writer c.in_ok-print_counts.field-0 c.print_details.result _ _ (rw (c.len.ensures.len) at c.in_ok-print_counts.ensures) c.print_details.ensures

@@ -1,0 +1,14 @@
+use Rattle.std.proofs.Common.{Err}
+use Rattle.std.proofs.lemmas.Result.{err_from_is_err_and}
+use Rattle.job_script.proofs.Appending.{front_longer}
+use Rattle.mvs_job.proofs.Serving.{both_written}
+use Rattle.area_history.proofs.texts.print_some_pools.Goals as goal
+
+pub returns-in_err-print_pools_heading : goal.returns-in_err-print_pools_heading
+returns-in_err-print_pools_heading g c =
+    let p = err_from_is_err_and c.from_residual.result c.from_residual.ensures.1 in
+    let q = c.in_err-print_pools_heading.ensures in
+    rw (p.1) (record { bytes = front_longer _ _ _ _ q.bytes; ok = tt; err = q.err })
+
+pub returns : goal.returns
+returns g c = both_written g.W.Write.contents c.args.writer.now c.print_pools_heading.new.writer c.print_each_pool.new.writer c.in_ok-print_pools_heading.field-0 c.print_each_pool.result _ _ c.in_ok-print_pools_heading.ensures c.print_each_pool.ensures

@@ -1,0 +1,109 @@
+//! A run with what the history of its storage says of each line.
+
+ghost use Rattle.std.specs.Prelude.{◌≡◌, List, ℕ};
+ghost use Rattle.job_script.specs.Writing.{Prints};
+ghost use Rattle.area_history.specs.Chronicles.{HearsHistory, IsHistory, SeesLine};
+ghost use Rattle.area_history.specs.Histories.{history_from, no_history, with_history};
+
+use crate::chronicle::Chronicle;
+use crate::format::ReportFormat;
+use mvs_job::{Consumer, End, Job, LineEvent, Observer, Stop, Walk};
+use mvs_model::name::Name;
+use mvs_model::reason::Shortfall;
+use mvs_model::refusal::Refusal;
+use mvs_model::request::Request;
+use mvs_model::watched::{Failed, Watched};
+use std::alloc::Global;
+use std::io::Write;
+
+/// A consumer, and after what it writes for a line, what the history of the storage says of that line: who freed an address that is no
+/// longer held, and who holds it now; who has the storage that is short; and what stays of
+/// the areas of the tasks that ended. The format says how that is written.
+#[derive(Drop)]
+pub struct Historian<'a, C, F> {
+    consumer: &'a mut C,
+    format: F,
+    chronicle: Chronicle,
+}
+
+impl<'a, C, F> Historian<'a, C, F> {
+    /// Wraps a consumer, before the first line. It allocates no memory.
+    pub fn new(alloc: Global, consumer: &'a mut C, format: F) -> Historian<'a, C, F>
+        ensures consumer { result.consumer ≡ consumer.entry }
+        ensures format { result.format ≡ format }
+        ensures chronicle { IsHistory result.chronicle no_history }
+    {
+        Historian {
+            consumer,
+            format,
+            chronicle: Chronicle::new(alloc),
+        }
+    }
+}
+
+impl<'a, C: Consumer, F: ReportFormat> Observer for Historian<'a, C, F> {
+    ghost heard = { λ old job t request refusal left new.
+        (new.consumer.ghost_name ≡ old.consumer.ghost_name)
+        × C.heard old.consumer.now job t request refusal left new.consumer.now
+        × HearsHistory old.chronicle job t request refusal new.chronicle };
+
+    fn refused(
+        &mut self,
+        job: &Job,
+        task: &Name,
+        request: &Request,
+        refusal: Refusal,
+        left: &Shortfall,
+    ) {
+        self.consumer.refused(job, task, request, refusal, left);
+        self.chronicle.refused(job, task, request, refusal, left);
+    }
+}
+
+impl<'a, C: Consumer, F: ReportFormat> Consumer for Historian<'a, C, F> {
+    ghost piece = { with_history F.findings C.piece };
+
+    ghost knows = { λ first. record {
+      has = λ now entries. (now.consumer.ghost_name ≡ first.consumer.ghost_name)
+          × (C.knows first.consumer.now).has now.consumer.now entries
+          × IsHistory now.chronicle (history_from no_history entries);
+      had = λ now entries. now.consumer.ghost_name ≡ first.consumer.ghost_name;
+    } };
+
+    ghost sees = { λ s step line. C.sees s.consumer.now step line × SeesLine s.chronicle step line };
+
+    fn look(&mut self, walk: &Walk, line: &[u8]) {
+        self.consumer.look(walk, line);
+        self.chronicle.look(walk, line);
+    }
+
+    fn entry<W: Write>(
+        &mut self,
+        writer: &mut Watched<W>,
+        line_number: u32,
+        line: &[u8],
+        walk: &Walk,
+        line_event: &LineEvent,
+    ) -> Result<(), Stop> {
+        self.chronicle.settle(walk, line_event);
+        let Ok(()) = self.chronicle.keep(line_number, walk, line_event) else {
+            return Err(Stop::Memory);
+        };
+        self.consumer
+            .entry(writer, line_number, line, walk, line_event)?;
+        match self.format.print_findings(writer, &self.chronicle.found) {
+            Ok(()) => Ok(()),
+            Err(_) => Err(Stop::Write),
+        }
+    }
+
+    fn end<W: Write>(
+        &mut self,
+        writer: &mut Watched<W>,
+        line_number: u32,
+        walk: &Walk,
+        end: End,
+    ) -> Result<(), Failed> {
+        self.consumer.end(writer, line_number, walk, end)
+    }
+}

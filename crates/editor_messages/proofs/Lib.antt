@@ -1,0 +1,4 @@
+pub mod LastItem
+mod Lengths
+pub mod Running
+pub mod Writable

@@ -1,0 +1,13 @@
+mod Completing
+mod Emptying
+mod Fixing
+mod Hovering
+mod Mended
+mod Naming
+mod Noting
+mod Parted
+mod Referring
+mod Starts
+mod Strict
+mod TakenLines
+mod Walked

@@ -1,0 +1,52 @@
+//! Answers about the text of a script, for editors: a text and a place in, answers out.
+#![tactic(auto)]
+
+mod actions;
+mod completion;
+mod cuts;
+mod differences;
+mod document;
+mod explanations;
+mod fault_notes;
+mod fixes;
+mod form_groups;
+mod hints;
+mod hover;
+pub mod laws;
+mod leak_notes;
+mod leaks;
+mod limited;
+mod line_outputs;
+mod names;
+mod nearest;
+mod notes;
+mod paragraphs;
+mod parts;
+mod plain_text;
+mod position;
+mod proposals;
+mod reference_texts;
+mod references;
+mod refusal_notes;
+mod refusals;
+mod releases;
+mod report;
+mod runnable;
+mod span;
+mod state;
+mod subject;
+mod symbols;
+mod syntax;
+mod transcript;
+mod words;
+
+pub use actions::Action;
+pub use completion::Completion;
+pub use document::{Document, DocumentError, MOST_DOCUMENT};
+pub use hints::InlayHint;
+pub use hover::Hover;
+pub use notes::{Note, Severity};
+pub use position::{Ruler, place_of};
+pub use proposals::{Proposal, ProposalKind};
+pub use span::Span;
+pub use symbols::DocumentSymbol;

@@ -1,0 +1,4 @@
+mod Chained
+mod Listed
+mod Opened
+mod Symbols

@@ -1,0 +1,5 @@
+use Rattle.mvsjob_lsp.proofs.Chained.{after, on_ok}
+use Rattle.mvsjob_lsp.proofs.replies.write_markdown.Goals as goal
+
+pub returns : goal.returns
+returns c = on_ok c.end.result (λ e. after c.in_ok-object.ensures (after c.in_ok-text.ensures (after c.in_ok-text-2.ensures e))) c.end.ensures

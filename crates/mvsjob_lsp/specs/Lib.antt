@@ -1,0 +1,4 @@
+pub mod Answering
+pub mod Sessions
+pub mod Tokens
+pub mod Values

@@ -1,6 +1,0 @@
-use Rattle.std.proofs.Common.{◌∙◌}
-use Rattle.mvs_job.proofs.Freeing.{same_is}
-use Rattle.page.proofs.changes.is_same.Goals as goal
-
-pub returns : goal.returns
-returns c = c.eq.ensures ∙ same_is c.args.one.now c.args.other.now

@@ -1,0 +1,4 @@
+pub mod Cleaning
+pub mod Inputs
+pub mod Scripts
+pub mod Edits

@@ -1,0 +1,19 @@
+use Rattle.std.proofs.Common.{◌∙◌, ap, Some}
+use Rattle.std.specs.Option.{option_map}
+use Rattle.task_owner.specs.Seats.{mother_of}
+use Rattle.task_owner.specs.declared.task_slot.TaskSlot.{TaskSlot}
+use Rattle.task_owner.proofs.tasks.Tasks.mother.Goals as goal
+use Rattle.task_owner.proofs.Reading.{is_seat, task_is}
+
+pub seat_at-requires : goal.seat_at-requires
+seat_at-requires c = is_seat _ _ _ _ _ c.self.view_is c.t.view_is c.requires
+
+pub returns-in-Some : goal.returns-in-Some
+returns-in-Some c =
+    ap (option_map (λ task. task.mother)) (task_is _ _ _ _ _ c.self.view_is c.t.view_is c.self.invariant.0 _ c.seat_at.ensures)
+    ∙ ap Some (ap (mother_of c.self.inside.active.slots) c.in-Some.is ∙ ap (option_map (λ (x : TaskSlot). x.name)) c.seat_at-in-Some.ensures)
+
+pub returns-in-None : goal.returns-in-None
+returns-in-None c =
+    ap (option_map (λ task. task.mother)) (task_is _ _ _ _ _ c.self.view_is c.t.view_is c.self.invariant.0 _ c.seat_at.ensures)
+    ∙ ap Some (ap (mother_of c.self.inside.active.slots) c.in-None.is)

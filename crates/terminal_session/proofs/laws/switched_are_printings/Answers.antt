@@ -1,0 +1,5 @@
+use Rattle.terminal_session.proofs.Switching.{switched_are}
+use Rattle.terminal_session.proofs.laws.switched_are_printings.Goals as goal
+
+pub returns : goal.returns
+returns c = switched_are c.no_line_is_starred.ensures

@@ -1,0 +1,28 @@
+-- What is written of a run while its explanations may be switched off and on.
+use Rattle.std.specs.Prelude.{◌⊎◌, ℕ, List, Ok}
+use Rattle.mvs_model.specs.declared.outcome.Outcome.{Outcome}
+use Rattle.mvs_model.specs.Runs.{IsPrinting}
+use Rattle.mvs_job.specs.Consuming.{Piece, WritesText}
+use Rattle.mvs_job.specs.Explained.{explained}
+use Rattle.mvs_job.specs.Explaining.{without_starred}
+use Rattle.mvs_job.specs.Printed.{printed}
+use Rattle.area_history.specs.Histories.{with_history}
+use Rattle.area_history.specs.HistoryTexts.{findings_text}
+use Rattle.area_history.specs.LeakTexts.{report_text}
+use Rattle.area_history.specs.Reporting.{with_leaks}
+
+-- what is written for an entry: its events, or what another consumer writes; for each, memory may be needed
+abbrev pub switched : Piece → Piece
+switched piece = record { may = λ history e text. printed.may history e text ⊎ piece.may history e text; needs = λ e. Unit {0} }
+
+-- with explanations and what the history of the storage says
+abbrev pub switched_history : Piece
+switched_history = switched (with_history findings_text explained)
+
+-- Without its lines that begin with an asterisk it is the printing of a run.
+abbrev pub SwitchedArePrintings : Type 0
+SwitchedArePrintings = (script text : List ℕ) (outcome : Outcome) → WritesText switched_history script text (Ok outcome) → IsPrinting script (without_starred text) outcome
+
+-- So it is with reports of leaks.
+abbrev pub SwitchedLeaksArePrintings : Type 0
+SwitchedLeaksArePrintings = (script text : List ℕ) (outcome : Outcome) → WritesText (with_leaks report_text switched_history) script text (Ok outcome) → IsPrinting script (without_starred text) outcome
