@@ -62,27 +62,27 @@ class Browser:
                 raise EOFError("the browser has ended")
             self.kept += more
         text, self.kept = self.kept.split(b"\0", 1)
-        told = json.loads(text)
-        if told.get("method") == "Page.loadEventFired":
+        message = json.loads(text)
+        if message.get("method") == "Page.loadEventFired":
             self.loaded += 1
-        elif told.get("method") == "Runtime.exceptionThrown":
-            self.errors.append(told["params"]["exceptionDetails"]["text"])
-        elif told.get("method") == "Log.entryAdded" and told["params"]["entry"]["level"] in ("error", "warning"):
-            self.errors.append(told["params"]["entry"]["text"])
-        elif told.get("method") == "Runtime.consoleAPICalled":
-            self.errors.append(str(told["params"]["args"]))
-        return told
+        elif message.get("method") == "Runtime.exceptionThrown":
+            self.errors.append(message["params"]["exceptionDetails"]["text"])
+        elif message.get("method") == "Log.entryAdded" and message["params"]["entry"]["level"] in ("error", "warning"):
+            self.errors.append(message["params"]["entry"]["text"])
+        elif message.get("method") == "Runtime.consoleAPICalled":
+            self.errors.append(str(message["params"]["args"]))
+        return message
 
     def call(self, method, **how):
         number = next(self.numbers)
         command = {"id": number, "method": method, "params": how} | ({"sessionId": self.session} if self.session else {})
         os.write(self.to, json.dumps(command).encode() + b"\0")
         while True:
-            told = self.message()
-            if told.get("id") == number:
-                if "error" in told:
-                    raise RuntimeError(f"{method}: {told['error']['message']}")
-                return told["result"]
+            message = self.message()
+            if message.get("id") == number:
+                if "error" in message:
+                    raise RuntimeError(f"{method}: {message['error']['message']}")
+                return message["result"]
 
     def open(self, path, where=""):
         """Opens a file, and waits until it is loaded; its errors are kept from here on."""

@@ -53,7 +53,7 @@ def judged(program, script, printed):
     return said.partition("\n")[0], status
 
 
-def is_told(script, placement):
+def shows_all_places(script, placement):
     """Whether answers show all places that matter: there is no part of a pool without one, and no list that is refused by chance."""
     return placement == "low" or " CPOOL " not in script and (placement != "random" or " GETMAIN L" not in script)
 
@@ -61,7 +61,7 @@ def is_told(script, placement):
 def is_judged(program, script, placement, seed):
     """Whether the plain machine's printing is accepted, where its answers show all places."""
     verdict = judged(program, script, plain_emulator.run(script, placement, None, seed))
-    return verdict == ACCEPTED or verdict == UNDECIDED and not is_told(script, placement)
+    return verdict == ACCEPTED or verdict == UNDECIDED and not shows_all_places(script, placement)
 
 
 def of_corpus(program, case):

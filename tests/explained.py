@@ -59,8 +59,8 @@ def as_plain(program, seed):
     profile = PROFILES[seed % 4]
     script = called(program, b"", "--random", str(seed), "--lines", "60", "--profile", profile)[0]
     explained = called(program, script, "--explain", "--place", placement)[0].decode()
-    told = plain_facts.told(script.decode().splitlines(), placement, plain_facts.addresses(explained))
-    return plain_facts.without_reasons(explained) == list(told)
+    expected = plain_facts.expected(script.decode().splitlines(), placement, plain_facts.addresses(explained))
+    return plain_facts.without_reasons(explained) == list(expected)
 
 
 def as_wanting(program, seed):
@@ -69,7 +69,7 @@ def as_wanting(program, seed):
     kind = ("storage", "pools", "anything")[seed % 3]
     script = getattr(random_scripts, kind)(seed, False).text()
     explained = called(program, script.encode(), "--explain", "--place", placement)[0].decode()
-    return plain_shortages.of(explained) == list(plain_shortages.told(script.splitlines(), placement))
+    return plain_shortages.of(explained) == list(plain_shortages.expected(script.splitlines(), placement))
 
 
 def as_history(program, seed):

@@ -250,8 +250,8 @@ def tests_fail(folder):
     counts.write_text(re.sub(r"(?m)^\d+ strict$", "2 strict", counts.read_text()))
     (folder / "tests/strict.py").write_text(LACKS)
     status, printed = run("strict")
-    told = "\nnot tried: strict not tried (a tool of this name)\nnot tried: 1 cases, for want of a tool of this name\n1 passed, 0 failed\n"
-    yield "a tool is missing", status == 0 and printed.endswith(told)
+    lines = "\nnot tried: strict not tried (a tool of this name)\nnot tried: 1 cases, for want of a tool of this name\n1 passed, 0 failed\n"
+    yield "a tool is missing", status == 0 and printed.endswith(lines)
     for what, text in STOPPING.items():
         (folder / "tests/strict.py").write_text(text)
         status, printed = run("strict")

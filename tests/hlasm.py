@@ -110,7 +110,7 @@ class Program:
     def check(self):
         labels = self.labels() | {"SDWA", "SDWAPARM", "SDWAABCC"}
         for number, label, operation, operands in self.statements:
-            told = len(self.wrong)
+            reported = len(self.wrong)
             if operation in INSTRUCTIONS:
                 self.check_instruction(operands, INSTRUCTIONS[operation])
             elif operation in MACROS:
@@ -121,7 +121,7 @@ class Program:
                 self.check_symbols(",".join(operands), labels)
             if operation == "DC":
                 self.check_constants(operands, labels)
-            self.wrong[told:] = [f"{number}: {operation} {','.join(operands)}: {text}" for text in self.wrong[told:]]
+            self.wrong[reported:] = [f"{number}: {operation} {','.join(operands)}: {text}" for text in self.wrong[reported:]]
 
     def check_symbols(self, text, labels):
         text = re.sub(r"=?[XCF]L?\d*'[^']*'", "0", text)

@@ -57,8 +57,8 @@ def leaves_out(program, kind, seed):
     script = getattr(random_scripts, kind)(seed, high)
     text, count = with_faults(script.text(), seed)
     status, printed, said = called(program, text, "--place", "high" if high else "low")
-    told = len(re.findall(r"(?m)^(?:\d+> )*-:\d+:\d+: JS\d\d: ", said))
-    return printed == script.output() and told == count and status == (8 if "STEP ENDED RC 8\n" in printed else 0)
+    reported = len(re.findall(r"(?m)^(?:\d+> )*-:\d+:\d+: JS\d\d: ", said))
+    return printed == script.output() and reported == count and status == (8 if "STEP ENDED RC 8\n" in printed else 0)
 
 
 def is_asked(said):
@@ -135,8 +135,8 @@ def left(program):
     try:
         terminal.read("1> ")
         terminal.type("\x04")
-        told = "\n1 JS09\nJOB FAULT RC 12\n-:1:1: JS09: the script has no statement\n"
-        yield "nothing typed", (terminal.read(told), terminal.run.wait(600)) == (told, 12)
+        reported = "\n1 JS09\nJOB FAULT RC 12\n-:1:1: JS09: the script has no statement\n"
+        yield "nothing typed", (terminal.read(reported), terminal.run.wait(600)) == (reported, 12)
     finally:
         terminal.close()
 

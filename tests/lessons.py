@@ -44,15 +44,15 @@ def is_answered(program, path):
     return " => " in text and differences(program, text) == (counts(len(answered(text))), 0)
 
 
-def is_told(program, path):
+def is_reported(program, path):
     """Whether a wrong answer of a solution is reported, with its line, and nothing else is; and with `--hide` the line only."""
     lines = path.read_text().splitlines()
     number = next(k for k, line in enumerate(lines, 1) if " => " in line)
     statement, _, texts = lines[number - 1].partition(" => ")
     lines[number - 1] = f"{statement} => NOTHING OF THAT"
     text, last = "\n".join(lines), counts(len(answered(path.read_text())) - 1, 1)
-    told = differences(program, text) == (f"-:{number}: expected NOTHING OF THAT, got {texts}\n{last}", 1)
-    return told and differences(program, text, "--hide") == (f"-:{number}: wrong\n{last}", 1)
+    reported = differences(program, text) == (f"-:{number}: expected NOTHING OF THAT, got {texts}\n{last}", 1)
+    return reported and differences(program, text, "--hide") == (f"-:{number}: wrong\n{last}", 1)
 
 
 def blank(program, text):
@@ -278,7 +278,7 @@ def is_shown(number, shown):
 def results(program):
     for path in solutions():
         yield path.name, is_answered(program, path)
-        yield f"{path.name}, an answer changed", is_told(program, path)
+        yield f"{path.name}, an answer changed", is_reported(program, path)
         yield f"{path.stem}.md", is_asked(program, path)
         yield f"{path.stem}.md, its answers apart", is_apart(path)
         yield f"{path.stem}.md, its reasons", is_explained(program, path)

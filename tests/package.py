@@ -78,7 +78,7 @@ def rendered(page):
     return {"NAME", *PAGES[f"{page.parent.name}/{page.name.removesuffix('.gz')}"]} <= shown(page)
 
 
-def scripts_told(root):
+def scripts_are_shown(root):
     """Whether each line of a script or of its output in docs/SCRIPT.md is in a manual page as it is there."""
     blocks = (TOP / "docs/SCRIPT.md").read_text().split("```")[1::2]
     lines = {line.strip() for block in blocks for line in block.splitlines() if not line.startswith("mvsjob ")}
@@ -181,8 +181,8 @@ def packages(folder):
     again, odd = copy / "out", os.environ | {"LC_ALL": "C.UTF-8", "TZ": "Asia/Tokyo"}
     output(TOP / "x", "package", first)
     kit, _, package, sums, _ = verifying()
-    told, made, summed = (output("bash", "-c", f"umask 077; {command}", cwd=copy, env=odd) for command in (kit, package, sums))
-    yield "VERIFY.md, the kit", f"`{told.strip()}`" in VERIFY
+    kit_sum, made, summed = (output("bash", "-c", f"umask 077; {command}", cwd=copy, env=odd) for command in (kit, package, sums))
+    yield "VERIFY.md, the kit", f"`{kit_sum.strip()}`" in VERIFY
     yield "VERIFY.md, the packages", {Path(line) for line in made.splitlines()} == set(again.iterdir())
     yield "VERIFY.md, the sums", len(summed.splitlines()) == len(MADE) and set(summed.splitlines()) <= set((first / "SHA256SUMS").read_text().splitlines())
     for name in [name.format("mvsjob", version) for name in MADE + RPM]:
@@ -218,7 +218,7 @@ def installed(root):
         yield word, (ran.returncode, ran.stdout, ran.stderr) == (0, text, "")
     for page in PAGES:
         yield page, rendered(root / "share/man" / page)
-    yield "all scripts of SCRIPT.md", scripts_told(root)
+    yield "all scripts of SCRIPT.md", scripts_are_shown(root)
     yield "mvsjob-shell", in_session(root)
     for name in ("LICENSE-MIT", "LICENSE-APACHE", "THIRD_PARTY.md", "docs/page.png", "examples/first.why"):
         yield name, (root / "share/doc/mvsjob" / name).stat().st_size > 0

@@ -83,13 +83,13 @@ def shows(program, script):
     read = Reader(page[0].decode())
     lines = [re.sub(r"[^ -~]", "?", line[:255]) for line in script.decode("latin-1").removesuffix("\n").split("\n")]
     words = "".join(line[2:] + "\n" for line in explained[0].decode().splitlines() if line.startswith("* ") and not OF_HISTORY.match(line))
-    told = "".join(item["words"] for item in read.items.values() if item["class"] not in (None, "js"))
+    explained_words = "".join(item["words"] for item in read.items.values() if item["class"] not in (None, "js"))
     return (
         read.printed.encode() == plain[0]
         and page[1:] == plain[1:]
         and all(lines[number - 1] == item["line"] for number, item in read.items.items())
         and list(read.items) == list(range(1, len(read.items) + 1))
-        and told == words
+        and explained_words == words
         and not read.open
         and set(read.tags) <= {"article", "h2", "code", "pre", "p"}
     )
@@ -450,7 +450,7 @@ def large(program, folder, view):
     yield "lanes have names", view.tell(f"[...{lanes}.querySelectorAll('text.right')].map(e=>e.textContent).join()") == ",".join(["JOB", *(f"T{k}" for k in range(1, 32))])
     yield "lanes scroll", view.tell(f"{lanes}.scrollHeight>{lanes}.clientHeight&&{lanes}.scrollTop>0")
     kinds = view.tell("[...document.querySelectorAll('.chip')].map(e=>[...e.classList].filter(c=>/^[hp][0-9]$/.test(c)).join(' '))")
-    yield "subpools are told apart", len(kinds) == len(set(kinds)) == 20
+    yield "subpools look different", len(kinds) == len(set(kinds)) == 20
     yield "20 pages of 8,192 are seen", view.tell("[...document.querySelectorAll('.map')].pop().querySelector('.level').getBoundingClientRect().width") >= 3
     view.tell("var map=[...document.querySelectorAll('.map')].pop();map.id='map';map.scrollIntoView({block:'center'})")
     place = view.tell("(function(){var b=document.querySelector('#map rect').getBoundingClientRect();return[b.x+2,b.y+b.height/2]})()")
@@ -583,7 +583,7 @@ HOSTILE = {
     "each byte of a remark": [FIRST + b"JOB REPORT MAP a" + bytes([byte]) + b"b\n" for byte in range(256)],
     "each length": [FIRST + b"*" * length + b"\nJOB REPORT MAP\n" for length in range(300)],
     "no statement": [b"* note\n", b"\n\n"],
-    "16 MB": [(FIRST + b"* a comment of some length, which is told many times\n" * 316000)[: (1 << 24) - 1]],
+    "16 MB": [(FIRST + b"* a comment of some length, which is there many times\n" * 316000)[: (1 << 24) - 1]],
 }
 
 

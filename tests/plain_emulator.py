@@ -124,7 +124,7 @@ class MovesUpwards(Placed):
 class OffByDoubleword(Placed):
     """WHERE prints an address that is 4 too high."""
 
-    told_too_high = 4
+    printed_too_high = 4
 
 
 class PartialLists(Placed):
@@ -298,7 +298,7 @@ def move(machine, s):
 
 def where(machine, s):
     name = s.plain[0]
-    return [name], lambda: f"AT {machine.names[name][0] + getattr(machine, 'told_too_high', 0):08X}"
+    return [name], lambda: f"AT {machine.names[name][0] + getattr(machine, 'printed_too_high', 0):08X}"
 
 
 def report(machine, s):

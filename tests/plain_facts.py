@@ -178,7 +178,7 @@ def naming(machine, numbers, address):
             yield f"{address:08X} is {into} into {name}, {length} bytes at {first:08X} obtained in line {number}. (rule 37)"
 
 
-def told(lines, placement, told_addresses):
+def expected(lines, placement, addresses_of_lines):
     """What a script without faults prints, with the lines of its facts, where its reasons have these addresses."""
     machine, numbers = None, {}
     for number, line in enumerate(lines, 1):
@@ -192,7 +192,7 @@ def told(lines, placement, told_addresses):
             yield f"{number} {s.task} REGION BELOW {machine.regions[0].pages} ABOVE {machine.regions[1].pages}"
             continue
         watcher = Watcher(machine, s)
-        address = told_addresses.get(str(number))
+        address = addresses_of_lines.get(str(number))
         named = [] if address is None else list(naming(machine, numbers, address))
         said = machine.says(s.task, *DOES[s.operation](machine, s))
         yield from (f"{number} {text}" for text in said)

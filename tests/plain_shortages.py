@@ -66,7 +66,7 @@ def kind(placement):
     return type("Lacks", (Lacking,), {"placement": placement})
 
 
-def told(lines, placement):
+def expected(lines, placement):
     """What a script without faults prints of shortages."""
     machine = None
     for line in lines:

@@ -189,15 +189,15 @@ def other_line(printed, dice):
     at = dice.randrange(len(lines))
     if dice.random() < 0.5:
         return "".join(lines[:at] + lines[at + 1 :])
-    lines[at] = re.sub("RC 0|RC 4|OK|CELL|NO CELL", lambda told: dice.choice(("RC 0", "RC 4", "OK")), lines[at])
+    lines[at] = re.sub("RC 0|RC 4|OK|CELL|NO CELL", lambda found: dice.choice(("RC 0", "RC 4", "OK")), lines[at])
     return "".join(lines)
 
 
 def other_address(printed, dice):
-    told = list(re.finditer(r" AT ([0-9A-F]{8})$", printed, re.M))
-    if not told:
+    located = list(re.finditer(r" AT ([0-9A-F]{8})$", printed, re.M))
+    if not located:
         return printed
-    match = dice.choice(told)
+    match = dice.choice(located)
     address = dice.choice((0x6000, 0x7000, 0x1000000)) + dice.choice((8, 512, 1024)) * dice.randrange(4)
     return printed[: match.start(1)] + f"{address:08X}" + printed[match.end(1) :]
 
@@ -230,7 +230,7 @@ def agrees(program, script, printed):
     return (word, status) == (ACCEPTED if is_printing(script, printed) else REFUSED)
 
 
-def is_told(script):
+def shows_all_places(script):
     """Whether all places are known: each is asked for, and none is a list's, which may be granted or refused."""
     lines = script.splitlines()
     return "GETMAIN L" not in script and all(is_asked_for(lines, k) for k in range(len(lines)))
@@ -243,7 +243,7 @@ def of_seed(program, seed):
     if is_asked(seed):
         script = asked(program, script)
     printed = plain_emulator.run(script, "random", None, seed)
-    if is_told(script) and judged(program, script, printed) != ACCEPTED:
+    if shows_all_places(script) and judged(program, script, printed) != ACCEPTED:
         return False
     change = (other_byte, other_line, other_address)[seed // 3 % 3]
     return agrees(program, script, printed) and agrees(program, script, change(printed, dice))

@@ -29,22 +29,22 @@ def wanted(status, printed):
     return 4 if status == 0 and overlooked else status
 
 
-def is_told(program, script, said):
+def is_reported(program, script, said):
     status, printed, _ = called(program, script)
     return called(program, script, "--strict") == (wanted(status, printed), printed, said)
 
 
-def tells_each(program, path):
+def reports_each(program, path):
     """Whether just the lines of a script that were not executed are reported, and standard output is the same."""
     script = path.read_text()
     status, printed, fault = called(program, script)
     strict, same, said = called(program, script, "--strict")
     numbers = [line.split()[0] for line in printed.splitlines() if line.endswith(OVERLOOKED)]
-    told = [line.split(":")[1] for line in said.removesuffix(fault).splitlines() if line.startswith("-:")]
-    return (strict, same, told) == (wanted(status, printed), printed, numbers)
+    reported = [line.split(":")[1] for line in said.removesuffix(fault).splitlines() if line.startswith("-:")]
+    return (strict, same, reported) == (wanted(status, printed), printed, numbers)
 
 
 def results(program):
     scripts = sorted([*(TOP / "tests/scripts").glob("*.job"), *(TOP / "examples").glob("*.job")])
-    told = [(script.splitlines()[1], is_told(program, script, said)) for script, said in cases()]
-    return told + [(path.name, tells_each(program, path)) for path in scripts]
+    reported = [(script.splitlines()[1], is_reported(program, script, said)) for script, said in cases()]
+    return reported + [(path.name, reports_each(program, path)) for path in scripts]

@@ -19,7 +19,7 @@ use Rattle.mvs_job.specs.Explained.{explained, set_by_entries}
 use Rattle.mvs_job.specs.Explaining.{NoLineIsStarred, without_starred}
 use Rattle.mvs_job.specs.Printed.{printed}
 use Rattle.mvs_job.specs.Trace.{Entry}
-use Rattle.mvs_job.proofs.Starred.{IsClosed, IsEnded, IsLeftOut, IsStarred, closed_behind, each_out, entry_out, event_ended, left_both, line_out, none_left_out, out_both, printed_then, printing_ended, reply_closed, starred_are}
+use Rattle.mvs_job.proofs.Starred.{IsClosed, IsEnded, IsLeftOut, IsStarred, closed_after, each_out, entry_out, event_ended, left_both, line_out, none_left_out, out_both, printed_then, printing_ended, reply_closed, starred_are}
 use Rattle.area_history.specs.declared.account.Leftovers.{Leftovers}
 use Rattle.area_history.specs.declared.largest.Leaks.{Leaks}
 use Rattle.area_history.specs.declared.pools.PoolLeft.{PoolLeft}
@@ -153,7 +153,7 @@ no_feed (b ∷ front) rest h = no_feed front rest h.1
 
 closed_then : (one other : List ℕ) → IsClosed one → IsEnded other → IsClosed (one ++ other)
 closed_then one other c (inl e) = subst IsClosed (sym (append-nil one) ∙ ap (λ x. one ++ x) (sym e)) c
-closed_then one other c (inr d) = closed_behind one other d
+closed_then one other c (inr d) = closed_after one other d
 
 -- the printing of events that begin a step
 begun_closed : (events : List Event) → is_some (begun events) ≡ true → IsClosed (printing events)
@@ -161,23 +161,23 @@ begun_closed [] h = absurd (let f : false ≡ true = h in cc)
 begun_closed (AnswerTo number t (Region card) ∷ events) h = closed_then _ _ (region_closed (event_ended (AnswerTo number t (Region card)))) (printing_ended events) where
   region_closed : IsEnded (text_of (AnswerTo number t (Region card))) → IsClosed (text_of (AnswerTo number t (Region card)))
   region_closed x = reply_closed number t _
-begun_closed (StepEnded abended ∷ events) h = closed_behind _ _ (begun_closed events h)
-begun_closed (Faulted number fault ∷ events) h = closed_behind _ _ (begun_closed events h)
-begun_closed (AnswerTo number t answer.NotRun ∷ events) h = closed_behind _ _ (begun_closed events h)
-begun_closed (AnswerTo number t answer.NoName ∷ events) h = closed_behind _ _ (begun_closed events h)
-begun_closed (AnswerTo number t (answer.At a) ∷ events) h = closed_behind _ _ (begun_closed events h)
-begun_closed (AnswerTo number t answer.Rc0 ∷ events) h = closed_behind _ _ (begun_closed events h)
-begun_closed (AnswerTo number t (answer.Granted n) ∷ events) h = closed_behind _ _ (begun_closed events h)
-begun_closed (AnswerTo number t answer.Rc4 ∷ events) h = closed_behind _ _ (begun_closed events h)
-begun_closed (AnswerTo number t answer.Cell ∷ events) h = closed_behind _ _ (begun_closed events h)
-begun_closed (AnswerTo number t answer.NoCell ∷ events) h = closed_behind _ _ (begun_closed events h)
-begun_closed (AnswerTo number t answer.Attached ∷ events) h = closed_behind _ _ (begun_closed events h)
-begun_closed (AnswerTo number t answer.Ended ∷ events) h = closed_behind _ _ (begun_closed events h)
-begun_closed (AnswerTo number t answer.Done ∷ events) h = closed_behind _ _ (begun_closed events h)
-begun_closed (AnswerTo number t (answer.Data bytes) ∷ events) h = closed_behind _ _ (begun_closed events h)
-begun_closed (AnswerTo number t (answer.Abended code fallen) ∷ events) h = closed_behind _ _ (begun_closed events h)
-begun_closed (AnswerTo number t (answer.Subpools lines) ∷ events) h = closed_behind _ _ (begun_closed events h)
-begun_closed (AnswerTo number t (answer.Map runs) ∷ events) h = closed_behind _ _ (begun_closed events h)
+begun_closed (StepEnded abended ∷ events) h = closed_after _ _ (begun_closed events h)
+begun_closed (Faulted number fault ∷ events) h = closed_after _ _ (begun_closed events h)
+begun_closed (AnswerTo number t answer.NotRun ∷ events) h = closed_after _ _ (begun_closed events h)
+begun_closed (AnswerTo number t answer.NoName ∷ events) h = closed_after _ _ (begun_closed events h)
+begun_closed (AnswerTo number t (answer.At a) ∷ events) h = closed_after _ _ (begun_closed events h)
+begun_closed (AnswerTo number t answer.Rc0 ∷ events) h = closed_after _ _ (begun_closed events h)
+begun_closed (AnswerTo number t (answer.Granted n) ∷ events) h = closed_after _ _ (begun_closed events h)
+begun_closed (AnswerTo number t answer.Rc4 ∷ events) h = closed_after _ _ (begun_closed events h)
+begun_closed (AnswerTo number t answer.Cell ∷ events) h = closed_after _ _ (begun_closed events h)
+begun_closed (AnswerTo number t answer.NoCell ∷ events) h = closed_after _ _ (begun_closed events h)
+begun_closed (AnswerTo number t answer.Attached ∷ events) h = closed_after _ _ (begun_closed events h)
+begun_closed (AnswerTo number t answer.Ended ∷ events) h = closed_after _ _ (begun_closed events h)
+begun_closed (AnswerTo number t answer.Done ∷ events) h = closed_after _ _ (begun_closed events h)
+begun_closed (AnswerTo number t (answer.Data bytes) ∷ events) h = closed_after _ _ (begun_closed events h)
+begun_closed (AnswerTo number t (answer.Abended code fallen) ∷ events) h = closed_after _ _ (begun_closed events h)
+begun_closed (AnswerTo number t (answer.Subpools lines) ∷ events) h = closed_after _ _ (begun_closed events h)
+begun_closed (AnswerTo number t (answer.Map runs) ∷ events) h = closed_after _ _ (begun_closed events h)
 
 -- ---- an entry with a report
 

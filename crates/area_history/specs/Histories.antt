@@ -242,7 +242,7 @@ ended_tasks _ = []
 abbrev pub ended_since : List StorageEvent → List Name → List EndedTask
 ended_since events tasks = take 32 (map (ended_at events) tasks)
 
--- what stays of the areas that tasks obtained since they were attached, of which the first was attached before the others
+-- what stays of the areas that tasks obtained since they were attached; the first task was attached before the others
 abbrev pub stays_in : JobValue → List AreaGrant → List EndedTask → Leaks
 stays_in job grants [] = summary []
 stays_in job grants (e ∷ ended) = summary (leaks (selects (EndedWith (e ∷ ended))) (plain_in job) (drop e.start.areas grants))

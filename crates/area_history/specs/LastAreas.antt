@@ -25,7 +25,7 @@ no_numbers = record { latest = 0; previous = 0 }
 abbrev pub later_numbers : ℕ → ℕ → LastNumbers → PlaceValue → LastNumbers
 later_numbers d n two p = if has_doubleword p d then record { latest = n; previous = two.latest } else two
 
--- after more areas, of which the first has this number
+-- after more areas, the first with this number
 abbrev pub numbers_after : ℕ → ℕ → LastNumbers → List AreaGrant → LastNumbers
 numbers_after d n two [] = two
 numbers_after d n two (g ∷ grants) = numbers_after d (n + 1) (later_numbers d n two g.place) grants

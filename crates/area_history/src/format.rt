@@ -40,7 +40,7 @@ pub trait ReportFormat {
     ) -> Result<(), Failed>
         ensures { Prints W.contents writer.old writer.new result (findings found.now) };
 
-    // Nothing is written of a line of which it says nothing.
+    // A line without facts prints nothing.
     ghost quiet: { findings (findings_of nothing_found (summary [])) ≡ [] };
 }
 

@@ -21,7 +21,7 @@ use std::marker::Model;
 #[derive(Drop)]
 pub struct AreaHistory {
     grants: Vec<AreaGrant>,
-    // The areas of which something may be left. A survey forgets those that later ones cover.
+    // The areas that may still hold storage. A survey forgets those that later ones cover.
     visible: VisibleAreas,
     // Between two calls nothing is marked.
     marks: Marks,
@@ -177,7 +177,7 @@ impl AreaHistory {
         found
     }
 
-    /// Returns what `survey` returns. It takes one look at an area that is held and of which no later one has a doubleword, and none at an
+    /// Returns what `survey` returns. It takes one look at an area that is held and overlaps no later one, and none at an
     /// area that later ones cover. Each area is indexed in one call only, if memory allows.
     pub(crate) fn survey_by_index<P: Holdings>(&mut self, which: &Selection, step: &P) -> Leaks
         ensures kept { self.new ≡ self.old }

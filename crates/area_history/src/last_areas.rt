@@ -32,7 +32,7 @@ pub(crate) struct LastAreas {
     count: u32,
     // For each of them, whether no later one has a doubleword of it.
     whole: Vec<bool>,
-    // Those of which a doubleword may be in no later one, by their numbers from 0 on.
+    // The areas that later ones may not cover, by their numbers from 0 on.
     visible: Vec<u32>,
     alloc: Global,
 }
@@ -234,7 +234,7 @@ impl LastAreas {
         Ok(kept)
     }
 
-    // Forgets the numbers of the areas of which later ones have each doubleword, if memory allows.
+    // Forgets the numbers of the areas that later ones cover, if memory allows.
     fn prune(&mut self, grants: &[AreaGrant])
         requires { IsIndexOf self.old grants.now }
         ensures { IsIndexOf self.new grants.now }
@@ -308,7 +308,7 @@ impl LastAreas {
         u32::from(step.is_plain(doubleword))
     }
 
-    // Counts the doublewords of an area that are held, of which no later one has any.
+    // Counts the doublewords of an area that are held and are in no later area.
     fn count_each<P: Holdings>(&self, number: u32, place: Place, step: &P) -> u32
         requires { number + 1 < 2 ^ 32 }
         ensures count { result ≡ count_below (place.len / 8)
@@ -323,7 +323,7 @@ impl LastAreas {
         left
     }
 
-    // Returns how many doublewords of an area are held, of which no later one has any. If all are held, and no later area has one, its
+    // Returns how many doublewords of an area are held and are in no later area. If all are held, and no later area has one, its
     // time does not depend on their number.
     fn count_left<P: Holdings>(&self, number: u32, place: Place, step: &P) -> u32
         requires few { number + 1 < 2 ^ 32 }

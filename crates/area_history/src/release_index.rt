@@ -192,7 +192,7 @@ impl ReleaseIndex {
         }
     }
 
-    /// Returns where the changes end, from a number on, of which it knows that none released a doubleword.
+    /// Returns the number of the first change, from a number on, that may have released a doubleword.
     pub(crate) fn quiet_end(&self, doubleword: u32, from: usize) -> usize
         ensures from { from ≤ result }
         ensures most { (events : List TheEvent) → IsReleaseIndex self.now events

@@ -36,7 +36,7 @@ impl Holdings for Everything {
 /// The fewest steps after which it looks for such areas again.
 const LEAST_ADDED: u64 = 512;
 
-/// Areas in their order. From time to time those are removed of which later ones have each doubleword.
+/// Areas in their order. From time to time it removes those that later ones cover.
 #[derive(Drop)]
 pub(crate) struct VisibleAreas {
     areas: Vec<AreaGrant>,
@@ -56,7 +56,7 @@ impl Model for VisibleAreas {
     ghost view = { λ v. v.areas.items };
 }
 
-// Returns the areas of which a doubleword is in no later one, the last area first. It marks the doublewords of all.
+// Returns the areas that later ones do not cover, the last area first. It marks the doublewords of all.
 fn uncovered(
     areas: &[AreaGrant],
     marks: &mut Marks,
@@ -138,7 +138,7 @@ impl VisibleAreas {
         Ok(())
     }
 
-    /// Removes the areas of which later ones have each doubleword, once they have about twice as many doublewords as after the last time.
+    /// Removes the areas that later ones cover, once all areas have about twice as many doublewords as after the last time.
     pub(crate) fn prune(&mut self, marks: &mut Marks) -> Result<(), OutOfMemory>
         requires clear { IsClear marks.old }
         requires fit { Fit marks.old self.old }

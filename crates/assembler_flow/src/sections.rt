@@ -94,7 +94,7 @@ impl Sections {
         Ok(sections)
     }
 
-    /// Returns the program of whose task a section is: its own, or the first one.
+    /// Returns the program whose task runs a section: its own, or the first one.
     pub fn program_of<'a>(&'a self, section: &'a str) -> &'a str {
         if self.attached.contains(section) {
             section

@@ -13,7 +13,7 @@ pub struct Structured {
     pub is_conditional: bool,
 }
 
-// A group of IF of which the end was read.
+// A group of IF whose end was read.
 #[derive(Clone, Copy)]
 struct Group {
     end: usize,

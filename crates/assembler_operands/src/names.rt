@@ -55,7 +55,7 @@ const NUMBERS: [NameNumbers; 7] = [
     },
 ];
 
-/// The front of a name for a symbol of which a name may have nothing.
+/// The front of a name for a symbol that has no byte which a name may have.
 const UNNAMED: &str = "X";
 
 /// Why a symbol gets no name.

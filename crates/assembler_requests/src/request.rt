@@ -21,7 +21,7 @@ fn before(text: &str, end: char) -> &str {
     }
 }
 
-// Returns the first of the values of LOC, of which a second is for real storage.
+// Returns the first value of LOC. A second one is for real storage.
 fn first_location(loc: &str) -> &str {
     match loc.strip_prefix("(") {
         Some(rest) => before(before(rest, ','), ')'),

@@ -94,7 +94,7 @@ fn take_operands(
     Ok(true)
 }
 
-// Returns the statement of which this is the first line, without its operands, and the text of these.
+// Returns the statement that begins in this line, without its operands, and the text of these.
 fn begun<'a>(
     alloc: Global,
     number: u32,

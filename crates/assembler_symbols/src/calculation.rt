@@ -102,7 +102,7 @@ impl<T: Drop> From<AllocFailed<T>> for NoValue {
     }
 }
 
-// An expression of which a front was read.
+// An expression whose front was read.
 #[derive(Drop)]
 struct Calculation<'a> {
     symbols: &'a Symbols,

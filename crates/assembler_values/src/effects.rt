@@ -74,7 +74,7 @@ struct Instruction<'a> {
     statement: &'a SourceStatement,
 }
 
-// Returns the symbol of which a literal is the address: `A(symbol)` or `V(symbol)`.
+// Returns the symbol whose address a literal is: `A(symbol)` or `V(symbol)`.
 fn addressed(literal: &str) -> Option<&str> {
     let kind = literal.strip_prefix("A").or(literal.strip_prefix("V"))?;
     let symbol = inside(kind)?;

@@ -39,7 +39,7 @@ impl Loss {
         }
     }
 
-    /// Returns why it is not known what comes from a word of which this is the loss. It fails if memory is exhausted.
+    /// Returns why a value that comes from a word with this loss is not known. It fails if memory is exhausted.
     pub fn from_word(&self, alloc: Global, word: &str) -> Result<Loss, AllocError> {
         Ok(Loss::From {
             word: String::from_str(alloc, word)?,

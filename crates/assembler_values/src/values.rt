@@ -44,7 +44,7 @@ fn words_of(alloc: Global, bytes: &[u8]) -> Result<Option<Vec<u32>>, AllocError>
     Ok(None)
 }
 
-// Returns the bytes of a list, of which the first one says how many follow.
+// Returns the bytes of a list. Its first byte is the number of those that follow.
 fn counted_bytes(bytes: &[u8]) -> Option<&[u8]> {
     match bytes {
         [count, rest @ ..] => rest.get(..*count as usize),
@@ -162,7 +162,7 @@ impl<'a> KnownValues<'a> {
         Err(self.refusal(OpenCause::NoWord, key, text))
     }
 
-    // Returns the area of which a word or a register holds the address.
+    // Returns the area whose address a word or a register holds.
     fn area_in(self, content: Option<&'a Content>) -> Option<&'a str> {
         match content {
             Some(Content::Word(symbol)) if self.constant_in(symbol).is_none() => {
@@ -172,7 +172,7 @@ impl<'a> KnownValues<'a> {
         }
     }
 
-    // Returns the area of which a word holds the address.
+    // Returns the area whose address a word holds.
     fn area_in_word(self, word: &'a str) -> Option<&'a str> {
         match self.held.stored(word) {
             Some(content) => self.area_in(Some(content)),
@@ -180,7 +180,7 @@ impl<'a> KnownValues<'a> {
         }
     }
 
-    /// Returns the area of which an operand names the word that holds its address, or the register that does, or why it is not known.
+    /// Returns the area whose address is in the word or the register that an operand names, or why it is not known.
     pub fn area(self, key: &str, text: &'a str) -> Result<&'a str, Unsaid> {
         if let Some(register) = in_register(self.alloc, self.symbols, text)? {
             return match self.area_in(self.held.register(register)) {
@@ -205,7 +205,7 @@ impl<'a> KnownValues<'a> {
         }
     }
 
-    /// Returns the words of a list, of which the last one has its first bit set, or why they are not known.
+    /// Returns the words of a list, or why they are not known. The last word has its first bit set.
     pub fn word_list(self, key: &str, text: &'a str) -> Result<Vec<u32>, Unsaid> {
         match words_of(self.alloc, self.bytes_at(key, text)?)? {
             Some(words) => Ok(words),
@@ -224,7 +224,7 @@ impl<'a> KnownValues<'a> {
         }
     }
 
-    /// Returns the bytes of a list, of which the first one says how many follow, or why they are not known.
+    /// Returns the bytes of a list, or why they are not known. Its first byte is the number of those that follow.
     pub fn byte_list(self, key: &str, text: &'a str) -> Result<&'a [u8], Unsaid> {
         match counted_bytes(self.bytes_at(key, text)?) {
             Some(list) => Ok(list),

@@ -17,8 +17,8 @@ moved s k first m r next least = record {
       let ends : q + n ≤ end = fits.0 in
       elim (cases_lt q m) [
         | inl before ↦ inl (omega arith, within_earlier (2 ^ k) first m n q (pow_pos k) some next from before fits.1)
-        | inr behind ↦
-            let low : r ≤ q = least.least q behind on in
+        | inr trailing ↦
+            let low : r ≤ q = least.least q trailing on in
             let short : n ≤ 2 ^ k = within_short (2 ^ k) q n (pow_pos k) some fits.1 in
             inr (low, (omega arith, within_multiple (2 ^ k) r n (pow_pos k) some (next_multiple s k m r next.multiple least) short))
       ];

@@ -14,7 +14,7 @@ use Rattle.mvs_model.specs.View.{in_pools, holding, state_of}
 use Rattle.mvs_model.specs.Changes.{Extends, with_part}
 use Rattle.mvs_model.specs.WellFormed.{Apart}
 use Rattle.mvs_model.proofs.Elements.{first_or_later}
-use Rattle.mvs_model.proofs.Orders.{same_name_is, same_name_self, told_apart, differs}
+use Rattle.mvs_model.proofs.Orders.{same_name_is, same_name_self, names_differ, differs}
 use Rattle.mvs_model.proofs.StorageLaws.{covers_is, covers_from}
 use Rattle.mvs_model.proofs.TakenCells.{same_test, part_found, part_from}
 use Rattle.mvs_model.proofs.PartsGrown.{Stands, grown_apart}
@@ -31,7 +31,7 @@ module _ (roots : FinMap name_cmp Root) (old : Storage) (agree : AgreeParts root
   here = pools name ∙ ap (λ b. cond b (Some (with_part pool count p)) (get (pools_of roots old) name)) (same_name_self name)
 
   else_where : (n : Name) → n ≢ name → get (pools_of new_roots new) n ≡ get (pools_of roots old) n
-  else_where n ne = pools n ∙ ap (λ b. cond b (Some (with_part pool count p)) (get (pools_of roots old) n)) (told_apart n name ne)
+  else_where n ne = pools n ∙ ap (λ b. cond b (Some (with_part pool count p)) (get (pools_of roots old) n)) (names_differ n name ne)
 
   -- what lies in a part now
   in_new : (d : ℕ) → covers p d ≡ true → in_pools (pools_of new_roots new) d ≡ true

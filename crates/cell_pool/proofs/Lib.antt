@@ -31,4 +31,4 @@ pub mod Tallied
 pub mod Pooled
 pub mod PoolFacts
 pub mod Untaken
-pub mod Telling
+pub mod Outcomes

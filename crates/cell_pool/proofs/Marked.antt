@@ -24,7 +24,7 @@ use Rattle.mvs_model.proofs.Orders.{same_name_is, differs}
 use Rattle.mvs_model.proofs.Tables.{eq_by_cmp_is}
 use Rattle.mvs_model.proofs.Made.{get-retained}
 use Rattle.mvs_model.proofs.PartsGiven.{given_apart}
-use Rattle.mvs_model.proofs.CellPlaces.{cell_inside, behind_cell}
+use Rattle.mvs_model.proofs.CellPlaces.{cell_inside, after_cell}
 use Rattle.mvs_model.proofs.TakenCells.{same_test, never}
 use Rattle.cell_pool.specs.Layout.{byte_of, word, flag, next_at, count_at, taken_at, size_at, flag_room, head_length, IsLaid}
 use Rattle.cell_pool.specs.Roots.{Root, part_addr, part_at, part_of, parts_of, is_taken, taken_of, pool_of, pools_of}
@@ -40,8 +40,8 @@ use Rattle.mvs_model.proofs.Below.{count_same}
 
 pub same_index : (i j size : ℕ) → 1 ≤ size → i * size ≡ j * size → i ≡ j
 same_index i j size some e = elim (cases_lt i j) [
-  | inl l ↦ absurd (let h : i * size + size ≤ j * size = behind_cell i j size l in omega arith)
-  | inr l ↦ elim (cases_lt j i) [ inl k ↦ absurd (let h : j * size + size ≤ i * size = behind_cell j i size k in omega arith) | inr k ↦ omega arith ]
+  | inl l ↦ absurd (let h : i * size + size ≤ j * size = after_cell i j size l in omega arith)
+  | inr l ↦ elim (cases_lt j i) [ inl k ↦ absurd (let h : j * size + size ≤ i * size = after_cell j i size k in omega arith) | inr k ↦ omega arith ]
 ]
 
 -- a byte that is there, and is the same with 0 for none, is the same

@@ -99,9 +99,9 @@ module _ (slots : List (Option PoolEntry)) (roots : FinMap name_cmp Root) (view 
   met_test None none b e = subst (λ b. MatchBool b (Touches st (pools_of roots st) s p) (TouchesNone st (pools_of roots st) s p)) (sym e) (touch_test false none)
   met_test (Some name) h b e = subst (λ b. MatchBool b (Touches st (pools_of roots st) s p) (TouchesNone st (pools_of roots st) s p)) (sym e) (touch_test true (h.0, h.1, h.2, h.3, h.4))
 
-  pub met_told : (v : Option Name) → Met v → MatchOption v (TouchesNone st (pools_of roots st) s p) (λ name. (d : ℕ) × Covers p d × HasPart (pools_of roots st) name d)
-  met_told None none = touch_test false none
-  met_told (Some name) h = met_part name h
+  pub met_correct : (v : Option Name) → Met v → MatchOption v (TouchesNone st (pools_of roots st) s p) (λ name. (d : ℕ) × Covers p d × HasPart (pools_of roots st) name d)
+  met_correct None none = touch_test false none
+  met_correct (Some name) h = met_part name h
 
 -- the same for a place, in any subpool
 module _ (slots : List (Option PoolEntry)) (roots : FinMap name_cmp Root) (view : roots_of slots ≡ roots) (distinct : IsDistinct slots) (st : Storage) (p : PlaceValue) where

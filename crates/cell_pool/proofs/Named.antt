@@ -7,7 +7,7 @@ use Rattle.std.specs.FinMap.{FinMap, get, get-empty, get-insert, len, len-empty,
 use Rattle.mvs_model.specs.declared.name.Name.{Name}
 use Rattle.mvs_model.specs.Finite.{kept}
 use Rattle.mvs_model.specs.Name.{name_cmp, same_name}
-use Rattle.mvs_model.proofs.Orders.{name_cmp_total, same_name_is, same_name_self, told_apart, differs}
+use Rattle.mvs_model.proofs.Orders.{name_cmp_total, same_name_is, same_name_self, names_differ, differs}
 use Rattle.cell_pool.specs.Roots.{Root}
 use Rattle.cell_pool.specs.Entries.{item_at, roots_of, IsDistinct}
 use Rattle.cell_pool.specs.declared.entry.PoolEntry.{PoolEntry}
@@ -22,7 +22,7 @@ unnamed [] name h = get-empty name_cmp name
 unnamed (None ∷ rest) name h = unnamed rest name (λ k x e. h (suc k) x e)
 unnamed (Some y ∷ rest) name h =
     get-insert name_cmp_total (roots_of rest) y.name y.root name
-    ∙ ap (λ b. cond b (Some y.root) (get (roots_of rest) name)) (told_apart name y.name (λ e. h 0 y refl (sym e)))
+    ∙ ap (λ b. cond b (Some y.root) (get (roots_of rest) name)) (names_differ name y.name (λ e. h 0 y refl (sym e)))
     ∙ unnamed rest name (λ k x e. h (suc k) x e)
 
 -- what an entry has
@@ -37,7 +37,7 @@ named (Some y ∷ rest) zero x h e =
     (get-insert name_cmp_total (roots_of rest) y.name y.root y.name ∙ ap (λ b. cond b (Some y.root) (get (roots_of rest) y.name)) (same_name_self y.name))
 named (Some y ∷ rest) (suc k) x h e =
     get-insert name_cmp_total (roots_of rest) y.name y.root x.name
-    ∙ ap (λ b. cond b (Some y.root) (get (roots_of rest) x.name)) (told_apart x.name y.name (λ f. let z : 0 ≡ suc k = h 0 (suc k) y x refl e (sym f) in absurd (omega arith)))
+    ∙ ap (λ b. cond b (Some y.root) (get (roots_of rest) x.name)) (names_differ x.name y.name (λ f. let z : 0 ≡ suc k = h 0 (suc k) y x refl e (sym f) in absurd (omega arith)))
     ∙ named rest k x (rest_distinct (Some y) rest h) e
 
 -- what a search by name finds is what the map has
@@ -178,7 +178,7 @@ module _ (old new : List (Option PoolEntry)) (key : ℕ) (e : PoolEntry) (distin
   ] where
     elsewhere : k ≢ key → (v : Option PoolEntry) → item_at old k ≡ v → v ≡ kept (λ (x : PoolEntry). not (same_name x.name e.name)) v
     elsewhere ne None f = refl
-    elsewhere ne (Some x) f = sym (ap (λ b. cond (not b) (Some x) None) (told_apart x.name e.name (λ s. ne (distinct k key x e f was s))))
+    elsewhere ne (Some x) f = sym (ap (λ b. cond (not b) (Some x) None) (names_differ x.name e.name (λ s. ne (distinct k key x e f was s))))
 
   pub distinct_gone : IsDistinct new
   distinct_gone = distinct_kept old new (λ n _. not (same_name n e.name)) distinct each_else

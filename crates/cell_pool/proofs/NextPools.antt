@@ -88,12 +88,12 @@ module _ (entries : Slab PoolEntry) (given : Option Name) where
           record { next = r.0; is = r.1; later = subst (λ n. is_before n r.0 ≡ false) same r.2 }
 
   -- what was found, where all pools were looked at
-  pub first_told : (bound : ℕ) (found : Option Name) → ((k : ℕ) (x : PoolEntry) → slab_get entries k ≡ Some x → k < bound) → FirstBelow entries given bound found
+  pub first_correct : (bound : ℕ) (found : Option Name) → ((k : ℕ) (x : PoolEntry) → slab_get entries k ≡ Some x → k < bound) → FirstBelow entries given bound found
       → MatchOption found ((k : ℕ) (x : PoolEntry) → slab_get entries k ≡ Some x → IsAfter x.name given → ⊥)
       (λ next. ((k : ℕ) × (x : PoolEntry) × (slab_get entries k ≡ Some x) × (x.name ≡ next) × IsAfter next given)
       × ((k : ℕ) (x : PoolEntry) → slab_get entries k ≡ Some x → IsAfter x.name given → is_before x.name next ≡ false))
-  first_told bound None all s = λ k x there after. (let l = s.least k x (all k x there) there after in let e : ◌≡◌ {A = Option Name} None (Some l.next) = l.is in cc)
-  first_told bound (Some next) all s =
+  first_correct bound None all s = λ k x there after. (let l = s.least k x (all k x there) there after in let e : ◌≡◌ {A = Option Name} None (Some l.next) = l.is in cc)
+  first_correct bound (Some next) all s =
       let f = s.from next refl in (
         (f.key, f.pool, f.there, f.named, f.after),
         λ k x there after. (

@@ -89,8 +89,8 @@ module _ (roots : FinMap name_cmp Root) (st : Storage) (agree : AgreeParts roots
     not_plain : (h : Option Holding) (s : ℕ) → h ≡ Some (pooled s) → is_plain h ≡ true → ⊥
     not_plain h s e f = absurd (let g : false ≡ true = sym (ap is_plain e) ∙ f in cc)
 
-    behind_head : (size : ℕ) (part : Part) (c x : ℕ) → part.place.len ≡ part_length size part.count → IsCellOf size part c → c ≤ x → x < part.place.addr + head_length part.count → ⊥
-    behind_head size part c x length is low high =
+    after_head : (size : ℕ) (part : Part) (c x : ℕ) → part.place.len ≡ part_length size part.count → IsCellOf size part c → c ≤ x → x < part.place.addr + head_length part.count → ⊥
+    after_head size part c x length is low high =
         let e : c ≡ first_cell size part + is.0 * size = is.2 in absurd (omega arith)
 
     pub not_in_head : (x : ℕ) → granted (state_of st o (pools_of roots st)) x ≡ true → (name : Name) (r : Root) (j : ℕ) → get roots name ≡ Some r → j < r.count → part_addr (byte_of st) r.first j ≤ x
@@ -113,7 +113,7 @@ module _ (roots : FinMap name_cmp Root) (st : Storage) (agree : AgreeParts roots
           let same = only i.name name q.0 r k.0 j (x / 8) q.1 is k.1 l (subst (λ p. Covers p.place (x / 8)) (sym k.2) d) covered in
           let addr : c.0.place.addr ≡ part_addr (byte_of st) r.first j = sym (ap (λ p. p.place.addr) k.2) ∙ same.2 in
           let count : c.0.count ≡ count_at (byte_of st) (part_addr (byte_of st) r.first j) = sym (ap (λ p. p.count) k.2) ∙ ap (count_at (byte_of st)) same.2 in
-          behind_head i.pool.cell_size c.0 i.first x length c.2 h.0 (subst (λ b. x < b + head_length c.0.count) (sym addr) (subst (λ n. x < part_addr (byte_of st) r.first j + head_length n) (sym count) high))
+          after_head i.pool.cell_size c.0 i.first x length c.2 h.0 (subst (λ b. x < b + head_length c.0.count) (sym addr) (subst (λ n. x < part_addr (byte_of st) r.first j + head_length n) (sym count) high))
 
       by : (b : Bool) → is_plain (get (state_of st o (pools_of roots st)).held (x / 8)) ≡ b → (b || in_cell (state_of st o (pools_of roots st)) x) ≡ true → ⊥
       by true f g = not_plain (get (state_of st o (pools_of roots st)).held (x / 8)) r.subpool pooled_here f

@@ -73,18 +73,18 @@ module _ (roots : FinMap name_cmp Root) (st : Storage) (agree : AgreeParts roots
         )
 
     -- whether a cell is free
-    free_told : IsCounted (byte_of st) r → (b : Bool) → MatchBool b (1 ≤ r.free) (r.free ≡ 0) → MatchBool b ((c : ℕ) × IsFreeCell (pool_of (byte_of st) r) c) ((c : ℕ) → IsFreeCell (pool_of (byte_of st) r) c → ⊥)
-    free_told counted true l = some_cell counted l
-    free_told counted false e = none_free roots st agree name true r is (all_taken st r ch counted e)
+    free_correct : IsCounted (byte_of st) r → (b : Bool) → MatchBool b (1 ≤ r.free) (r.free ≡ 0) → MatchBool b ((c : ℕ) × IsFreeCell (pool_of (byte_of st) r) c) ((c : ℕ) → IsFreeCell (pool_of (byte_of st) r) c → ⊥)
+    free_correct counted true l = some_cell counted l
+    free_correct counted false e = none_free roots st agree name true r is (all_taken st r ch counted e)
 
     -- what the pool has for a request for a cell
-    pub supply_told : IsCounted (byte_of st) r → (b : Bool) → MatchBool b (1 ≤ r.free) (r.free ≡ 0)
+    pub supply_correct : IsCounted (byte_of st) r → (b : Bool) → MatchBool b (1 ≤ r.free) (r.free ≡ 0)
         → (pool : Pool) × (get (pools_of roots st) name ≡ Some pool) × IsSupply pool (record { has_free = b; subpool = r.subpool; cell_size = r.cell_size; secondary = r.secondary; side = r.side })
-    supply_told counted b h = (pool_of (byte_of st) r, pool_from roots st name r is, record { free = free_told counted b h; subpool = refl; cell_size = refl; secondary = refl; side = refl })
+    supply_correct counted b h = (pool_of (byte_of st) r, pool_from roots st name r is, record { free = free_correct counted b h; subpool = refl; cell_size = refl; secondary = refl; side = refl })
 
     -- where the address lies at which no taken cell begins
-    pub spot_told : (c : ℕ) (spot : CellPosition) → IsSpot (pool_of (byte_of st) r) c spot → (pool : Pool) → get (pools_of roots st) name ≡ Some pool → IsSpot pool c spot
-    spot_told c spot h pool found =
+    pub spot_correct : (c : ℕ) (spot : CellPosition) → IsSpot (pool_of (byte_of st) r) c spot → (pool : Pool) → get (pools_of roots st) name ≡ Some pool → IsSpot pool c spot
+    spot_correct c spot h pool found =
         let e : Some (pool_of (byte_of st) r) ≡ Some pool = sym (pool_from roots st name r is) ∙ found in
         let same : pool_of (byte_of st) r ≡ pool = cc in
         subst (λ p. IsSpot p c spot) same h
@@ -103,15 +103,15 @@ module _ (roots : FinMap name_cmp Root) (st : Storage) (agree : AgreeParts roots
           small c a n e l = let h : c < a + n = grind (arith, nat_tests) in omega arith
 
     -- whether a taken cell begins at an address
-    pub taken_told : (x c : ℕ) (v : Option TakenCell) (b : Bool) → x ≡ c → b ≡ is_some v → MatchOption v (is_taken (byte_of st) r x ≡ false) (λ s. IsTakenAt st r s.part s.cell s.taken s.past x)
+    pub taken_correct : (x c : ℕ) (v : Option TakenCell) (b : Bool) → x ≡ c → b ≡ is_some v → MatchOption v (is_taken (byte_of st) r x ≡ false) (λ s. IsTakenAt st r s.part s.cell s.taken s.past x)
         → (pool : Pool) × (get (pools_of roots st) name ≡ Some pool) × (b ≡ set.contains pool.taken c)
-    taken_told x c None b same e h = (pool_of (byte_of st) r, pool_from roots st name r is, e ∙ sym (ap (set.contains (taken_of (byte_of st) r)) (sym same) ∙ contains-taken (byte_of st) r x ∙ and_right _ _ h))
-    taken_told x c (Some s) b same e h = (pool_of (byte_of st) r, pool_from roots st name r is, e ∙ sym (ap (set.contains (taken_of (byte_of st) r)) (sym same) ∙ cell_set s.part s.cell s.taken x h))
+    taken_correct x c None b same e h = (pool_of (byte_of st) r, pool_from roots st name r is, e ∙ sym (ap (set.contains (taken_of (byte_of st) r)) (sym same) ∙ contains-taken (byte_of st) r x ∙ and_right _ _ h))
+    taken_correct x c (Some s) b same e h = (pool_of (byte_of st) r, pool_from roots st name r is, e ∙ sym (ap (set.contains (taken_of (byte_of st) r)) (sym same) ∙ cell_set s.part s.cell s.taken x h))
 
     -- the part that was put to it last
-    pub newest_told : (newest : LastPart) → newest.parts ≡ r.count → part_of (byte_of st) r (r.count - 1) ≡ record { place = newest.place; count = newest.cells } → newest.cell_size ≡ r.cell_size
+    pub newest_correct : (newest : LastPart) → newest.parts ≡ r.count → part_of (byte_of st) r (r.count - 1) ≡ record { place = newest.place; count = newest.cells } → newest.cell_size ≡ r.cell_size
         → (pool : Pool) × (get (pools_of roots st) name ≡ Some pool) × IsNewest pool newest
-    newest_told newest parts part size = (
+    newest_correct newest parts part size = (
       pool_of (byte_of st) r,
       pool_from roots st name r is,
       record {

@@ -18,7 +18,7 @@ use Rattle.cell_pool.specs.Walk.{IsChain, is_past, IsPartAt}
 use Rattle.cell_pool.proofs.Taken.{TakenAt, found}
 use Rattle.cell_pool.proofs.Marked.{same_index}
 use Rattle.cell_pool.proofs.Only.{place_whole, some_cell, part_held, misses}
-use Rattle.mvs_model.proofs.CellPlaces.{behind_cell}
+use Rattle.mvs_model.proofs.CellPlaces.{after_cell}
 
 -- what agrees with storage is a chain
 pub chain_of : (roots : FinMap name_cmp Root) (st : Storage) (name : Name) (r : Root) → AgreeParts roots st → get roots name ≡ Some r → IsChain st r
@@ -87,7 +87,7 @@ module _ (st : Storage) (r : Root) (ch : IsChain st r) where
   -- a cell lies in its part
   pub has_cell : (j i c : ℕ) → j < r.count → i < count_at (byte_of st) (part_addr (byte_of st) r.first j) → c ≡ first_cell r.cell_size (part_of (byte_of st) r j) + i * r.cell_size → has_address (part_of (byte_of st) r j).place c ≡ true
   has_cell j i c l h e =
-      let m : i * r.cell_size + r.cell_size ≤ count_at (byte_of st) (part_addr (byte_of st) r.first j) * r.cell_size = behind_cell i (count_at (byte_of st) (part_addr (byte_of st) r.first j)) r.cell_size h in
+      let m : i * r.cell_size + r.cell_size ≤ count_at (byte_of st) (part_addr (byte_of st) r.first j) * r.cell_size = after_cell i (count_at (byte_of st) (part_addr (byte_of st) r.first j)) r.cell_size h in
       let some = ch.size in
       let low : part_addr (byte_of st) r.first j ≤ c = omega arith in
       let high : c < part_addr (byte_of st) r.first j + part_length r.cell_size (count_at (byte_of st) (part_addr (byte_of st) r.first j)) = omega arith in

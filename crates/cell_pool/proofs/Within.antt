@@ -10,7 +10,7 @@ use Rattle.mvs_model.specs.Owners.{Owners}
 use Rattle.mvs_model.specs.Pools.{Part, part_length, first_cell, IsCell, cell_at, in_taken}
 use Rattle.mvs_model.specs.State.{in_cell}
 use Rattle.mvs_model.specs.View.{state_of}
-use Rattle.mvs_model.proofs.CellPlaces.{has_is, behind_cell}
+use Rattle.mvs_model.proofs.CellPlaces.{has_is, after_cell}
 use Rattle.mvs_model.proofs.TakenCells.{in_cell_from, in_cell_is, taken_found, taken_from, never}
 use Rattle.cell_pool.specs.Layout.{byte_of, count_at, flag, head_length}
 use Rattle.cell_pool.specs.Roots.{Root, part_addr, part_of, pool_of, pools_of}
@@ -72,7 +72,7 @@ module _ (st : Storage) (r : Root) (ch : IsChain st r) (x : ℕ) where
   -- it lies in the cell's part
   in_part : (h : Holds) → (part_addr (byte_of st) r.first h.part ≤ x) × (x < part_addr (byte_of st) r.first h.part + part_length r.cell_size (count_at (byte_of st) (part_addr (byte_of st) r.first h.part)))
   in_part h =
-      let m : h.cell * r.cell_size + r.cell_size ≤ count_at (byte_of st) (part_addr (byte_of st) r.first h.part) * r.cell_size = behind_cell h.cell (count_at (byte_of st) (part_addr (byte_of st) r.first h.part)) r.cell_size h.is_cell in
+      let m : h.cell * r.cell_size + r.cell_size ≤ count_at (byte_of st) (part_addr (byte_of st) r.first h.part) * r.cell_size = after_cell h.cell (count_at (byte_of st) (part_addr (byte_of st) r.first h.part)) r.cell_size h.is_cell in
       let at = h.at in let low = h.low in let high = h.high in
       (omega arith, omega arith)
 
@@ -132,8 +132,8 @@ module _ (st : Storage) (r : Root) (ch : IsChain st r) (x : ℕ) where
 
     same_index : (i j : ℕ) → first + i * size ≤ x → x < first + i * size + size → first + j * size ≤ x → x < first + j * size + size → i ≡ j
     same_index i j li hi lj hj = elim (cases_lt i j) [
-      | inl l ↦ absurd (let m : i * size + size ≤ j * size = behind_cell i j size l in omega arith)
-      | inr l ↦ elim (cases_lt j i) [ inl k ↦ absurd (let m : j * size + size ≤ i * size = behind_cell j i size k in omega arith) | inr k ↦ omega arith ]
+      | inl l ↦ absurd (let m : i * size + size ≤ j * size = after_cell i j size l in omega arith)
+      | inr l ↦ elim (cases_lt j i) [ inl k ↦ absurd (let m : j * size + size ≤ i * size = after_cell j i size k in omega arith) | inr k ↦ omega arith ]
     ]
 
     -- where the flag of that cell is set, the cell is the taken one that has the address

@@ -61,12 +61,12 @@ unfoldable pub part_addr : (ℕ → ℕ) → ℕ → ℕ → ℕ
 part_addr m first zero = first
 part_addr m first (suc i) = next_at m (part_addr m first i)
 
--- the number of free cells of n parts, the first of which is at an address
+-- the number of free cells of n parts, the first at an address
 unfoldable pub free_in : (ℕ → ℕ) → ℕ → ℕ → ℕ
 free_in m first zero = 0
 free_in m first (suc n) = (count_at m (part_addr m first n) - taken_at m (part_addr m first n)) + free_in m first n
 
--- All cells of n parts are taken, the first of which is at an address.
+-- All cells of n parts are taken. The first part is at an address.
 abbrev pub AreFull : (ℕ → ℕ) → ℕ → ℕ → Type 0
 AreFull m first n = (j : ℕ) → j < n → count_at m (part_addr m first j) ≤ taken_at m (part_addr m first j)
 

@@ -27,7 +27,7 @@ value_of line = unwrap_or (slice_get (words (after_first (λ b. b == 58) line)) 
 abbrev pub is_length : List ℕ → Bool
 is_length line = bytes_eq (map to_ascii_lowercase (before_first (λ b. b == 58) line)) (codes "content-length")
 
--- the length that digits give, of which there are at most ten
+-- the length that at most ten digits give
 abbrev pub length_from : List ℕ → Option ℕ
 length_from digits = if is_number digits && nat_le (length digits) 10 then Some (number digits) else None
 

@@ -54,7 +54,7 @@ fn member<'v, 'a>(value: Option<&'v Value<'a>>, name: &str) -> Option<&'v Value<
     }
 }
 
-// Returns the number that digits mean, of which there are at most ten.
+// Returns the number that at most ten digits mean.
 fn number_from(digits: &str) -> Option<usize>
     ensures { result ≡ number_from digits.now }
 {

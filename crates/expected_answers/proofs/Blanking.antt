@@ -40,13 +40,13 @@ module _ (start before mid now : Option (List ℕ)) (script text line next state
       subst (AppendsFront start now) (append_assoc so_far.0 statement (tail ++ blank next) ∙ ap (λ t. so_far.0 ++ t) (sym (append_assoc statement tail (blank next))) ∙ sym whole)
       (front_longer start now (so_far.0 ++ statement) (tail ++ blank next) (front_more start before now so_far.0 statement so_far.1 front))
 
-  behind : ((so_far.0 ++ statement) ++ tail) ++ blank next ≡ blank script
-  behind = ap (λ t. t ++ blank next) (append_assoc so_far.0 statement tail) ∙ append_assoc so_far.0 (statement ++ tail) (blank next) ∙ sym whole
+  trailing : ((so_far.0 ++ statement) ++ tail) ++ blank next ≡ blank script
+  trailing = ap (λ t. t ++ blank next) (append_assoc so_far.0 statement tail) ∙ append_assoc so_far.0 (statement ++ tail) (blank next) ∙ sym whole
 
   pub in_end : Appends before mid statement → AppendsFront mid now tail → AppendsFront start now (blank script)
   in_end all front =
-      subst (AppendsFront start now) behind
+      subst (AppendsFront start now) trailing
       (front_longer start now ((so_far.0 ++ statement) ++ tail) (blank next) (front_more start mid now (so_far.0 ++ statement) tail (Appends-trans start before mid so_far.0 statement so_far.1 all) front))
 
   pub line_more : Appends before mid statement → Appends mid now tail → SoFar start now script next
-  line_more all rest = ((so_far.0 ++ statement) ++ tail, Appends-trans start mid now (so_far.0 ++ statement) tail (Appends-trans start before mid so_far.0 statement so_far.1 all) rest, sym behind)
+  line_more all rest = ((so_far.0 ++ statement) ++ tail, Appends-trans start mid now (so_far.0 ++ statement) tail (Appends-trans start before mid so_far.0 statement so_far.1 all) rest, sym trailing)

@@ -67,14 +67,14 @@ covered_above lo [] a n up f = absurd f
 covered_above lo (r ∷ rs) a n up f = elim f [ inl w ↦ omega (arith, up.0, w.0) | inr g ↦ omega (arith, up.0, covered_above (r.from + r.len + 1) rs a n up.3 g) ]
 
 module _ (ws : ℕ → Option ℕ) (h a n lo : ℕ) (rs : List Run) (o : Opened ws h lo rs) (cov : Covers rs a n) where
-  in_first_or_behind : ((h ≤ a) × (a + n ≤ h + word ws (h + 4))) ⊎ Covers o.rest a n
-  in_first_or_behind = subst (λ k. Covers k a n) o.is cov
+  in_first_or_after : ((h ≤ a) × (a + n ≤ h + word ws (h + 4))) ⊎ Covers o.rest a n
+  in_first_or_after = subst (λ k. Covers k a n) o.is cov
 
   pub in_first : a < h + word ws (h + 4) → (h ≤ a) × (a + n ≤ h + word ws (h + 4))
-  in_first near = elim in_first_or_behind [ inl w ↦ w | inr c ↦ absurd (omega (arith, near, covered_above _ o.rest a n o.queue.0 c)) ]
+  in_first near = elim in_first_or_after [ inl w ↦ w | inr c ↦ absurd (omega (arith, near, covered_above _ o.rest a n o.queue.0 c)) ]
 
-  pub behind_first : 0 < n → h + word ws (h + 4) ≤ a → Covers o.rest a n
-  behind_first pos far = elim in_first_or_behind [ inl w ↦ absurd (omega (arith, pos, far, w.1)) | inr c ↦ c ]
+  pub beyond_first : 0 < n → h + word ws (h + 4) ≤ a → Covers o.rest a n
+  beyond_first pos far = elim in_first_or_after [ inl w ↦ absurd (omega (arith, pos, far, w.1)) | inr c ↦ c ]
 
 -- what is free is free in the first run or after it
 module _ (ws : ℕ → Option ℕ) (h lo : ℕ) (rs : List Run) (o : Opened ws h lo rs) (d : ℕ) where
@@ -125,7 +125,7 @@ module _ (ws ws1 ws2 : ℕ → Option ℕ) (h next rest a n : ℕ) (is_next : ne
     (w : Linked ws ws1 ws2 h rest) (lo : ℕ) (rs : List Run) (q : Queue lo ws h rs) (cov : Covers rs a n) where
   pub take_later : Takes lo rs a n ws2 h
   take_later =
-      let o = covered ws h a n lo rs q cov in let past = behind_first ws h a n lo rs o cov pos far in
+      let o = covered ws h a n lo rs q cov in let past = beyond_first ws h a n lo rs o cov pos far in
       let queue = queue_at ws h next lo rs o is_next in
       let stays = kept _ o.rest queue past h (λ f. omega (arith, above ws h lo rs o h f)) in
       let one = taken _ o.rest queue past in let two = linked ws ws1 ws2 h lo rest rs w o stays one.0 one.1 in (
@@ -137,11 +137,11 @@ module _ (ws ws1 ws2 : ℕ → Option ℕ) (h next rest a n : ℕ) (is_next : ne
         ),
       )
 
-  pub keep_behind : (d : ℕ) → (IsFree rs d → ⊥) → Same ws ws2 d
-  keep_behind d fails =
+  pub keep_beyond : (d : ℕ) → (IsFree rs d → ⊥) → Same ws ws2 d
+  keep_beyond d fails =
       let o = covered ws h a n lo rs q cov in
       let queue = queue_at ws h next lo rs o is_next in
-      same_trans ws ws1 ws2 d (kept _ o.rest queue (behind_first ws h a n lo rs o cov pos far) d (λ g. fails (from_rest ws h lo rs o d g)))
+      same_trans ws ws1 ws2 d (kept _ o.rest queue (beyond_first ws h a n lo rs o cov pos far) d (λ g. fails (from_rest ws h lo rs o d g)))
       (w.same d (λ e. fails (from_first ws h lo rs o d (omega (arith, e), omega (arith, e, o.some)))))
 
 -- they lie in the first run
@@ -284,15 +284,15 @@ module _ (ws ws1 : ℕ → Option ℕ) (h next res a n : ℕ) (is_next : next �
           | inl over ↦ elim (cases_lt a (h + word ws (h + 4))) [ inl lt ↦ absurd (none a (omega arith, omega (arith, pos)) (from_first ws h lo rs o a (omega (arith, over), lt))) | inr ge ↦ omega (arith, ge, near over) ]
         ]
 
-    queue_behind : Queue h ws next first_run.rest
-    queue_behind = subst (λ k. Queue h ws k first_run.rest) (sym is_next) (rising_below (h + word ws (h + 4) + 1) h first_run.rest (omega arith) first_run.queue.0, first_run.queue.1)
+    queue_after : Queue h ws next first_run.rest
+    queue_after = subst (λ k. Queue h ws k first_run.rest) (sym is_next) (rising_below (h + word ws (h + 4) + 1) h first_run.rest (omega arith) first_run.queue.0, first_run.queue.1)
 
-    none_behind : NoneFree first_run.rest h (a + n - h)
-    none_behind d v g = none d (omega (arith, touches, above ws h lo rs first_run d g), omega (arith, v.1, le_stop)) (from_rest ws h lo rs first_run d g)
+    none_beyond : NoneFree first_run.rest h (a + n - h)
+    none_beyond d v g = none d (omega (arith, touches, above ws h lo rs first_run d g), omega (arith, v.1, le_stop)) (from_rest ws h lo rs first_run d g)
 
     -- what the call that gives the first run and the bytes together asks for
     pub joined : Opened ws h lo rs × (h + word ws (h + 4) ≡ a) × ((rest : List Run) × Queue h ws next rest × NoneFree rest h (a + n - h))
-    joined = (first_run, touches, (first_run.rest, queue_behind, none_behind))
+    joined = (first_run, touches, (first_run.rest, queue_after, none_beyond))
 
   module _ (given : (lo : ℕ) (rs : List Run) → lo ≤ h → Queue lo ws next rs → NoneFree rs h (a + n - h) → Gives lo rs h (a + n - h) ws1 res)
       (kept : (lo : ℕ) (rs : List Run) → lo ≤ h → Queue lo ws next rs → NoneFree rs h (a + n - h) → (d : ℕ) → (IsFree rs d → ⊥) → (Within h (a + n - h) d → ⊥) → Same ws ws1 d)
@@ -300,7 +300,7 @@ module _ (ws ws1 : ℕ → Option ℕ) (h next res a n : ℕ) (is_next : next �
     pub give_after : Gives lo rs a n ws1 res
     give_after =
         let o = first_run lo rs q none in let is = touches lo rs q none in
-        let one = given h o.rest (omega arith) (queue_behind lo rs q none) (none_behind lo rs q none) in (
+        let one = given h o.rest (omega arith) (queue_after lo rs q none) (none_beyond lo rs q none) in (
           one.0,
           (rising_below h lo one.0 o.low one.1.0, one.1.1),
           λ d. subst (λ k. IsFree one.0 d ↔ (IsFree k d ⊎ Within a n d)) (sym o.is) (
@@ -318,7 +318,7 @@ module _ (ws ws1 : ℕ → Option ℕ) (h next res a n : ℕ) (is_next : next �
     pub keep_after : (d : ℕ) → (IsFree rs d → ⊥) → (Within a n d → ⊥) → Same ws ws1 d
     keep_after d fails out =
         let o = first_run lo rs q none in let is = touches lo rs q none in
-        kept h o.rest (omega arith) (queue_behind lo rs q none) (none_behind lo rs q none) d (λ g. fails (from_rest ws h lo rs o d g))
+        kept h o.rest (omega arith) (queue_after lo rs q none) (none_beyond lo rs q none) d (λ g. fails (from_rest ws h lo rs o d g))
         (λ v. elim (cases_lt d a) [ inl lt ↦ fails (from_first ws h lo rs o d (v.0, omega (arith, lt, is))) | inr ge ↦ out (ge, omega (arith, v.1, le_stop)) ])
 
 -- ---- the next run from an offset on

@@ -20,8 +20,8 @@ pub Appends_next : (a b c : Option (List ℕ)) (n m : ℕ) (bytes : List ℕ) �
 Appends_next a b c n m bytes p q = rw (take-add n m bytes) (Appends-trans a b c _ _ p (rw (take_rest bytes n) at q))
 
 -- a list that grew twice at its end
-pub behind : (old mid new a b : List ℕ) → mid ≡ old ++ a → new ≡ mid ++ b → new ≡ old ++ (a ++ b)
-behind old mid new a b e f = f ∙ ap (λ x. x ++ b) e ∙ append_assoc old a b
+pub trailing : (old mid new a b : List ℕ) → mid ≡ old ++ a → new ≡ mid ++ b → new ≡ old ++ (a ++ b)
+trailing old mid new a b e f = f ∙ ap (λ x. x ++ b) e ∙ append_assoc old a b
 
 -- some of the bytes
 pub front_taken : (a b : Option (List ℕ)) (n : ℕ) (bytes : List ℕ) → Appends a b (take n bytes) → AppendsFront a b bytes

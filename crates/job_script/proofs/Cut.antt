@@ -83,27 +83,27 @@ at_blank (b ∷ bs) = elim (b == 32) as (λ t. cond t [] (b ∷ field_in bs) ≡
   | false ↦ ap (λ bs. b ∷ bs) (at_blank bs) ∙ ap (λ n. take n (b ∷ bs)) (let n : suc (position_or_len (λ b. b == 32) bs) ≡ 1 + position_or_len (λ b. b == 32) bs = omega arith in n)
 ]
 
-behind_field : (bs : List ℕ) → (behind : List (List ℕ)) × (slice_split (λ b. b == 32) bs ≡ field_in bs ∷ behind)
-behind_field [] = ([], refl)
-behind_field (b ∷ bs) = elim (b == 32) as (λ t. (behind : List (List ℕ)) × (cond t ([] ∷ slice_split (λ b. b == 32) bs) (onto_first b (slice_split (λ b. b == 32) bs)) ≡ cond t [] (b ∷ field_in bs) ∷ behind)) [
+after_field : (bs : List ℕ) → (trailing : List (List ℕ)) × (slice_split (λ b. b == 32) bs ≡ field_in bs ∷ trailing)
+after_field [] = ([], refl)
+after_field (b ∷ bs) = elim (b == 32) as (λ t. (trailing : List (List ℕ)) × (cond t ([] ∷ slice_split (λ b. b == 32) bs) (onto_first b (slice_split (λ b. b == 32) bs)) ≡ cond t [] (b ∷ field_in bs) ∷ trailing)) [
   | true ↦ (slice_split (λ b. b == 32) bs, refl)
-  | false ↦ let more = behind_field bs in (more.0, ap (onto_first b) more.1)
+  | false ↦ let more = after_field bs in (more.0, ap (onto_first b) more.1)
 ]
 
 -- the first word of a text that starts with it, and those after it
-pub first_word : (text word : List ℕ) (behind : List (List ℕ)) → starts_word text ≡ true → word ≡ before_first (λ b. b == 32) text → slice_split (λ b. b == 32) text ≡ word ∷ behind
-    → (word ≡ unwrap_or (slice_get (words text) 0) []) × (filter (λ word. not (is_empty word)) behind ≡ drop 1 (words text))
-first_word [] word behind s w e =
-    let none : behind ≡ [] = (let f : [] ∷ [] ≡ word ∷ behind = e in cc) in
+pub first_word : (text word : List ℕ) (trailing : List (List ℕ)) → starts_word text ≡ true → word ≡ before_first (λ b. b == 32) text → slice_split (λ b. b == 32) text ≡ word ∷ trailing
+    → (word ≡ unwrap_or (slice_get (words text) 0) []) × (filter (λ word. not (is_empty word)) trailing ≡ drop 1 (words text))
+first_word [] word trailing s w e =
+    let none : trailing ≡ [] = (let f : [] ∷ [] ≡ word ∷ trailing = e in cc) in
     (w, ap (filter (λ word. not (is_empty word))) none)
-first_word (b ∷ bs) word behind s w e =
+first_word (b ∷ bs) word trailing s w e =
     let some : is_empty word ≡ false = ap is_empty w ∙ before_some b bs (not-true (b == 32) s) in
-    let all : words (b ∷ bs) ≡ word ∷ filter (λ word. not (is_empty word)) behind = ap (filter (λ word. not (is_empty word))) e ∙ first_kept word behind some in
+    let all : words (b ∷ bs) ≡ word ∷ filter (λ word. not (is_empty word)) trailing = ap (filter (λ word. not (is_empty word))) e ∙ first_kept word trailing some in
     (ap (λ ws. unwrap_or (slice_get ws 0) []) (sym all), ap (drop 1) (sym all))
 
 pub field_first : (text : List ℕ) → starts_word text ≡ true → field_in text ≡ unwrap_or (slice_get (words text) 0) []
 field_first text s =
-    let more = behind_field text in
+    let more = after_field text in
     (first_word text (field_in text) more.0 s (at_blank text) more.1).0
 
 -- What stands after the first byte that passes ends the text.

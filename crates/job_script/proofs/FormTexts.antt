@@ -66,6 +66,6 @@ form_plain o form r found formed =
     one_plain form (row_at r).forms (no_keys r) (ap (λ b. b || is_one_of (row_at r).forms form) (sym formed) ∙ passes)
 
 -- an operand with a key is no form
-pub form_keyed : (op : List ℕ) (task : Name) (form : List ℕ) (behind : List (List ℕ)) → takes_form op ≡ true → has_key form ≡ true → FormReading op task (form ∷ behind) (Err MissingOperand)
-form_keyed op task form behind takes keyed =
-    ap (λ b. first_of (MissingOperand when b ∷ UnknownOperation when not (is_some (row_of op (form ∷ behind))) ∷ row_checks (form ∷ behind) (row_of op (form ∷ behind)))) (λ i. takes i && keyed i)
+pub form_keyed : (op : List ℕ) (task : Name) (form : List ℕ) (trailing : List (List ℕ)) → takes_form op ≡ true → has_key form ≡ true → FormReading op task (form ∷ trailing) (Err MissingOperand)
+form_keyed op task form trailing takes keyed =
+    ap (λ b. first_of (MissingOperand when b ∷ UnknownOperation when not (is_some (row_of op (form ∷ trailing))) ∷ row_checks (form ∷ trailing) (row_of op (form ∷ trailing)))) (λ i. takes i && keyed i)

@@ -67,14 +67,14 @@ joined_with operand (Some sp) loc.Res = ap (λ t. operand ++ t) (sym (append-nil
 joined_with operand (Some sp) loc.Any = refl
 joined_with operand (Some sp) loc.Below = refl
 
-both_are : (text : List ℕ) (n : ℕ) (sp : Option (List ℕ)) (after : List ℕ) (l : Loc) (behind : List ℕ) → IsSubpoolFront text n sp after → after ≡ loc_text l ++ behind → text ≡ (subpool_text sp ++ loc_text l) ++ behind
-both_are text n None after l behind e placed = e.0 ∙ placed
-both_are text n (Some sp) after l behind e placed = e.0 ∙ ap (λ t. codes ",SP=" ++ t) (ap (λ t. sp ++ t) placed ∙ sym (append_assoc sp (loc_text l) behind))
+both_are : (text : List ℕ) (n : ℕ) (sp : Option (List ℕ)) (after : List ℕ) (l : Loc) (trailing : List ℕ) → IsSubpoolFront text n sp after → after ≡ loc_text l ++ trailing → text ≡ (subpool_text sp ++ loc_text l) ++ trailing
+both_are text n None after l trailing e placed = e.0 ∙ placed
+both_are text n (Some sp) after l trailing e placed = e.0 ∙ ap (λ t. codes ",SP=" ++ t) (ap (λ t. sp ++ t) placed ∙ sym (append_assoc sp (loc_text l) trailing))
 
-joined_end : (operand text : List ℕ) (n : ℕ) (sp : Option (List ℕ)) (after : List ℕ) (l : Loc) (behind : List ℕ) → IsSubpoolFront text n sp after → after ≡ loc_text l ++ behind
-    → operand ++ text ≡ joined (operand ∷ (subpool_operand sp ++ loc_operand l)) ++ behind
-joined_end operand text n sp after l behind e placed =
-    ap (λ t. operand ++ t) (both_are text n sp after l behind e placed) ∙ sym (append_assoc operand (subpool_text sp ++ loc_text l) behind) ∙ ap (λ t. t ++ behind) (sym (joined_with operand sp l))
+joined_end : (operand text : List ℕ) (n : ℕ) (sp : Option (List ℕ)) (after : List ℕ) (l : Loc) (trailing : List ℕ) → IsSubpoolFront text n sp after → after ≡ loc_text l ++ trailing
+    → operand ++ text ≡ joined (operand ∷ (subpool_operand sp ++ loc_operand l)) ++ trailing
+joined_end operand text n sp after l trailing e placed =
+    ap (λ t. operand ++ t) (both_are text n sp after l trailing e placed) ∙ sym (append_assoc operand (subpool_text sp ++ loc_text l) trailing) ∙ ap (λ t. t ++ trailing) (sym (joined_with operand sp l))
 
 -- ---- the forms for one area
 
@@ -181,14 +181,14 @@ shorter : (a b : List ℕ) → nat_lt 255 (length (a ++ b)) ≡ false → nat_lt
 shorter a b e = let long : length (a ++ b) ≡ length a + length b = length-append a b in grind (arith, nat_tests)
 
 -- what stands after the operands says nothing
-behind_too : (text operation field behind : List ℕ) (l : Line) → is_name text ≡ true → IsWord operation → begins_word field ≡ true → is_remark behind ≡ true
-    → nat_lt 255 (length (text ++ (32 ∷ (operation ++ (32 ∷ (field ++ behind)))))) ≡ false
+after_too : (text operation field trailing : List ℕ) (l : Line) → is_name text ≡ true → IsWord operation → begins_word field ≡ true → is_remark trailing ≡ true
+    → nat_lt 255 (length (text ++ (32 ∷ (operation ++ (32 ∷ (field ++ trailing)))))) ≡ false
     → (nat_lt 255 (length (text ++ (32 ∷ (operation ++ (32 ∷ field))))) ≡ false → LineOf false (text ++ (32 ∷ (operation ++ (32 ∷ field)))) l)
-    → LineOf false (text ++ (32 ∷ (operation ++ (32 ∷ (field ++ behind))))) l
-behind_too text operation field [] l named is_word begins e short said =
+    → LineOf false (text ++ (32 ∷ (operation ++ (32 ∷ (field ++ trailing))))) l
+after_too text operation field [] l named is_word begins e short said =
     subst (λ f. LineOf false (text ++ (32 ∷ (operation ++ (32 ∷ f)))) l) (sym (append-nil field))
     (said (ap (λ f. nat_lt 255 (length (text ++ (32 ∷ (operation ++ (32 ∷ f)))))) (sym (append-nil field)) ∙ short))
-behind_too text operation field (b ∷ bs) l named is_word begins e short said =
+after_too text operation field (b ∷ bs) l named is_word begins e short said =
     let a = and_true (b == 32) (list_all plain bs) e in
     let front : List ℕ = text ++ (32 ∷ (operation ++ (32 ∷ field))) in
     let whole : front ++ (32 ∷ bs) ≡ text ++ (32 ∷ (operation ++ (32 ∷ (field ++ (b ∷ bs))))) =
@@ -206,12 +206,12 @@ joined_begins x [] is = ap begins_word (sym (append-nil x)) ∙ printed_begins x
 joined_begins x (y ∷ ys) is = printed_begins x (44 ∷ joined (y ∷ ys)) is
 
 -- what operands say says the field in which they are joined
-to_line : (operation field x : List ℕ) (xs : List (List ℕ)) (behind : List ℕ) (task : Name) (s t : Statement) → SpellsStatement operation (x ∷ xs) s → IsWord operation → IsWord x
-    → field ≡ joined (x ∷ xs) ++ behind → is_remark behind ≡ true → t ≡ s → SaysLine operation field task (line.Statement task t)
-to_line operation field x xs behind task s t said is_word first whole remark same text named is short =
-    let short_too : nat_lt 255 (length (text ++ (32 ∷ (operation ++ (32 ∷ (joined (x ∷ xs) ++ behind)))))) ≡ false = ap (λ f. nat_lt 255 (length (text ++ (32 ∷ (operation ++ (32 ∷ f)))))) (sym whole) ∙ short in
-    let written : LineOf false (text ++ (32 ∷ (operation ++ (32 ∷ (joined (x ∷ xs) ++ behind))))) (line.Statement (padded text) s) =
-    behind_too text operation (joined (x ∷ xs)) behind (line.Statement (padded text) s) named is_word (joined_begins x xs first) remark short_too (said text named) in
+to_line : (operation field x : List ℕ) (xs : List (List ℕ)) (trailing : List ℕ) (task : Name) (s t : Statement) → SpellsStatement operation (x ∷ xs) s → IsWord operation → IsWord x
+    → field ≡ joined (x ∷ xs) ++ trailing → is_remark trailing ≡ true → t ≡ s → SaysLine operation field task (line.Statement task t)
+to_line operation field x xs trailing task s t said is_word first whole remark same text named is short =
+    let short_too : nat_lt 255 (length (text ++ (32 ∷ (operation ++ (32 ∷ (joined (x ∷ xs) ++ trailing)))))) ≡ false = ap (λ f. nat_lt 255 (length (text ++ (32 ∷ (operation ++ (32 ∷ f)))))) (sym whole) ∙ short in
+    let written : LineOf false (text ++ (32 ∷ (operation ++ (32 ∷ (joined (x ∷ xs) ++ trailing))))) (line.Statement (padded text) s) =
+    after_too text operation (joined (x ∷ xs)) trailing (line.Statement (padded text) s) named is_word (joined_begins x xs first) remark short_too (said text named) in
     let in_field : LineOf false (text ++ (32 ∷ (operation ++ (32 ∷ field)))) (line.Statement (padded text) s) =
     subst (λ f. LineOf false (text ++ (32 ∷ (operation ++ (32 ∷ f)))) (line.Statement (padded text) s)) (sym whole) written in
     subst (λ u. LineOf false (text ++ (32 ∷ (operation ++ (32 ∷ field)))) u) (λ i. line.Statement (sym is i) (sym same i)) in_field
@@ -224,58 +224,58 @@ form_is_word : (f : Form) → is_single f ≡ true → IsWord (form_word f)
 form_is_word = one_of_three (λ f. IsWord (form_word f)) (word (codes "R") refl refl) (word (codes "RC") refl refl) (word (codes "RU") refl refl)
 
 -- the operands of a request for one area or of its release
-sized_field : (field : List ℕ) (f : Form) (n : ℕ) (digits rest area after : List ℕ) (sub : ℕ) (sp : Option (List ℕ)) (last : List ℕ) (l : Loc) (behind : List ℕ) → IsSized field f n digits rest → rest ≡ area ++ after
-    → IsSubpoolFront after sub sp last → last ≡ loc_text l ++ behind → field ≡ joined (form_word f ∷ (codes "LV=" ++ digits) ∷ (codes "A=" ++ area) ∷ (subpool_operand sp ++ loc_operand l)) ++ behind
-sized_field field f n digits rest area after sub sp last l behind sized whole end placed =
-    let from_area : codes "A=" ++ rest ≡ joined ((codes "A=" ++ area) ∷ (subpool_operand sp ++ loc_operand l)) ++ behind = ap (λ t. codes "A=" ++ t) whole ∙ joined_end (codes "A=" ++ area) after sub sp last l behind end placed in
+sized_field : (field : List ℕ) (f : Form) (n : ℕ) (digits rest area after : List ℕ) (sub : ℕ) (sp : Option (List ℕ)) (last : List ℕ) (l : Loc) (trailing : List ℕ) → IsSized field f n digits rest → rest ≡ area ++ after
+    → IsSubpoolFront after sub sp last → last ≡ loc_text l ++ trailing → field ≡ joined (form_word f ∷ (codes "LV=" ++ digits) ∷ (codes "A=" ++ area) ∷ (subpool_operand sp ++ loc_operand l)) ++ trailing
+sized_field field f n digits rest area after sub sp last l trailing sized whole end placed =
+    let from_area : codes "A=" ++ rest ≡ joined ((codes "A=" ++ area) ∷ (subpool_operand sp ++ loc_operand l)) ++ trailing = ap (λ t. codes "A=" ++ t) whole ∙ joined_end (codes "A=" ++ area) after sub sp last l trailing end placed in
     let inner : List ℕ = joined ((codes "A=" ++ area) ∷ (subpool_operand sp ++ loc_operand l)) in
     sized.whole ∙ ap (λ t. form_word f ++ (codes ",LV=" ++ (digits ++ (44 ∷ t)))) from_area
-    ∙ ap (λ t. form_word f ++ (codes ",LV=" ++ t)) (sym (append_assoc digits (44 ∷ inner) behind))
-    ∙ sym (append_assoc (form_word f) (codes ",LV=" ++ (digits ++ (44 ∷ inner))) behind)
+    ∙ ap (λ t. form_word f ++ (codes ",LV=" ++ t)) (sym (append_assoc digits (44 ∷ inner) trailing))
+    ∙ sym (append_assoc (form_word f) (codes ",LV=" ++ (digits ++ (44 ∷ inner))) trailing)
 
-pub obtain_line : (field : List ℕ) (task : Name) (f : Form) (n : ℕ) (digits rest text after : List ℕ) (area : Name) (sub : ℕ) (sp : Option (List ℕ)) (last : List ℕ) (l : Loc) (behind : List ℕ) (ask : AskValue)
-    → IsSized field f n digits rest → IsFront grammar.Name rest text after → area ≡ padded text → IsSubpoolFront after sub sp last → last ≡ loc_text l ++ behind → may_place f l ≡ true → is_remark behind ≡ true
+pub obtain_line : (field : List ℕ) (task : Name) (f : Form) (n : ℕ) (digits rest text after : List ℕ) (area : Name) (sub : ℕ) (sp : Option (List ℕ)) (last : List ℕ) (l : Loc) (trailing : List ℕ) (ask : AskValue)
+    → IsSized field f n digits rest → IsFront grammar.Name rest text after → area ≡ padded text → IsSubpoolFront after sub sp last → last ≡ loc_text l ++ trailing → may_place f l ≡ true → is_remark trailing ≡ true
     → ask ≡ record { least = n; most = n; start = 3; within = None; loc = l }
     → SpellsAfter (codes " GETMAIN " ++ field) task (line.Statement task (says.Request (written.Obtain f sub ask false area)))
-obtain_line field task f n digits rest text after area sub sp last l behind ask sized front is end placed may remark asks =
-    to_line (codes "GETMAIN") field (form_word f) ((codes "LV=" ++ digits) ∷ (codes "A=" ++ text) ∷ (subpool_operand sp ++ loc_operand l)) behind task (obtaining f digits text sp l) _
+obtain_line field task f n digits rest text after area sub sp last l trailing ask sized front is end placed may remark asks =
+    to_line (codes "GETMAIN") field (form_word f) ((codes "LV=" ++ digits) ∷ (codes "A=" ++ text) ∷ (subpool_operand sp ++ loc_operand l)) trailing task (obtaining f digits text sp l) _
     (obtains f l sized.form_is may digits text sp sized.fits front.alone.fits (fits_subpool after sub sp last end)) (word (codes "GETMAIN") refl refl) (form_is_word f sized.form_is)
-    (sized_field field f n digits rest text after sub sp last l behind sized front.whole end placed) remark
+    (sized_field field f n digits rest text after sub sp last l trailing sized front.whole end placed) remark
     (λ i. says.Request (written.Obtain f (number_is after sub sp last end i) ((asks ∙ (λ k. record { least = sized.length_is k; most = sized.length_is k; start = 3; within = None; loc = l })) i) false (is i)))
 
-pub release_line : (field : List ℕ) (task : Name) (f : Form) (n : ℕ) (digits rest name text after : List ℕ) (offset : ℕ) (address : Location) (len sub : ℕ) (sp : Option (List ℕ)) (behind : List ℕ)
-    → IsSized field f n digits rest → IsAddressFront rest name offset text after → address ≡ Named (padded name) offset → len ≡ n → IsSubpoolFront after sub sp behind → is_remark behind ≡ true
+pub release_line : (field : List ℕ) (task : Name) (f : Form) (n : ℕ) (digits rest name text after : List ℕ) (offset : ℕ) (address : Location) (len sub : ℕ) (sp : Option (List ℕ)) (trailing : List ℕ)
+    → IsSized field f n digits rest → IsAddressFront rest name offset text after → address ≡ Named (padded name) offset → len ≡ n → IsSubpoolFront after sub sp trailing → is_remark trailing ≡ true
     → SpellsAfter (codes " FREEMAIN " ++ field) task (line.Statement task (says.Request (written.Release f sub address len)))
-release_line field task f n digits rest name text after offset address len sub sp behind sized address_front is same end remark =
-    to_line (codes "FREEMAIN") field (form_word f) ((codes "LV=" ++ digits) ∷ (codes "A=" ++ text) ∷ (subpool_operand sp ++ loc_operand loc.Res)) behind task (releasing f digits text sp) _
-    (releases f sized.form_is digits text sp sized.fits address_front.front.alone.fits (fits_subpool after sub sp behind end)) (word (codes "FREEMAIN") refl refl) (form_is_word f sized.form_is)
-    (sized_field field f n digits rest text after sub sp behind loc.Res behind sized address_front.front.whole end refl) remark
-    (λ i. says.Request (written.Release f (number_is after sub sp behind end i) ((is ∙ address_front.location_is) i) ((same ∙ sized.length_is) i)))
+release_line field task f n digits rest name text after offset address len sub sp trailing sized address_front is same end remark =
+    to_line (codes "FREEMAIN") field (form_word f) ((codes "LV=" ++ digits) ∷ (codes "A=" ++ text) ∷ (subpool_operand sp ++ loc_operand loc.Res)) trailing task (releasing f digits text sp) _
+    (releases f sized.form_is digits text sp sized.fits address_front.front.alone.fits (fits_subpool after sub sp trailing end)) (word (codes "FREEMAIN") refl refl) (form_is_word f sized.form_is)
+    (sized_field field f n digits rest text after sub sp trailing loc.Res trailing sized address_front.front.whole end refl) remark
+    (λ i. says.Request (written.Release f (number_is after sub sp trailing end i) ((is ∙ address_front.location_is) i) ((same ∙ sized.length_is) i)))
 
 -- the operands of a request for a cell or of its release
-pooled_field : (field name rest text behind : List ℕ) → IsPooled field name rest → rest ≡ text ++ behind → field ≡ joined ((codes "CPID=" ++ name) ∷ (codes "CELL=" ++ text) ∷ []) ++ behind
-pooled_field field name rest text behind pooled whole =
-    pooled.whole ∙ ap (λ t. codes "CPID=" ++ (name ++ (codes ",CELL=" ++ t))) whole ∙ ap (λ t. codes "CPID=" ++ t) (sym (append_assoc name (codes ",CELL=" ++ text) behind))
+pooled_field : (field name rest text trailing : List ℕ) → IsPooled field name rest → rest ≡ text ++ trailing → field ≡ joined ((codes "CPID=" ++ name) ∷ (codes "CELL=" ++ text) ∷ []) ++ trailing
+pooled_field field name rest text trailing pooled whole =
+    pooled.whole ∙ ap (λ t. codes "CPID=" ++ (name ++ (codes ",CELL=" ++ t))) whole ∙ ap (λ t. codes "CPID=" ++ t) (sym (append_assoc name (codes ",CELL=" ++ text) trailing))
 
-pub get_line : (conditional : Bool) (field : List ℕ) (task pool cell : Name) (name rest text behind : List ℕ) → IsPooled field name rest → pool ≡ padded name → IsFront grammar.Name rest text behind → cell ≡ padded text → is_remark behind ≡ true
+pub get_line : (conditional : Bool) (field : List ℕ) (task pool cell : Name) (name rest text trailing : List ℕ) → IsPooled field name rest → pool ≡ padded name → IsFront grammar.Name rest text trailing → cell ≡ padded text → is_remark trailing ≡ true
     → SpellsAfter (get_text conditional ++ field) task (line.Statement task (says.Request (written.Get pool conditional cell)))
-get_line true field task pool cell name rest text behind pooled pool_is front is remark =
-    to_line (codes "CPOOL") (codes "GET,C," ++ field) (codes "GET") (codes "C" ∷ (codes "CPID=" ++ name) ∷ (codes "CELL=" ++ text) ∷ []) behind task _ _
+get_line true field task pool cell name rest text trailing pooled pool_is front is remark =
+    to_line (codes "CPOOL") (codes "GET,C," ++ field) (codes "GET") (codes "C" ∷ (codes "CPID=" ++ name) ∷ (codes "CELL=" ++ text) ∷ []) trailing task _ _
     (each_is_spelled.get_c name text (record { each = (pooled.fits, (front.alone.fits, tt)) })) (word (codes "CPOOL") refl refl) (word (codes "GET") refl refl)
-    (ap (λ t. codes "GET,C," ++ t) (pooled_field field name rest text behind pooled front.whole)) remark
+    (ap (λ t. codes "GET,C," ++ t) (pooled_field field name rest text trailing pooled front.whole)) remark
     (λ i. says.Request (written.Get (pool_is i) true (is i)))
-get_line false field task pool cell name rest text behind pooled pool_is front is remark =
-    to_line (codes "CPOOL") (codes "GET," ++ field) (codes "GET") ((codes "CPID=" ++ name) ∷ (codes "CELL=" ++ text) ∷ []) behind task _ _
+get_line false field task pool cell name rest text trailing pooled pool_is front is remark =
+    to_line (codes "CPOOL") (codes "GET," ++ field) (codes "GET") ((codes "CPID=" ++ name) ∷ (codes "CELL=" ++ text) ∷ []) trailing task _ _
     (each_is_spelled.get name text (record { each = (pooled.fits, (front.alone.fits, tt)) })) (word (codes "CPOOL") refl refl) (word (codes "GET") refl refl)
-    (ap (λ t. codes "GET," ++ t) (pooled_field field name rest text behind pooled front.whole)) remark
+    (ap (λ t. codes "GET," ++ t) (pooled_field field name rest text trailing pooled front.whole)) remark
     (λ i. says.Request (written.Get (pool_is i) false (is i)))
 
-pub free_line : (field : List ℕ) (task pool : Name) (cell : Location) (name rest area text behind : List ℕ) (offset : ℕ) → IsPooled field name rest → pool ≡ padded name → IsAddressFront rest area offset text behind → cell ≡ Named (padded area) offset → is_remark behind ≡ true
+pub free_line : (field : List ℕ) (task pool : Name) (cell : Location) (name rest area text trailing : List ℕ) (offset : ℕ) → IsPooled field name rest → pool ≡ padded name → IsAddressFront rest area offset text trailing → cell ≡ Named (padded area) offset → is_remark trailing ≡ true
     → SpellsAfter (codes " CPOOL FREE," ++ field) task (line.Statement task (says.Request (written.Free pool cell)))
-free_line field task pool cell name rest area text behind offset pooled pool_is place is remark =
-    to_line (codes "CPOOL") (codes "FREE," ++ field) (codes "FREE") ((codes "CPID=" ++ name) ∷ (codes "CELL=" ++ text) ∷ []) behind task _ _
+free_line field task pool cell name rest area text trailing offset pooled pool_is place is remark =
+    to_line (codes "CPOOL") (codes "FREE," ++ field) (codes "FREE") ((codes "CPID=" ++ name) ∷ (codes "CELL=" ++ text) ∷ []) trailing task _ _
     (each_is_spelled.free name text (record { each = (pooled.fits, (place.front.alone.fits, tt)) })) (word (codes "CPOOL") refl refl) (word (codes "FREE") refl refl)
-    (ap (λ t. codes "FREE," ++ t) (pooled_field field name rest text behind pooled place.front.whole)) remark
+    (ap (λ t. codes "FREE," ++ t) (pooled_field field name rest text trailing pooled place.front.whole)) remark
     (λ i. says.Request (written.Free (pool_is i) ((is ∙ place.location_is) i)))
 
 -- a name is short
@@ -295,27 +295,27 @@ return_line [] task none text named is short =
     (subst (λ u. LineOf false (text ++ codes " RETURN ") (line.Statement u (says.Request written.Return))) (sym is) (each_is_spelled.return text named with_blank))
 return_line (b ∷ field) task none text named is short = absurd (let zero : suc (length field) ≡ 0 = nat_same (suc (length field)) 0 none in omega arith)
 
-pub put_line : (field : List ℕ) (task : Name) (to : Location) (bytes : List ℕ) (name text rest after value behind : List ℕ) (offset : ℕ) → IsAddressFront field name offset text rest → to ≡ Named (padded name) offset → rest ≡ 44 ∷ after
-    → IsFront (grammar.Bytes 100) after value behind → bytes ≡ hex_bytes (quoted value) → is_remark behind ≡ true → SpellsAfter (codes " PUT " ++ field) task (line.Statement task (says.Request (written.Put to bytes)))
-put_line field task to bytes name text rest after value behind offset place is comma value_front said remark =
-    to_line (codes "PUT") field text (value ∷ []) behind task _ _ (each_is_spelled.put text value place.front.alone value_front.alone) (word (codes "PUT") refl refl) place.front.alone.fits.operand.word
-    (place.front.whole ∙ ap (λ t. text ++ t) (comma ∙ ap (λ t. 44 ∷ t) value_front.whole) ∙ sym (append_assoc text (44 ∷ value) behind)) remark
+pub put_line : (field : List ℕ) (task : Name) (to : Location) (bytes : List ℕ) (name text rest after value trailing : List ℕ) (offset : ℕ) → IsAddressFront field name offset text rest → to ≡ Named (padded name) offset → rest ≡ 44 ∷ after
+    → IsFront (grammar.Bytes 100) after value trailing → bytes ≡ hex_bytes (quoted value) → is_remark trailing ≡ true → SpellsAfter (codes " PUT " ++ field) task (line.Statement task (says.Request (written.Put to bytes)))
+put_line field task to bytes name text rest after value trailing offset place is comma value_front said remark =
+    to_line (codes "PUT") field text (value ∷ []) trailing task _ _ (each_is_spelled.put text value place.front.alone value_front.alone) (word (codes "PUT") refl refl) place.front.alone.fits.operand.word
+    (place.front.whole ∙ ap (λ t. text ++ t) (comma ∙ ap (λ t. 44 ∷ t) value_front.whole) ∙ sym (append_assoc text (44 ∷ value) trailing)) remark
     (λ i. says.Request (written.Put ((is ∙ place.location_is) i) (said i)))
 
 pub some_bytes : (text value rest : List ℕ) → IsFront (grammar.Bytes 100) text value rest → IsSomeBytes value
 some_bytes text value rest front = record { are = front.alone.fits.of_kind; few = grind (arith, nat_tests, front.alone.fits.within) }
 
-pub show_line : (field : List ℕ) (task : Name) (from : Location) (len n : ℕ) (name text rest after digits behind : List ℕ) (offset : ℕ) → IsAddressFront field name offset text rest → from ≡ Named (padded name) offset → rest ≡ 44 ∷ after
-    → IsNumberFront 1 4096 after n digits behind → len ≡ n → is_remark behind ≡ true → SpellsAfter (codes " SHOW " ++ field) task (line.Statement task (says.Request (written.Show from len)))
-show_line field task from len n name text rest after digits behind offset place is comma count same remark =
-    to_line (codes "SHOW") field text (digits ∷ []) behind task _ _ (each_is_spelled.show text digits place.front.alone count.front.alone) (word (codes "SHOW") refl refl) place.front.alone.fits.operand.word
-    (place.front.whole ∙ ap (λ t. text ++ t) (comma ∙ ap (λ t. 44 ∷ t) count.front.whole) ∙ sym (append_assoc text (44 ∷ digits) behind)) remark
+pub show_line : (field : List ℕ) (task : Name) (from : Location) (len n : ℕ) (name text rest after digits trailing : List ℕ) (offset : ℕ) → IsAddressFront field name offset text rest → from ≡ Named (padded name) offset → rest ≡ 44 ∷ after
+    → IsNumberFront 1 4096 after n digits trailing → len ≡ n → is_remark trailing ≡ true → SpellsAfter (codes " SHOW " ++ field) task (line.Statement task (says.Request (written.Show from len)))
+show_line field task from len n name text rest after digits trailing offset place is comma count same remark =
+    to_line (codes "SHOW") field text (digits ∷ []) trailing task _ _ (each_is_spelled.show text digits place.front.alone count.front.alone) (word (codes "SHOW") refl refl) place.front.alone.fits.operand.word
+    (place.front.whole ∙ ap (λ t. text ++ t) (comma ∙ ap (λ t. 44 ∷ t) count.front.whole) ∙ sym (append_assoc text (44 ∷ digits) trailing)) remark
     (λ i. says.Request (written.Show ((is ∙ place.location_is) i) ((same ∙ count.value) i)))
 
-pub where_line : (field : List ℕ) (task area : Name) (text behind : List ℕ) → IsFront grammar.Name field text behind → area ≡ padded text → is_remark behind ≡ true
+pub where_line : (field : List ℕ) (task area : Name) (text trailing : List ℕ) → IsFront grammar.Name field text trailing → area ≡ padded text → is_remark trailing ≡ true
     → SpellsAfter (codes " WHERE " ++ field) task (line.Statement task (says.Where area))
-where_line field task area text behind front is remark =
-    to_line (codes "WHERE") field text [] behind task _ _ (each_is_spelled.where_is text front.alone) (word (codes "WHERE") refl refl) front.alone.fits.operand.word front.whole remark (λ i. says.Where (is i))
+where_line field task area text trailing front is remark =
+    to_line (codes "WHERE") field text [] trailing task _ _ (each_is_spelled.where_is text front.alone) (word (codes "WHERE") refl refl) front.alone.fits.operand.word front.whole remark (λ i. says.Where (is i))
 
 pub report_line : (field : List ℕ) (task : Name) → is_remark field ≡ true → SpellsAfter (codes " REPORT SP" ++ field) task (line.Statement task says.ReportSubpools)
 report_line field task remark =

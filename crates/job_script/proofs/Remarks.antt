@@ -12,7 +12,7 @@ use Rattle.mvs_model.specs.Reading.{◌when◌, LineOf, is_empty, is_name, opera
 use Rattle.mvs_model.specs.Spelling.{IsWord}
 use Rattle.mvs_model.proofs.Reading.{none_first}
 use Rattle.mvs_model.proofs.ReadingWords.{only_words}
-use Rattle.mvs_model.proofs.Spelling.{all_append, before_blank, blank_behind, name_word, no_blank, plain, plain_word, says_something}
+use Rattle.mvs_model.proofs.Spelling.{all_append, before_blank, blank_after, name_word, no_blank, plain, plain_word, says_something}
 
 -- ---- the words of two texts with a blank between
 
@@ -20,22 +20,22 @@ onto_append : (x : ℕ) (parts more : List (List ℕ)) → 0 < length parts → 
 onto_append x [] more some = absurd (omega arith)
 onto_append x (part ∷ parts) more some = refl
 
-split_behind : (xs rest : List ℕ) → slice_split (λ b. b == 32) (xs ++ 32 ∷ rest) ≡ slice_split (λ b. b == 32) xs ++ slice_split (λ b. b == 32) rest
-split_behind [] rest = refl
-split_behind (x ∷ xs) rest =
+split_after : (xs rest : List ℕ) → slice_split (λ b. b == 32) (xs ++ 32 ∷ rest) ≡ slice_split (λ b. b == 32) xs ++ slice_split (λ b. b == 32) rest
+split_after [] rest = refl
+split_after (x ∷ xs) rest =
     elim (x == 32) as (λ c. (if c then [] ∷ slice_split (λ b. b == 32) (xs ++ 32 ∷ rest) else onto_first x (slice_split (λ b. b == 32) (xs ++ 32 ∷ rest)))
     ≡ (if c then [] ∷ slice_split (λ b. b == 32) xs else onto_first x (slice_split (λ b. b == 32) xs)) ++ slice_split (λ b. b == 32) rest) [
-      | true ↦ ap (λ l. [] ∷ l) (split_behind xs rest)
-      | false ↦ ap (onto_first x) (split_behind xs rest) ∙ onto_append x (slice_split (λ b. b == 32) xs) _ (omega (arith, length-slice_split (λ b. b == 32) xs))
+      | true ↦ ap (λ l. [] ∷ l) (split_after xs rest)
+      | false ↦ ap (onto_first x) (split_after xs rest) ∙ onto_append x (slice_split (λ b. b == 32) xs) _ (omega (arith, length-slice_split (λ b. b == 32) xs))
     ]
 
-words_behind : (xs rest : List ℕ) → words (xs ++ 32 ∷ rest) ≡ words xs ++ words rest
-words_behind xs rest = ap (filter (λ word. not (is_empty word))) (split_behind xs rest) ∙ filter-append (λ word. not (is_empty word)) (slice_split (λ b. b == 32) xs) (slice_split (λ b. b == 32) rest)
+words_after : (xs rest : List ℕ) → words (xs ++ 32 ∷ rest) ≡ words xs ++ words rest
+words_after xs rest = ap (filter (λ word. not (is_empty word))) (split_after xs rest) ∙ filter-append (λ word. not (is_empty word)) (slice_split (λ b. b == 32) xs) (slice_split (λ b. b == 32) rest)
 
 -- a word in front
-word_behind : (a rest : List ℕ) → IsWord a → words (a ++ (32 ∷ rest)) ≡ a ∷ words rest
-word_behind [] rest is = absurd (let f : true ≡ false = is.some in cc)
-word_behind (a ∷ az) rest is = ap (filter (λ word. not (is_empty word))) (blank_behind (a ∷ az) rest is.printed)
+word_beyond : (a rest : List ℕ) → IsWord a → words (a ++ (32 ∷ rest)) ≡ a ∷ words rest
+word_beyond [] rest is = absurd (let f : true ≡ false = is.some in cc)
+word_beyond (a ∷ az) rest is = ap (filter (λ word. not (is_empty word))) (blank_after (a ∷ az) rest is.printed)
 
 -- a word alone
 word_alone : (a : List ℕ) → IsWord a → words a ≡ a ∷ []
@@ -81,7 +81,7 @@ is_plain first line l is = (bytes_and_more first line l is).1
 
 -- the words of the line of a task with an operation and its operands
 line_words : (task operation field : List ℕ) → is_name task ≡ true → IsWord operation → words (task ++ (32 ∷ (operation ++ (32 ∷ field)))) ≡ task ∷ operation ∷ words field
-line_words task operation field named is = word_behind task (operation ++ (32 ∷ field)) (name_word task named) ∙ ap (λ l. task ∷ l) (word_behind operation field is)
+line_words task operation field named is = word_beyond task (operation ++ (32 ∷ field)) (name_word task named) ∙ ap (λ l. task ∷ l) (word_beyond operation field is)
 
 pub with_remark : (first : Bool) (task operation field remark : List ℕ) (l : Line) → is_name task ≡ true → IsWord operation → begins_word field ≡ true → list_all plain remark ≡ true
     → nat_lt 255 (length ((task ++ (32 ∷ (operation ++ (32 ∷ field)))) ++ (32 ∷ remark))) ≡ false
@@ -90,7 +90,7 @@ with_remark first task operation field remark l named is_word begins are_plain s
     let text : List ℕ = task ++ (32 ∷ (operation ++ (32 ∷ field))) in
     let w = first_word field begins in
     let one : words text ≡ task ∷ operation ∷ w.0 ∷ w.1 = line_words task operation field named is_word ∙ ap (λ l. task ∷ operation ∷ l) w.2 in
-    let both : words (text ++ (32 ∷ remark)) ≡ (task ∷ operation ∷ w.0 ∷ w.1) ++ words remark = words_behind text remark ∙ ap (λ l. l ++ words remark) one in
+    let both : words (text ++ (32 ∷ remark)) ≡ (task ∷ operation ∷ w.0 ∷ w.1) ++ words remark = words_after text remark ∙ ap (λ l. l ++ words remark) one in
     let apart : text ++ (32 ∷ remark) ≡ task ++ (32 ∷ ((operation ++ (32 ∷ field)) ++ (32 ∷ remark))) = append_assoc task (32 ∷ (operation ++ (32 ∷ field))) (32 ∷ remark) in
     let front : before_first (λ b. b == 32) text ≡ task = before_blank task _ (name_word task named).printed in
     let front_too : before_first (λ b. b == 32) (text ++ (32 ∷ remark)) ≡ task = ap (before_first (λ b. b == 32)) apart ∙ before_blank task _ (name_word task named).printed in
@@ -109,7 +109,7 @@ pub without_blank : (first : Bool) (task operation : List ℕ) (l : Line) → is
 without_blank first task operation l named is_word short is =
     let is_task = name_word task named in
     let one : words (task ++ (32 ∷ (operation ++ (32 ∷ [])))) ≡ task ∷ operation ∷ [] = line_words task operation [] named is_word in
-    let other : words (task ++ (32 ∷ operation)) ≡ task ∷ operation ∷ [] = word_behind task operation is_task ∙ ap (λ l. task ∷ l) (word_alone operation is_word) in
+    let other : words (task ++ (32 ∷ operation)) ≡ task ∷ operation ∷ [] = word_beyond task operation is_task ∙ ap (λ l. task ∷ l) (word_alone operation is_word) in
     (only_words first (task ++ (32 ∷ (operation ++ (32 ∷ [])))) (task ++ (32 ∷ operation)) (record {
       length_same = is_short first _ l is ∙ sym short;
       bytes_same = is_plain first _ l is ∙ sym (all_append plain task (32 ∷ operation) (plain_word task is_task) (plain_word operation is_word));

@@ -102,27 +102,27 @@ pub form_unknown : (operation : List ℕ) (task : Name) (os : List (List ℕ)) �
 form_unknown operation task os e none = not_missing operation os e ∙ ap (λ o. first_of (UnknownOperation when not (is_some o) ∷ row_checks os o)) none
 
 -- what a row makes of the operands after the form is what the operation makes of all
-pub form_known : (operation : List ℕ) (task : Name) (os behind : List (List ℕ)) (form : List ℕ) (r : grammar.Row) (result : Result Line Fault)
-    → (takes_form operation && (is_empty os || has_key (form_in operation os))) ≡ false → row_of operation os ≡ Some r → operands_after_form r os ≡ behind
-    → statement_of r.meaning (form_in operation os) (by_key behind) ≡ statement_of r.meaning form (by_key behind) → RowReading r task form behind result → FormReading operation task os result
-form_known operation task os behind form r (Ok l) e is b f reading = (
+pub form_known : (operation : List ℕ) (task : Name) (os trailing : List (List ℕ)) (form : List ℕ) (r : grammar.Row) (result : Result Line Fault)
+    → (takes_form operation && (is_empty os || has_key (form_in operation os))) ≡ false → row_of operation os ≡ Some r → operands_after_form r os ≡ trailing
+    → statement_of r.meaning (form_in operation os) (by_key trailing) ≡ statement_of r.meaning form (by_key trailing) → RowReading r task form trailing result → FormReading operation task os result
+form_known operation task os trailing form r (Ok l) e is b f reading = (
   not_missing operation os e ∙ ap (λ o. first_of (UnknownOperation when not (is_some o) ∷ row_checks os o)) is ∙ ap (λ xs. first_of (checks_after_form r xs)) b ∙ reading.0,
   ap (λ o. o >>= λ row. statement_of row.meaning (form_in operation os) (by_key (operands_after_form row os)) >>= λ statement. Some (line.Statement task statement)) is
       ∙ ap (λ xs. statement_of r.meaning (form_in operation os) (by_key xs) >>= λ statement. Some (line.Statement task statement)) b
-      ∙ ap (λ o. o >>= λ statement. Some (line.Statement task statement)) f ∙ mapped (statement_of r.meaning form (by_key behind)) ∙ reading.1,
+      ∙ ap (λ o. o >>= λ statement. Some (line.Statement task statement)) f ∙ mapped (statement_of r.meaning form (by_key trailing)) ∙ reading.1,
 ) where
   mapped : (o : Option Statement) → (o >>= λ statement. Some (line.Statement task statement)) ≡ option_map (line.Statement task) o
   mapped None = refl
   mapped (Some s) = refl
-form_known operation task os behind form r (Err fault) e is b f reading =
+form_known operation task os trailing form r (Err fault) e is b f reading =
     not_missing operation os e ∙ ap (λ o. first_of (UnknownOperation when not (is_some o) ∷ row_checks os o)) is ∙ ap (λ xs. first_of (checks_after_form r xs)) b ∙ reading
 
 -- the operands after a form
-pub behind_one : (r : grammar.Row) (form : List ℕ) (behind : List (List ℕ)) → is_empty r.forms ≡ false → operands_after_form r (form ∷ behind) ≡ behind
-behind_one r form behind e = ap (λ b. if b then form ∷ behind else behind) e
+pub after_one : (r : grammar.Row) (form : List ℕ) (trailing : List (List ℕ)) → is_empty r.forms ≡ false → operands_after_form r (form ∷ trailing) ≡ trailing
+after_one r form trailing e = ap (λ b. if b then form ∷ trailing else trailing) e
 
-pub behind_none : (r : grammar.Row) (os : List (List ℕ)) → is_empty r.forms ≡ true → operands_after_form r os ≡ os
-behind_none r os e = ap (λ b. if b then os else drop 1 os) e
+pub beyond_none : (r : grammar.Row) (os : List (List ℕ)) → is_empty r.forms ≡ true → operands_after_form r os ≡ os
+beyond_none r os e = ap (λ b. if b then os else drop 1 os) e
 
 -- an operation that takes no form has one row, whatever its operands are
 pub row_alone : (o : Operation) → takes_form (operation_text o) ≡ false → (os : List (List ℕ)) → row_of (operation_text o) os ≡ row_with o []
@@ -171,8 +171,8 @@ formless row.Report e one other os = absurd (let f : false ≡ true = e in cc)
 pub none_missing : (operation : List ℕ) (os : List (List ℕ)) → takes_form operation ≡ false → (takes_form operation && (is_empty os || has_key (form_in operation os))) ≡ false
 none_missing operation os e = ap (λ b. b && (is_empty os || has_key (form_in operation os))) e
 
-pub form_there : (operation form : List ℕ) (behind : List (List ℕ)) → has_key form ≡ false → (takes_form operation && (is_empty (form ∷ behind) || has_key (form_in operation (form ∷ behind)))) ≡ false
-form_there operation form behind e = ap (λ b. takes_form operation && b) e ∙ and_right (takes_form operation) false refl
+pub form_there : (operation form : List ℕ) (trailing : List (List ℕ)) → has_key form ≡ false → (takes_form operation && (is_empty (form ∷ trailing) || has_key (form_in operation (form ∷ trailing)))) ≡ false
+form_there operation form trailing e = ap (λ b. takes_form operation && b) e ∙ and_right (takes_form operation) false refl
 
 -- the operands of a field that is not empty: its form and those after it
 pub form_parts : (field form : List ℕ) (more : Option (Bor (List ℕ))) → is_empty field ≡ false → MatchOption more (parts_within 0 field ≡ form ∷ []) (λ rest. parts_within 0 field ≡ form ∷ parts_within 0 (field_in rest.now))

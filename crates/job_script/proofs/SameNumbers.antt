@@ -78,15 +78,15 @@ same_length (a ∷ ds) (b ∷ bs) l da db =
     ∙ (λ i. digit_same a b (digit_range a x.0).0 (digit_range b y.0).0 i && same_length ds bs long x.1 y.1 i)
 
 -- zeros in front count for nothing, and a longer number without them is another
-pub same_behind : (n : ℕ) (longer shorter : List ℕ) → length longer ≡ n + length shorter → list_all is_digit longer ≡ true → list_all is_digit shorter ≡ true
+pub same_after : (n : ℕ) (longer shorter : List ℕ) → length longer ≡ n + length shorter → list_all is_digit longer ≡ true → list_all is_digit shorter ≡ true
     → (number longer == number shorter) ≡ (list_all (λ b. b == 48) (take n longer) && bytes_eq (drop n longer) shorter)
-same_behind zero longer shorter l dl ds = same_length longer shorter (omega arith) dl ds
-same_behind (suc n) [] shorter l dl ds = absurd (omega arith)
-same_behind (suc n) (b ∷ bs) shorter l dl ds =
+same_after zero longer shorter l dl ds = same_length longer shorter (omega arith) dl ds
+same_after (suc n) [] shorter l dl ds = absurd (omega arith)
+same_after (suc n) (b ∷ bs) shorter l dl ds =
     let x = and_true (is_digit b) (list_all is_digit bs) dl in
     let r = digit_range b x.0 in
     let long : length bs ≡ n + length shorter = omega arith in
-    let rest = same_behind n bs shorter long x.1 ds in
+    let rest = same_after n bs shorter long x.1 ds in
     elim (cases_lt 48 b) [
       | inl h ↦
           let one : 10 ^ length shorter ≤ 10 ^ length bs = (let le : length shorter ≤ length bs = omega arith in pow-le-pow_right (omega arith) {i = length shorter} {j = length bs} le) in

@@ -11,8 +11,8 @@ use Rattle.job_script.specs.Writing.{AppendsFront, data_text}
 use Rattle.job_script.proofs.Appending.{front_longer, front_more}
 
 -- a line after its number and its task
-pub behind_head : (number : ℕ) (t : Name) (head said : List ℕ) → head ≡ decimal number ++ codes " " ++ trimmed t ++ codes " " → head ++ said ++ codes "\n" ≡ reply_line number t said
-behind_head number t head said e = ap (λ h. h ++ said ++ codes "\n") e
+pub after_head : (number : ℕ) (t : Name) (head said : List ℕ) → head ≡ decimal number ++ codes " " ++ trimmed t ++ codes " " → head ++ said ++ codes "\n" ≡ reply_line number t said
+after_head number t head said e = ap (λ h. h ++ said ++ codes "\n") e
 
 -- one line, and then the others
 pub lines_next : (number : ℕ) (t : Name) (offset : ℕ) (rest : List ℕ) → 0 < length rest
@@ -39,11 +39,11 @@ module _ (a b c : Option (List ℕ)) (front total : List ℕ) (number : ℕ) (t 
   abbrev said : List ℕ
   said = reply_line number t (data_text offset line)
 
-  abbrev behind : List ℕ
-  behind = data_lines number t ((length (drop 32 rest) + 31) / 32) (offset + 32) (drop 32 rest)
+  abbrev trailing : List ℕ
+  trailing = data_lines number t ((length (drop 32 rest) + 31) / 32) (offset + 32) (drop 32 rest)
 
-  one_more : (front ++ said) ++ behind ≡ total
-  one_more = append_assoc front said behind ∙ ap (λ l. front ++ (reply_line number t (data_text offset l) ++ behind)) is ∙ ap (λ z. front ++ z) (sym (lines_next number t offset rest some)) ∙ all
+  one_more : (front ++ said) ++ trailing ≡ total
+  one_more = append_assoc front said trailing ∙ ap (λ l. front ++ (reply_line number t (data_text offset l) ++ trailing)) is ∙ ap (λ z. front ++ z) (sym (lines_next number t offset rest some)) ∙ all
 
   -- a line that is written in part leaves a front of all
   pub data_front : AppendsFront b c said → AppendsFront a c total

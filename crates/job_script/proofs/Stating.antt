@@ -33,9 +33,9 @@ kept_some ((b ∷ bs) ∷ ws) = refl
 pub first_field : (text : List ℕ) → operands_in (slice_get (words text) 0) ≡ operands_in (as_field (unwrap_or (slice_get (words text) 0) []))
 first_field text = kept_some (slice_split (λ b. b == 32) text)
 
-behind_first : (ws : List (List ℕ)) → slice_get ws 1 ≡ slice_get (drop 1 ws) 0
-behind_first [] = refl
-behind_first (w ∷ ws) = refl
+beyond_first : (ws : List (List ℕ)) → slice_get ws 1 ≡ slice_get (drop 1 ws) 0
+beyond_first [] = refl
+beyond_first (w ∷ ws) = refl
 
 -- the operands of a line by its operation
 pub operands_by : (o : Operation) (field : Option (List ℕ)) (rest : List ℕ) → operands_in field ≡ operands_in (as_field (unwrap_or (slice_get (words rest) 0) []))
@@ -55,20 +55,20 @@ operands_by operation.Where field rest e = e
 operands_by operation.Report field rest e = e
 
 -- the field after an operation that has one
-pub field_behind : (o : Operation) (rest : List ℕ) → (o ≡ operation.Return → ⊥) → field_of o rest ≡ unwrap_or (slice_get (words rest) 0) []
-field_behind operation.Region rest other = refl
-field_behind operation.Getmain rest other = refl
-field_behind operation.Freemain rest other = refl
-field_behind operation.Storage rest other = refl
-field_behind operation.Cpool rest other = refl
-field_behind operation.Attach rest other = refl
-field_behind operation.Return rest other = absurd (other refl)
-field_behind operation.Abend rest other = refl
-field_behind operation.Put rest other = refl
-field_behind operation.Show rest other = refl
-field_behind operation.Move rest other = refl
-field_behind operation.Where rest other = refl
-field_behind operation.Report rest other = refl
+pub field_after : (o : Operation) (rest : List ℕ) → (o ≡ operation.Return → ⊥) → field_of o rest ≡ unwrap_or (slice_get (words rest) 0) []
+field_after operation.Region rest other = refl
+field_after operation.Getmain rest other = refl
+field_after operation.Freemain rest other = refl
+field_after operation.Storage rest other = refl
+field_after operation.Cpool rest other = refl
+field_after operation.Attach rest other = refl
+field_after operation.Return rest other = absurd (other refl)
+field_after operation.Abend rest other = refl
+field_after operation.Put rest other = refl
+field_after operation.Show rest other = refl
+field_after operation.Move rest other = refl
+field_after operation.Where rest other = refl
+field_after operation.Report rest other = refl
 
 abbrev is_return : Operation → Bool
 is_return operation.Return = true
@@ -108,17 +108,17 @@ pub record Split (line task : List ℕ) (o : Operation) (field : List ℕ) : Typ
   pub operation_is : operation_in line ≡ operation_text o
   pub operands_are : operands_of line ≡ operands_in (as_field field)
 
-pub split_line : (line task rest word behind : List ℕ) (o : Operation) → task ≡ task_in line → is_name task ≡ true → slice_split (λ b. b == 32) line ≡ task ∷ slice_split (λ b. b == 32) rest
-    → word ≡ unwrap_or (slice_get (words rest) 0) [] → words behind ≡ drop 1 (words rest) → word ≡ operation_text o → Split line task o (field_of o behind)
-split_line line task rest word behind o t n parts w ws is =
+pub split_line : (line task rest word trailing : List ℕ) (o : Operation) → task ≡ task_in line → is_name task ≡ true → slice_split (λ b. b == 32) line ≡ task ∷ slice_split (λ b. b == 32) rest
+    → word ≡ unwrap_or (slice_get (words rest) 0) [] → words trailing ≡ drop 1 (words rest) → word ≡ operation_text o → Split line task o (field_of o trailing)
+split_line line task rest word trailing o t n parts w ws is =
     let all = task_words line task rest n parts in
     let op : operation_in line ≡ operation_text o = ap (λ xs. unwrap_or (slice_get xs 1) []) all ∙ sym w ∙ is in
-    let field : slice_get (words line) 2 ≡ slice_get (words behind) 0 = ap (λ xs. slice_get xs 2) all ∙ behind_first (words rest) ∙ ap (λ xs. slice_get xs 0) (sym ws) in
+    let field : slice_get (words line) 2 ≡ slice_get (words trailing) 0 = ap (λ xs. slice_get xs 2) all ∙ beyond_first (words rest) ∙ ap (λ xs. slice_get xs 0) (sym ws) in
     record {
       task_is = sym t;
       operation_is = op;
       operands_are = ap (λ op. if list_any (λ row. row.has_field) (rows_of op) then operands_in (slice_get (words line) 2) else []) op
-          ∙ operands_by o (slice_get (words line) 2) behind (ap operands_in field ∙ first_field behind);
+          ∙ operands_by o (slice_get (words line) 2) trailing (ap operands_in field ∙ first_field trailing);
     }
 
 -- an operation that the table does not have

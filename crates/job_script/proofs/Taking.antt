@@ -186,7 +186,7 @@ onto_append x [] qs = refl
 onto_append x (p ∷ ps) qs = ap (λ rs. (x ∷ p.0, p.1) ∷ rs) (onto_append x ps qs)
 
 -- an operand with those on its left, and others after it
-pub left_split : (left : List (List ℕ)) (operand : List ℕ) (rest : List (List ℕ)) → (behind : List Placed) × (with_left (left ++ operand ∷ rest) ≡ with_left left ++ (left, operand) ∷ behind)
+pub left_split : (left : List (List ℕ)) (operand : List ℕ) (rest : List (List ℕ)) → (trailing : List Placed) × (with_left (left ++ operand ∷ rest) ≡ with_left left ++ (left, operand) ∷ trailing)
 left_split [] operand rest = (onto operand (with_left rest), refl)
 left_split (x ∷ left) operand rest =
     let s = left_split left operand rest in
@@ -196,18 +196,18 @@ left_push : (left : List (List ℕ)) (operand : List ℕ) → with_left (left ++
 left_push [] operand = refl
 left_push (x ∷ left) operand = ap (λ ps. ([], x) ∷ onto x ps) (left_push left operand) ∙ ap (λ ps. ([], x) ∷ ps) (onto_append x (with_left left) ((left, operand) ∷ []))
 
-pub is_first_after : (front behind : List (Fault × Bool)) → first_of front ≡ None → first_of (front ++ behind) ≡ first_of behind
-is_first_after [] behind e = refl
-is_first_after (check ∷ front) behind e =
+pub is_first_after : (front trailing : List (Fault × Bool)) → first_of front ≡ None → first_of (front ++ trailing) ≡ first_of trailing
+is_first_after [] trailing e = refl
+is_first_after (check ∷ front) trailing e =
     let a = none_first check front e in
-    ap (λ b. if b then Some check.0 else first_of (front ++ behind)) a.0 ∙ is_first_after front behind a.1
+    ap (λ b. if b then Some check.0 else first_of (front ++ trailing)) a.0 ∙ is_first_after front trailing a.1
 
-pub first_front : (front behind : List (Fault × Bool)) (fault : Fault) → first_of front ≡ Some fault → first_of (front ++ behind) ≡ Some fault
-first_front [] behind fault e = absurd (let f : None ≡ Some fault = e in cc)
-first_front (check ∷ front) behind fault e =
-    (elim check.1 as (λ b. (if b then Some check.0 else first_of front) ≡ Some fault → (if b then Some check.0 else first_of (front ++ behind)) ≡ Some fault) [
+pub first_front : (front trailing : List (Fault × Bool)) (fault : Fault) → first_of front ≡ Some fault → first_of (front ++ trailing) ≡ Some fault
+first_front [] trailing fault e = absurd (let f : None ≡ Some fault = e in cc)
+first_front (check ∷ front) trailing fault e =
+    (elim check.1 as (λ b. (if b then Some check.0 else first_of front) ≡ Some fault → (if b then Some check.0 else first_of (front ++ trailing)) ≡ Some fault) [
       | true ↦ λ e. e
-      | false ↦ λ e. first_front front behind fault e
+      | false ↦ λ e. first_front front trailing fault e
     ]) e
 
 abbrev NoneAgainst : grammar.Row → List (List ℕ) → Type 0
@@ -462,6 +462,6 @@ nothing_given g table p t k n = record {
 }
 
 -- there is an operand more
-pub some_operand : (P : List (List ℕ)) (o : List ℕ) (more : Option (Bor (List ℕ))) → MatchOption more (P ≡ o ∷ []) (λ rest. P ≡ o ∷ parts_within 0 (field_in rest.now)) → (behind : List (List ℕ)) × (P ≡ o ∷ behind)
+pub some_operand : (P : List (List ℕ)) (o : List ℕ) (more : Option (Bor (List ℕ))) → MatchOption more (P ≡ o ∷ []) (λ rest. P ≡ o ∷ parts_within 0 (field_in rest.now)) → (trailing : List (List ℕ)) × (P ≡ o ∷ trailing)
 some_operand P o None e = ([], e)
 some_operand P o (Some rest) e = (parts_within 0 (field_in rest.now), e)

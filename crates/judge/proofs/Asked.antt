@@ -20,9 +20,9 @@ use Rattle.judge.specs.declared.kinds.GrantKind.TheVariants.{Area, Areas, Closed
 use Rattle.judge.specs.Deciding.{HasNoQuestion, IsGrant, IsKind, IsKindOf, IsList, IsOther}
 use Rattle.judge.specs.Judging.{AskEach, GrantsAreShown, GrantIsShown, AreaIsShown, IsForList, IsFound, ListIsShown, IsListAt, IsOpen, IsOpenAt, IsQuestion, leaves_open}
 
-asked_behind : (served left : List (List ℕ)) → GrantsAreShown (served ++ left) → GrantsAreShown left
-asked_behind [] left a = a
-asked_behind (bytes ∷ served) left a = asked_behind served left a.1
+asked_after : (served left : List (List ℕ)) → GrantsAreShown (served ++ left) → GrantsAreShown left
+asked_after [] left a = a
+asked_after (bytes ∷ served) left a = asked_after served left a.1
 
 -- a request stands after the first statement
 not_first : (first : Bool) (l : Line) → leaves_open l ≡ true → IsLine first (Ok l) → first ≡ false
@@ -44,21 +44,21 @@ list_first number step (bytes ∷ lines) rest a (l, is, opens, other) =
     let of_step = subst (λ first. LineOf first bytes l) (not_first (is_first step) l opens (line_ranged (is_first step) bytes l is)) is in
     (l, of_step, (other (subst (GrantIsShown l) (append-nil lines) (a.0 l of_step opens))).0)
 
-get_behind : (xs : List (List ℕ)) (y : List ℕ) (ys : List (List ℕ)) → slice_get (xs ++ y ∷ ys) (length xs) ≡ Some y
-get_behind [] y ys = refl
-get_behind (x ∷ xs) y ys = get_behind xs y ys
+get_after : (xs : List (List ℕ)) (y : List ℕ) (ys : List (List ℕ)) → slice_get (xs ++ y ∷ ys) (length xs) ≡ Some y
+get_after [] y ys = refl
+get_after (x ∷ xs) y ys = get_after xs y ys
 
 list_at : (all served left : List (List ℕ)) (number : ℕ) → all ≡ served ++ left → number ≡ 1 + length served → IsListFirst left → IsListAt all number
 list_at all served [] number cut counted x = absurd x
 list_at all served (bytes ∷ lines) number cut counted x =
     let n : number - 1 ≡ length served = omega (arith, counted) in
-    (bytes, (λ i. slice_get (cut i) (n i)) ∙ get_behind served bytes lines, x.0, x.1, x.2)
+    (bytes, (λ i. slice_get (cut i) (n i)) ∙ get_after served bytes lines, x.0, x.1, x.2)
 
 pub asked_decides : (script output text : List ℕ) (outcome : Outcome) (f : Finding) (number : ℕ) → GrantsAreShown (lines_of script) → IsFound script output text outcome f → f ≡ Undecided number → IsListAt (lines_of script) number
 asked_decides script output text outcome f number a found is = at (subst (IsFound script output text outcome) is found).0 where
   at : IsOpenAt script output number → IsListAt (lines_of script) number
   at (events, step, left, rest, reached, front, before, opens) =
-      list_at (lines_of script) reached.served left number reached.lines reached.counted (list_first number step left rest (asked_behind reached.served left (subst GrantsAreShown reached.lines a)) opens)
+      list_at (lines_of script) reached.served left number reached.lines reached.counted (list_first number step left rest (asked_after reached.served left (subst GrantsAreShown reached.lines a)) opens)
 
 -- ---- lines that are open
 

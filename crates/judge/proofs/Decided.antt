@@ -40,7 +40,7 @@ use Rattle.mvs_job.specs.declared.walk.LineEvent.{LineEvent}
 use Rattle.mvs_job.specs.declared.walk.LineEvent.TheVariants as tells
 use Rattle.mvs_model.proofs.Tests.{false_true}
 use Rattle.mvs_job.specs.LineEvents.{ServesAsUnder, WalkValue, closing, events_of_line, new_walk}
-use Rattle.mvs_job.proofs.Serving.{told_by}
+use Rattle.mvs_job.proofs.Serving.{serves_unconditionally}
 use Rattle.judge.specs.Judging.{GrantsAreShownBefore, GrantIsShown, IsNoPrinting, IsOpen, IsOpenAt, IsQuestion, leaves_open}
 use Rattle.judge.specs.Deciding.{Decides, DecidesBefore, DecidesFirst, InBounds, IsFoundFirst, LeavesFirst, IsClosed, IsFollowed, IsGrant, IsServed, MayPrint, PrintsEnd, HasReached, end_at, no_bytes}
 use Rattle.judge.proofs.Settled.{serves_same}
@@ -85,8 +85,8 @@ at_long number t n small =
     omega (arith, parts, digits, writes.many)
 
 -- what stands after the front of the second of two lines, where that tells an address
-pub digits_behind : (number : ℕ) (t : Name) (n : ℕ) (one text rest : List ℕ) (front : ℕ) → front ≡ length one + length (reply_line number t (one_line_text (At 0))) - 9 → text ≡ one ++ (reply_line number t (one_line_text (At n)) ++ rest) → drop front text ≡ hex 8 n ++ (codes "\n" ++ rest)
-digits_behind number t n one text rest front is e =
+pub digits_beyond : (number : ℕ) (t : Name) (n : ℕ) (one text rest : List ℕ) (front : ℕ) → front ≡ length one + length (reply_line number t (one_line_text (At 0))) - 9 → text ≡ one ++ (reply_line number t (one_line_text (At n)) ++ rest) → drop front text ≡ hex 8 n ++ (codes "\n" ++ rest)
+digits_beyond number t n one text rest front is e =
     let many : front ≡ length one + length (before_at number t) = let l = at_long number t 0 (omega arith) in omega (arith, is, l) in
     ap (λ k. drop k text) many ∙ ap (drop (length one + length (before_at number t))) (e ∙ ap (λ x. one ++ x) (at_parts number t n rest))
     ∙ drop-append-add one (before_at number t ++ (hex 8 n ++ (codes "\n" ++ rest))) (length (before_at number t))
@@ -154,7 +154,7 @@ module _ (P : Condition) (w w' : WalkValue) (l : List ℕ) (t : LineEvent) (is :
     at (inr x) (inl y) = absurd (one_reading.not_both (is_first w.step) l x.1.0 y.1.0 x.1.1 y.1.1)
     at (inr x) (inr y) =
         let one = one_reading.one_line (is_first w.step) l x.1.0 y.3.0 x.1.1 y.3.1 in
-        let mine = subst (λ one_line_text. Serves (job_machine P) w.number w.step one_line_text (events_of_line w.number w' t) w'.step) one x.1.2 in
+        let mine = subst (λ the_line. Serves (job_machine P) w.number w.step the_line (events_of_line w.number w' t) w'.step) one x.1.2 in
         let s = serves_same P w.number (events_of_line w.number w' t) y.1 w'.step y.0 w.step y.3.0 (closed y.3.0 y.3.1) mine y.3.2 in
         inr (x.0, (y.2, y.4 ∙ ap (λ events. printing events ++ y.2) (sym s.0), subst (λ mid. MayPrint (w.number + 1) mid more y.2 outcome) (sym s.1) y.5))
 
@@ -195,7 +195,7 @@ module _ (P : Condition) (w w' : WalkValue) (l : List ℕ) (t : LineEvent) (text
 -- what is served by such a line, or by any
 module _ (P : Condition) (w w' : WalkValue) (l : List ℕ) (t : LineEvent) (printed : List ℕ) (is : ServesAsUnder P w l t w') (same : printed ≡ printing (events_of_line w.number w' t)) where
   pub one_leads : ((fault : Fault) → t ≡ tells.Faulted fault → ⊥) → ServesLine machine w.number w.step l (events_of_line w.number w' t) w'.step
-  one_leads whole = at (event_cases Any w l t w' (told_by P w w' l t is)) where
+  one_leads whole = at (event_cases Any w l t w' (serves_unconditionally P w w' l t is)) where
     at : HasEvent Any w l t w' → ServesLine machine w.number w.step l (events_of_line w.number w' t) w'.step
     at (inl x) = absurd (whole x.0 x.1)
     at (inr x) = x.1
@@ -263,14 +263,14 @@ module _ (hints : List ℕ) (w w1 w2 : WalkValue) (l q : List ℕ) (tl tq : Line
   question_at : (step : Option JobValue) (job : JobValue) → step ≡ Some job → LineOf (is_first step) q (line.Statement task (says.Where area))
   question_at step job e = subst (λ step. LineOf (is_first step) q (line.Statement task (says.Where area))) (sym e) question
 
-  no_fault : (P : Condition) (v v' : WalkValue) (t : LineEvent) (bytes : List ℕ) (one_line_text : Line) → LineOf (is_first v.step) bytes one_line_text → ServesAsUnder P v bytes t v' → (fault : Fault) → t ≡ tells.Faulted fault → ⊥
-  no_fault P v v' t bytes one_line_text is x fault e = one_reading.not_both (is_first v.step) bytes one_line_text fault is (subst (λ t. ServesAsUnder P v bytes t v') e x).0
+  no_fault : (P : Condition) (v v' : WalkValue) (t : LineEvent) (bytes : List ℕ) (the_line : Line) → LineOf (is_first v.step) bytes the_line → ServesAsUnder P v bytes t v' → (fault : Fault) → t ≡ tells.Faulted fault → ⊥
+  no_fault P v v' t bytes the_line is x fault e = one_reading.not_both (is_first v.step) bytes the_line fault is (subst (λ t. ServesAsUnder P v bytes t v') e x).0
 
   module _ (more : List (List ℕ)) (outcome : Outcome) where
     alike : (left : List ℕ) (later : JobValue) → w1.step ≡ Some later → MayPrint (w.number + 1) w1.step (q ∷ more) left outcome → Behind more left outcome
     alike left later e may = at (closed_line (Takes []) w1 w2 q tq is_q more left outcome closed (subst (λ n. MayPrint n w1.step (q ∷ more) left outcome) (sym next) may)) where
       closed : IsClosed w1.step q
-      closed one_line_text is = ap leaves_open (one_reading.one_line (is_first w1.step) q one_line_text (line.Statement task (says.Where area)) is (question_at w1.step later e))
+      closed the_line is = ap leaves_open (one_reading.one_line (is_first w1.step) q the_line (line.Statement task (says.Where area)) is (question_at w1.step later e))
 
       at : ((fault : Fault) × (tq ≡ tells.Faulted fault) × (left ≡ text_of_event (Takes []) w1 w2 q tq is_q more left outcome)) ⊎ (((fault : Fault) → tq ≡ tells.Faulted fault → ⊥) × ContinuesRun (Takes []) w1 w2 q tq is_q more left outcome) → Behind more left outcome
       at (inl x) = absurd (no_fault (Takes []) w1 w2 tq q _ (question_at w1.step later e) is_q x.0 x.1)
@@ -285,9 +285,9 @@ module _ (hints : List ℕ) (w w1 w2 : WalkValue) (l q : List ℕ) (tl tq : Line
       at (inr u) (inr v) =
           let mine : Serves (job_machine (Takes [])) w1.number (Some x) (line.Statement task (says.Where area)) (events_of_line w1.number w2 tq) w2.step =
           subst (λ step. Serves (job_machine (Takes [])) w1.number step (line.Statement task (says.Where area)) (events_of_line w1.number w2 tq) w2.step) is_x
-          (subst (λ one_line_text. Serves (job_machine (Takes [])) w1.number w1.step one_line_text (events_of_line w1.number w2 tq) w2.step) (one_reading.one_line (is_first w1.step) q u.1.0 (line.Statement task (says.Where area)) u.1.1 (question_at w1.step x is_x)) u.1.2) in
+          (subst (λ the_line. Serves (job_machine (Takes [])) w1.number w1.step the_line (events_of_line w1.number w2 tq) w2.step) (one_reading.one_line (is_first w1.step) q u.1.0 (line.Statement task (says.Where area)) u.1.1 (question_at w1.step x is_x)) u.1.2) in
           let theirs : Serves machine w1.number (Some y) (line.Statement task (says.Where area)) v.1 v.0 =
-          subst (λ one_line_text. Serves machine w1.number (Some y) one_line_text v.1 v.0) (one_reading.one_line false q v.3.0 (line.Statement task (says.Where area)) v.3.1 question) v.3.2 in
+          subst (λ the_line. Serves machine w1.number (Some y) the_line v.1 v.0) (one_reading.one_line false q v.3.0 (line.Statement task (says.Where area)) v.3.1 question) v.3.2 in
           let bounded : IsBounded job.state.regions = subst InBounds of bounds in
           let f = located hints job x y task area variable answer a (Takes []) mine.0 theirs.0 mine.1 theirs.1 bounded mine.2 theirs.2 in
           record {
@@ -305,17 +305,17 @@ module _ (hints : List ℕ) (w w1 w2 : WalkValue) (l q : List ℕ) (tl tq : Line
 
     pub pair : (text : List ℕ) → MayPrint w.number w.step (l ∷ q ∷ more) text outcome → (left : List ℕ) × (text ≡ one_text ++ left) × (Behind more left outcome ⊎ GrantQuestion more left outcome)
     pair text may = at (event_cases (Takes hints) w l tl w1 is_l) (may_serve w.number w.step l (q ∷ more) text outcome may) where
-      one_line_text : LineOf (is_first w.step) l (grant_line task grant.2.0 grant.2.1 grant.2.2 variable area)
-      one_line_text = subst (λ one_line_text. LineOf (is_first w.step) l one_line_text) grant.2.3 grant.1
+      the_line : LineOf (is_first w.step) l (grant_line task grant.2.0 grant.2.1 grant.2.2 variable area)
+      the_line = subst (λ the_line. LineOf (is_first w.step) l the_line) grant.2.3 grant.1
 
       at : HasEvent (Takes hints) w l tl w1 → ((events : List Event) × Faults w.number (is_first w.step) l events × (text ≡ printing events)) ⊎ Serving w.number w.step l (q ∷ more) text outcome
           → (left : List ℕ) × (text ≡ one_text ++ left) × (Behind more left outcome ⊎ GrantQuestion more left outcome)
-      at (inl u) v = absurd (one_reading.not_both (is_first w.step) l _ u.0 one_line_text u.2)
-      at (inr u) (inl v) = absurd (one_reading.not_both (is_first w.step) l _ v.1.0 one_line_text v.1.1)
+      at (inl u) v = absurd (one_reading.not_both (is_first w.step) l _ u.0 the_line u.2)
+      at (inr u) (inl v) = absurd (one_reading.not_both (is_first w.step) l _ v.1.0 the_line v.1.1)
       at (inr u) (inr v) =
-          let mine = subst (λ one_line_text. Serves (job_machine (Takes hints)) w.number w.step one_line_text (events_of_line w.number w1 tl) w1.step) (one_reading.one_line (is_first w.step) l u.1.0 _ u.1.1 one_line_text) u.1.2 in
-          let theirs = subst (λ one_line_text. Serves machine w.number w.step one_line_text v.1 v.0) (one_reading.one_line (is_first w.step) l v.3.0 _ v.3.1 one_line_text) v.3.2 in
-          let g = grants hints w.number w.step task grant.2.0 grant.2.1 grant.2.2 variable area (events_of_line w.number w1 tl) v.1 w1.step v.0 (line_ranged (is_first w.step) l _ one_line_text).1 mine theirs in
+          let mine = subst (λ the_line. Serves (job_machine (Takes hints)) w.number w.step the_line (events_of_line w.number w1 tl) w1.step) (one_reading.one_line (is_first w.step) l u.1.0 _ u.1.1 the_line) u.1.2 in
+          let theirs = subst (λ the_line. Serves machine w.number w.step the_line v.1 v.0) (one_reading.one_line (is_first w.step) l v.3.0 _ v.3.1 the_line) v.3.2 in
+          let g = grants hints w.number w.step task grant.2.0 grant.2.1 grant.2.2 variable area (events_of_line w.number w1 tl) v.1 w1.step v.0 (line_ranged (is_first w.step) l _ the_line).1 mine theirs in
           (v.2, v.4 ∙ ap (λ events. printing events ++ v.2) (sym g.1), go g.0.0 g.0.1 g.2) where
             go : (later : JobValue) → w1.step ≡ Some later → ((w1.step ≡ v.0) ⊎ Parted hints w.number w.step task area variable (events_of_line w.number w1 tl) w1.step v.0) → Behind more v.2 outcome ⊎ GrantQuestion more v.2 outcome
             go later e (inl same) = inl (alike v.2 later e (subst (λ step. MayPrint (w.number + 1) step (q ∷ more) v.2 outcome) (sym same) v.5))
@@ -323,7 +323,7 @@ module _ (hints : List ℕ) (w w1 w2 : WalkValue) (l q : List ℕ) (tl tq : Line
 
   -- neither of the lines has a fault
   pub grant_whole : (fault : Fault) → tl ≡ tells.Faulted fault → ⊥
-  grant_whole = no_fault (Takes hints) w w1 tl l (grant_line task grant.2.0 grant.2.1 grant.2.2 variable area) (subst (λ one_line_text. LineOf (is_first w.step) l one_line_text) grant.2.3 grant.1) is_l
+  grant_whole = no_fault (Takes hints) w w1 tl l (grant_line task grant.2.0 grant.2.1 grant.2.2 variable area) (subst (λ the_line. LineOf (is_first w.step) l the_line) grant.2.3 grant.1) is_l
 
   in_step : (number : ℕ) (old : Option JobValue) (events : List Event) (new : Option JobValue) → Serves (job_machine (Takes hints)) number old (grant_line task grant.2.0 grant.2.1 grant.2.2 variable area) events new → (later : JobValue) × (new ≡ Some later)
   in_step number None events new x = absurd x
@@ -334,8 +334,8 @@ module _ (hints : List ℕ) (w w1 w2 : WalkValue) (l q : List ℕ) (tl tq : Line
     at : HasEvent (Takes hints) w l tl w1 → (fault : Fault) → tq ≡ tells.Faulted fault → ⊥
     at (inl u) = absurd (grant_whole u.0 u.1)
     at (inr u) =
-        let one_line_text : LineOf (is_first w.step) l (grant_line task grant.2.0 grant.2.1 grant.2.2 variable area) = subst (λ one_line_text. LineOf (is_first w.step) l one_line_text) grant.2.3 grant.1 in
-        let mine = subst (λ one_line_text. Serves (job_machine (Takes hints)) w.number w.step one_line_text (events_of_line w.number w1 tl) w1.step) (one_reading.one_line (is_first w.step) l u.1.0 _ u.1.1 one_line_text) u.1.2 in
+        let the_line : LineOf (is_first w.step) l (grant_line task grant.2.0 grant.2.1 grant.2.2 variable area) = subst (λ the_line. LineOf (is_first w.step) l the_line) grant.2.3 grant.1 in
+        let mine = subst (λ the_line. Serves (job_machine (Takes hints)) w.number w.step the_line (events_of_line w.number w1 tl) w1.step) (one_reading.one_line (is_first w.step) l u.1.0 _ u.1.1 the_line) u.1.2 in
         let s = in_step w.number w.step (events_of_line w.number w1 tl) w1.step mine in
         no_fault (Takes []) w1 w2 tq q (line.Statement task (says.Where area)) (question_at w1.step s.0 s.1) is_q
 
@@ -381,7 +381,7 @@ module _ (hints : List ℕ) (w w1 w2 : WalkValue) (l q : List ℕ) (tl tq : Line
       at left e (inl b) = other b.0 (whole left b.0 e b.1)
       at left e (inr a) =
           let front_at : front ≡ length one_text + length (reply_line w1.number task (one_line_text (At 0))) - 9 = front_is ∙ (λ i. sym a.long i + length (reply_line (sym number i) task (one_line_text (At 0))) - 9) in
-          let digits = digits_behind w1.number task a.another one_text text a.rest front front_at (e ∙ ap (λ x. one_text ++ x) a.another_is) in
+          let digits = digits_beyond w1.number task a.another one_text text a.rest front front_at (e ∙ ap (λ x. one_text ++ x) a.another_is) in
           let k_is : k ≡ a.another = reads a.another (codes "\n" ++ a.rest) a.small_another digits in
           let one_k : a.one ≡ k = a.takes k is (sym k_is) in
           let mine : left ≡ other_text ++ a.rest =
@@ -401,11 +401,11 @@ one_said x e f = let g = sym e ∙ f in cc
 -- a grant and a question after it, which asks for it
 pub area_asked : (step : Option JobValue) (l q : List ℕ) (task area : Name) (variable : Bool) (left : List (List ℕ)) → IsGrant step l task area variable → IsQuestion q task area → GrantsAreShownBefore (l ∷ q ∷ []) left
 area_asked step l q task area variable left grant question = (first, (second, tt)) where
-  first : (one_line_text : Line) → LineOf false l one_line_text → leaves_open one_line_text ≡ true → GrantIsShown one_line_text (q ∷ left)
-  first one_line_text is opens = inl (task, area, variable, (grant.2.0, grant.2.1, grant.2.2, one_said (line_meaning l) is.says grant.1.says ∙ grant.2.3), question)
+  first : (the_line : Line) → LineOf false l the_line → leaves_open the_line ≡ true → GrantIsShown the_line (q ∷ left)
+  first the_line is opens = inl (task, area, variable, (grant.2.0, grant.2.1, grant.2.2, one_said (line_meaning l) is.says grant.1.says ∙ grant.2.3), question)
 
-  second : (one_line_text : Line) → LineOf false q one_line_text → leaves_open one_line_text ≡ true → GrantIsShown one_line_text left
-  second one_line_text is opens = absurd (let e : false ≡ true = ap leaves_open (one_said (line_meaning q) question.says is.says) ∙ opens in cc)
+  second : (the_line : Line) → LineOf false q the_line → leaves_open the_line ≡ true → GrantIsShown the_line left
+  second the_line is opens = absurd (let e : false ≡ true = ap leaves_open (one_said (line_meaning q) question.says is.says) ∙ opens in cc)
 
 -- what lines decide, they decide before any others
 pub decides_before : (served more : List (List ℕ)) (left : List ℕ) (old : WalkValue) (text : List ℕ) (continues passes : Bool) (new : WalkValue) → Decides served left old text continues passes new → DecidesBefore served more left old text continues passes new
@@ -433,12 +433,12 @@ asked_more (bytes ∷ lines) more left a b = ((λ l is opens. subst (GrantIsShow
 pub closed_asked : (w w' : WalkValue) (l text : List ℕ) (left : List (List ℕ)) → IsClosed w.step l → IsServed (l ∷ []) w text true w' → GrantsAreShownBefore (l ∷ []) left
 closed_asked w w' l text left closed (events, inl x, number, same) = absurd x
 closed_asked w w' l text left closed (events, inr x, number, same) =
-    ((λ one_line_text is opens. false_true (sym (closed one_line_text (record { no_fault = x.3.1.no_fault; says = is.says })) ∙ opens)), tt)
+    ((λ the_line is opens. false_true (sym (closed the_line (record { no_fault = x.3.1.no_fault; says = is.says })) ∙ opens)), tt)
 
 -- more lines, which are served
-stands_on : (script text more left : List ℕ) (lines behind : List (List ℕ)) (w w' : WalkValue) (served : List (List ℕ)) → lines_of left ≡ served ++ behind → behind ≡ lines → (s : HasReached script text w left) → IsServed served w more true w'
-    → (events : List Event) × (reached : Reaches (lines_of script) events w'.number w'.step lines) × (text ++ more ≡ printing events) × (GrantsAreShownBefore s.1.served (lines_of left) → GrantsAreShownBefore served behind → GrantsAreShownBefore reached.served lines)
-stands_on script text more left lines behind w w' served cut comes_later (events, reached, is) (first, leads, number, same) =
+stands_on : (script text more left : List ℕ) (lines trailing : List (List ℕ)) (w w' : WalkValue) (served : List (List ℕ)) → lines_of left ≡ served ++ trailing → trailing ≡ lines → (s : HasReached script text w left) → IsServed served w more true w'
+    → (events : List Event) × (reached : Reaches (lines_of script) events w'.number w'.step lines) × (text ++ more ≡ printing events) × (GrantsAreShownBefore s.1.served (lines_of left) → GrantsAreShownBefore served trailing → GrantsAreShownBefore reached.served lines)
+stands_on script text more left lines trailing w w' served cut comes_later (events, reached, is) (first, leads, number, same) =
     let cut' : lines_of left ≡ served ++ lines = cut ∙ ap (λ x. served ++ x) comes_later in (
       events ++ first,
       record {
@@ -487,17 +487,17 @@ module _ (script output rest left text : List ℕ) (at done taken : ℕ) (w w' :
   asked_here : GrantsAreShownBefore f.1.1.served (lines_of rest)
   asked_here = subst (λ x. GrantsAreShownBefore f.1.1.served (lines_of x)) (sym rest_is) f.2
 
-  behind : drop taken rest ≡ drop (at + taken) script
-  behind = ap (drop taken) rest_is ∙ drop-drop taken at script
+  trailing : drop taken rest ≡ drop (at + taken) script
+  trailing = ap (drop taken) rest_is ∙ drop-drop taken at script
 
   pub follows_on : DecidesFirst rest left w taken text true true w' → Follows script output (at + taken) (done + length text) w'
   unfolding stood
   follows_on d =
-      let s = stands_on script (take done output) text rest (lines_of (drop (at + taken) script)) (lines_of (drop taken rest)) w w' d.0 d.1 (ap lines_of behind) stood d.2 in
+      let s = stands_on script (take done output) text rest (lines_of (drop (at + taken) script)) (lines_of (drop taken rest)) w w' d.0 d.1 (ap lines_of trailing) stood d.2 in
       (on, (s.0, s.1, taken_more output text left done left_is d.3.0 ∙ s.2), s.3 asked_here (d.4 refl)) where
         on : Comes script output (at + taken) (done + length text) w'
         on outcome may =
-            subst (λ x. MayPrint w'.number w'.step (lines_of x) (drop (done + length text) output) outcome) behind
+            subst (λ x. MayPrint w'.number w'.step (lines_of x) (drop (done + length text) output) outcome) trailing
             (subst (λ x. MayPrint w'.number w'.step (lines_of (drop taken rest)) x outcome) (ap (drop (length text)) left_is ∙ drop-drop (length text) done output) (d.3.1 outcome (here d.0 d.1 outcome may)))
 
   pub follows_next : (continues passes open_here : Bool) → (passes && continues && not open_here) ≡ true → IsFoundFirst rest left w taken text continues passes open_here w' → Follows script output (at + taken) (done + length text) w' × (length text ≤ length left)
@@ -529,13 +529,13 @@ module _ (script output rest left text : List ℕ) (at done taken : ℕ) (w w' :
     left_open false passes e f d = absurd (false_true e)
     left_open true false e f d = absurd (false_true f)
     left_open true true e f d =
-        let s = stands_on script (take done output) text rest (lines_of (drop last script)) (lines_of (drop taken rest)) w w' (d.0 ∷ []) d.1 (ap lines_of (behind ∙ sym last_is)) stood d.2 in ((opens_here d.3, text, opened d.3), (s.0, s.1, s.2), last_in, number)
+        let s = stands_on script (take done output) text rest (lines_of (drop last script)) (lines_of (drop taken rest)) w w' (d.0 ∷ []) d.1 (ap lines_of (trailing ∙ sym last_is)) stood d.2 in ((opens_here d.3, text, opened d.3), (s.0, s.1, s.2), last_in, number)
 
     pub follows_no_more : (continues passes open_here : Bool) → (passes && continues && not open_here) ≡ false → IsFoundFirst rest left w taken text continues passes open_here w' → IsFollowed script output w' last (take done output ++ text) passes (end_at continues) w.number
     follows_no_more continues passes true ends d = left_open continues passes d.4 d.5 d
     follows_no_more true true false ends d = absurd (let e : true ≡ false = ends in cc)
     follows_no_more true false false ends d =
-        (let s = stands_on script (take done output) text rest (lines_of (drop last script)) (lines_of (drop taken rest)) w w' d.0 d.1 (ap lines_of (behind ∙ sym last_is)) stood d.2 in (none true d, (s.0, s.1, s.2), last_in, number))
+        (let s = stands_on script (take done output) text rest (lines_of (drop last script)) (lines_of (drop taken rest)) w w' d.0 d.1 (ap lines_of (trailing ∙ sym last_is)) stood d.2 in (none true d, (s.0, s.1, s.2), last_in, number))
     follows_no_more false true false ends d =
         (stands_fault script (take done output) text rest taken w w' d.0 d.1 stood d.2, ap (λ x. take done output ++ x) (sym d.3 ∙ left_is) ∙ take-append-drop done output)
     follows_no_more false false false ends d =

@@ -32,7 +32,7 @@ use Rattle.mvs_job.specs.declared.walk.LineEvent.TheVariants as tells
 use Rattle.mvs_job.specs.LineEvents.{ServesAsUnder, WalkValue, events_of_line}
 use Rattle.judge.specs.Judging.{AreApart, AskEach, BeginsAnswered, GrantsAreShownBefore, GrantIsShown, IsOpen, IsQuestion, leaves_open}
 use Rattle.judge.specs.Deciding.{DecidesBefore, InBounds, IsFoundFirst, IsList, IsServed, MayPrint, OpensList, ReadsEach, at_text, no_bytes}
-use Rattle.judge.proofs.Decided.{HasEvent, Serving, at_long, digits_behind, line_served, may_serve, one_leads, one_said, event_cases}
+use Rattle.judge.proofs.Decided.{HasEvent, Serving, at_long, digits_beyond, line_served, may_serve, one_leads, one_said, event_cases}
 use Rattle.judge.proofs.Lists.{AreAt, AreOtherwise, ListApart, listed, texts_part}
 
 -- ---- addresses that are read
@@ -45,15 +45,15 @@ pub read_next : (number : ℕ) (t : Name) (text : List ℕ) (len k many : ℕ) (
     → ((addr : ℕ) (rest : List ℕ) → addr < 2 ^ 31 → drop (len - 9) text ≡ hex 8 addr ++ rest → k ≡ addr)
     → ((addrs : List ℕ) (rest : List ℕ) → length addrs ≡ many → AllByRecursion (λ addr. addr < 2 ^ 31) addrs → drop len text ≡ at_text (number + 1) t addrs ++ rest → P ((hints ++ k ∷ []) ++ addrs))
     → (addrs : List ℕ) (rest : List ℕ) → length addrs ≡ suc many → AllByRecursion (λ addr. addr < 2 ^ 31) addrs → text ≡ at_text number t addrs ++ rest → P (hints ++ addrs)
-read_next number t text len k many hints P len_is reads behind [] rest e small is = absurd (omega (arith, e))
-read_next number t text len k many hints P len_is reads behind (addr ∷ addrs) rest e small is =
+read_next number t text len k many hints P len_is reads trailing [] rest e small is = absurd (omega (arith, e))
+read_next number t text len k many hints P len_is reads trailing (addr ∷ addrs) rest e small is =
     let here = reply_line number t (one_line_text (At addr)) in
     let whole : text ≡ here ++ (at_text (number + 1) t addrs ++ rest) = is ∙ append_assoc here (at_text (number + 1) t addrs) rest in
-    let digits = digits_behind number t addr [] text (at_text (number + 1) t addrs ++ rest) (len - 9) (omega (arith, len_is)) whole in
+    let digits = digits_beyond number t addr [] text (at_text (number + 1) t addrs ++ rest) (len - 9) (omega (arith, len_is)) whole in
     let k_is : k ≡ addr = reads addr (codes "\n" ++ (at_text (number + 1) t addrs ++ rest)) small.0 digits in
     let long : len ≡ length here = len_is ∙ at_long number t 0 (omega arith) ∙ sym (at_long number t addr (let s = small.0 in omega (arith, s))) in
     let left : drop len text ≡ at_text (number + 1) t addrs ++ rest = (λ i. drop (long i) (whole i)) ∙ drop-append_seam here (at_text (number + 1) t addrs ++ rest) in
-    subst P (append_assoc hints (k ∷ []) addrs ∙ ap (λ k. hints ++ (k ∷ addrs)) k_is) (behind addrs rest (omega (arith, e)) small.1 left)
+    subst P (append_assoc hints (k ∷ []) addrs ∙ ap (λ k. hints ++ (k ∷ addrs)) k_is) (trailing addrs rest (omega (arith, e)) small.1 left)
 
 -- ---- the lines
 
@@ -69,7 +69,7 @@ question number job task area p q lines text outcome active at is may = go (may_
   go (inl v) = absurd (one_reading.not_both false q _ v.1.0 is v.1.1)
   go (inr v) =
       let theirs : Serves machine number (Some job) (line.Statement task (says.Where area)) v.1 v.0 =
-      subst (λ one_line_text. Serves machine number (Some job) one_line_text v.1 v.0) (one_reading.one_line false q v.3.0 (line.Statement task (says.Where area)) v.3.1 is) v.3.2 in
+      subst (λ the_line. Serves machine number (Some job) the_line v.1 v.0) (one_reading.one_line false q v.3.0 (line.Statement task (says.Where area)) v.3.1 is) v.3.2 in
       let answered = when_active _ _ (is_active job.state.owners task) active theirs.2 in
       let answer : theirs.0 ≡ At p.addr = answered.0 ∙ ap where_answer at in
       let step : v.0 ≡ Some job = theirs.4 ∙ ap Some answered.1 in (
@@ -127,7 +127,7 @@ module _ (hints : List ℕ) (number : ℕ) (task : Name) (form : Form) (n : ℕ)
 
 module _ (hints : List ℕ) (w w1 : WalkValue) (l : List ℕ) (tl : LineEvent) (task : Name) (areas : List Name) (is_l : ServesAsUnder (Takes hints) w l tl w1) (asks : IsList w.step l task areas) (bounds : InBounds w.step) (printed : List ℕ) (same : printed ≡ printing (events_of_line w.number w1 tl)) where
   said_is : LineOf (is_first w.step) l (list_line task asks.2.0 asks.2.1 asks.2.2 asks.2.3 areas)
-  said_is = subst (λ one_line_text. LineOf (is_first w.step) l one_line_text) asks.2.4 asks.1
+  said_is = subst (λ the_line. LineOf (is_first w.step) l the_line) asks.2.4 asks.1
 
   pub list_whole : (fault : Fault) → tl ≡ tells.Faulted fault → ⊥
   list_whole fault e = one_reading.not_both (is_first w.step) l _ fault said_is (subst (λ t. ServesAsUnder (Takes hints) w l t w1) e is_l).0
@@ -142,8 +142,8 @@ module _ (hints : List ℕ) (w w1 : WalkValue) (l : List ℕ) (tl : LineEvent) (
       at (inl u) v = absurd (list_whole u.0 u.1)
       at (inr u) (inl v) = absurd (one_reading.not_both (is_first w.step) l _ v.1.0 said_is v.1.1)
       at (inr u) (inr v) =
-          let mine = subst (λ one_line_text. Serves (job_machine (Takes hints)) w.number w.step one_line_text (events_of_line w.number w1 tl) w1.step) (one_reading.one_line (is_first w.step) l u.1.0 _ u.1.1 said_is) u.1.2 in
-          let theirs = subst (λ one_line_text. Serves machine w.number w.step one_line_text v.1 v.0) (one_reading.one_line (is_first w.step) l v.3.0 _ v.3.1 said_is) v.3.2 in
+          let mine = subst (λ the_line. Serves (job_machine (Takes hints)) w.number w.step the_line (events_of_line w.number w1 tl) w1.step) (one_reading.one_line (is_first w.step) l u.1.0 _ u.1.1 said_is) u.1.2 in
+          let theirs = subst (λ the_line. Serves machine w.number w.step the_line v.1 v.0) (one_reading.one_line (is_first w.step) l v.3.0 _ v.3.1 said_is) v.3.2 in
           alike hints w.number task asks.2.0 asks.2.1 asks.2.2 asks.2.3 areas asks.2.5 asks.2.6 (events_of_line w.number w1 tl) v.1 w1.step v.0 more rest v.2 outcome each reads (sym front ∙ v.4) w.step bounds mine theirs v.5
 
     -- what the list decides, where a text begins with what is printed of it
@@ -185,15 +185,15 @@ module _ (hints : List ℕ) (w w1 : WalkValue) (l : List ℕ) (tl : LineEvent) (
       at (inl u) v = list_whole u.0 u.1
       at (inr u) (inl v) = one_reading.not_both (is_first w.step) l _ v.1.0 said_is v.1.1
       at (inr u) (inr v) =
-          let mine = subst (λ one_line_text. Serves (job_machine (Takes hints)) w.number w.step one_line_text (events_of_line w.number w1 tl) w1.step) (one_reading.one_line (is_first w.step) l u.1.0 _ u.1.1 said_is) u.1.2 in
-          let theirs = subst (λ one_line_text. Serves machine w.number w.step one_line_text v.1 v.0) (one_reading.one_line (is_first w.step) l v.3.0 _ v.3.1 said_is) v.3.2 in
+          let mine = subst (λ the_line. Serves (job_machine (Takes hints)) w.number w.step the_line (events_of_line w.number w1 tl) w1.step) (one_reading.one_line (is_first w.step) l u.1.0 _ u.1.1 said_is) u.1.2 in
+          let theirs = subst (λ the_line. Serves machine w.number w.step the_line v.1 v.0) (one_reading.one_line (is_first w.step) l v.3.0 _ v.3.1 said_is) v.3.2 in
           step_differs w.step bounds (events_of_line w.number w1 tl) v.1 w1.step v.0 v.2 mine theirs same v.4
 
 -- a list after which its areas are asked for
 pub list_asked : (step : Option JobValue) (l : List ℕ) (task : Name) (areas : List Name) (more : List (List ℕ)) → IsList step l task areas → AskEach more task areas → GrantsAreShownBefore (l ∷ []) more
 list_asked step l task areas more asks each = (first, tt) where
-  first : (one_line_text : Line) → LineOf false l one_line_text → leaves_open one_line_text ≡ true → GrantIsShown one_line_text more
-  first one_line_text is opens = inr (task, areas, (asks.2.0, asks.2.1, asks.2.2, asks.2.3, one_said (line_meaning l) is.says asks.1.says ∙ asks.2.4, asks.2.5, asks.2.6), each)
+  first : (the_line : Line) → LineOf false l the_line → leaves_open the_line ≡ true → GrantIsShown the_line more
+  first the_line is opens = inr (task, areas, (asks.2.0, asks.2.1, asks.2.2, asks.2.3, one_said (line_meaning l) is.says asks.1.says ∙ asks.2.4, asks.2.5, asks.2.6), each)
 
 -- what is found at a list
 pub list_found : (script left : List ℕ) (w w1 : WalkValue) (end : ℕ) (l : List ℕ) (task : Name) (areas : List Name) (text : List ℕ) (continues passes opens : Bool) → lines_of script ≡ l ∷ lines_of (drop (end + 1) script) → IsList w.step l task areas → AskEach (lines_of (drop (end + 1) script)) task areas

@@ -36,7 +36,7 @@ use Rattle.mvs_model.specs.Runs.{Any, Makes, Does}
 use Rattle.mvs_model.specs.View.{IsBounded}
 use Rattle.mvs_model.specs.Determined.{granted_at, ListFollowsHints}
 use Rattle.mvs_model.proofs.OneSteps.{by_two, head_of, none_granted, one_grant, one_step, tail_of}
-use Rattle.mvs_model.proofs.Orders.{name_cmp_total, told_apart}
+use Rattle.mvs_model.proofs.Orders.{name_cmp_total, names_differ}
 use Rattle.mvs_laws.proofs.RegionsKept.{list_inside}
 use Rattle.request_forms.specs.Taking.{Takes}
 use Rattle.judge.specs.Judging.{AnswersList, AreApart}
@@ -48,7 +48,7 @@ use Rattle.judge.proofs.Settled.{made_same}
 set_apart : (names : FinMap name_cmp PlaceValue) (area : Name) (areas : List Name) (ps : List PlaceValue) → AllByRecursion (λ other. area ≢ other) areas → get (all_set names areas ps) area ≡ get names area
 set_apart names area [] ps x = refl
 set_apart names area (b ∷ areas) [] x = refl
-set_apart names area (b ∷ areas) (p ∷ ps) x = set_apart (insert names b p) area areas ps x.1 ∙ get-insert name_cmp_total names b p area ∙ ap (λ t. cond t (Some p) (get names area)) (told_apart area b x.0)
+set_apart names area (b ∷ areas) (p ∷ ps) x = set_apart (insert names b p) area areas ps x.1 ∙ get-insert name_cmp_total names b p area ∙ ap (λ t. cond t (Some p) (get names area)) (names_differ area b x.0)
 
 -- The names are set to these places.
 abbrev pub AreAt : FinMap name_cmp PlaceValue → List Name → List PlaceValue → Type 0
@@ -108,16 +108,16 @@ IsFailure answer = (answer ≡ Rc4) ⊎ ((kin : Family) × (fallen : List Name) 
 front_parts : (d s x u : List ℕ) → (d ++ codes " " ++ s ++ codes " " ++ x ++ codes "\n") ++ u ≡ (d ++ codes " " ++ s ++ codes " ") ++ (x ++ (codes "\n" ++ u))
 front_parts d s x u = search (append_assoc)
 
-behind_front : (number : ℕ) (t : Name) (x y u v : List ℕ) → reply_line number t x ++ u ≡ reply_line number t y ++ v → x ++ (codes "\n" ++ u) ≡ y ++ (codes "\n" ++ v)
-behind_front number t x y u v e = append_cancel_left (decimal number ++ codes " " ++ trimmed t ++ codes " ") _ _ (sym (front_parts (decimal number) (trimmed t) x u) ∙ e ∙ front_parts (decimal number) (trimmed t) y v)
+after_front : (number : ℕ) (t : Name) (x y u v : List ℕ) → reply_line number t x ++ u ≡ reply_line number t y ++ v → x ++ (codes "\n" ++ u) ≡ y ++ (codes "\n" ++ v)
+after_front number t x y u v e = append_cancel_left (decimal number ++ codes " " ++ trimmed t ++ codes " ") _ _ (sym (front_parts (decimal number) (trimmed t) x u) ∙ e ∙ front_parts (decimal number) (trimmed t) y v)
 
 pub texts_part : (number : ℕ) (t : Name) (answer : Answer) (u v : List ℕ) → IsFailure answer → answer_text number t Rc0 ++ u ≡ answer_text number t answer ++ v → ⊥
 texts_part number t answer u v (inl is) e =
-    let f = behind_front number t (codes "RC 0") (codes "RC 4") u v (e ∙ ap (λ a. answer_text number t a ++ v) is) in
+    let f = after_front number t (codes "RC 0") (codes "RC 4") u v (e ∙ ap (λ a. answer_text number t a ++ v) is) in
     let g : 48 ≡ 52 = ap (λ x. head_of (tail_of (tail_of (tail_of x)))) f in
     omega (arith, g)
 texts_part number t answer u v (inr (kin, fallen, is)) e =
-    let f = behind_front number t (codes "RC 0") (codes "ABEND " ++ code_text (short kin)) u _ (e ∙ ap (λ a. answer_text number t a ++ v) is ∙ append_assoc (reply_line number t (codes "ABEND " ++ code_text (short kin))) _ v) in
+    let f = after_front number t (codes "RC 0") (codes "ABEND " ++ code_text (short kin)) u _ (e ∙ ap (λ a. answer_text number t a ++ v) is ∙ append_assoc (reply_line number t (codes "ABEND " ++ code_text (short kin))) _ v) in
     let g : 82 ≡ 65 = ap head_of f in
     omega (arith, g)
 

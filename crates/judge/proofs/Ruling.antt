@@ -41,8 +41,8 @@ module _ (script output rest left bytes : List ℕ) (at done taken : ℕ) (w w' 
       let x = f.every outcome may in
       (x.0, x.1, subst (λ lines. MayPrint w.number x.0 lines left outcome) (ap lines_of (sym rest_is) ∙ cut) (subst (λ text. MayPrint w.number x.0 (lines_of (drop at script)) text outcome) (sym left_is) x.2))
 
-  behind : drop taken rest ≡ drop (at + taken) script
-  behind = ap (drop taken) rest_is ∙ drop-drop taken at script
+  trailing : drop taken rest ≡ drop (at + taken) script
+  trailing = ap (drop taken) rest_is ∙ drop-drop taken at script
 
   stood : HasReached script (take done output) w rest
   stood = subst (HasReached script (take done output) w) (sym rest_is) f.stands
@@ -55,14 +55,14 @@ module _ (script output rest left bytes : List ℕ) (at done taken : ℕ) (w w' 
         let y = v.2.1 x.0 (lines_of (drop taken rest)) outcome x.1 x.2 in (
           y.0,
           y.1,
-          subst (λ lines. MayPrint w'.number y.0 lines (drop (done + n) output) outcome) (ap lines_of behind)
+          subst (λ lines. MayPrint w'.number y.0 lines (drop (done + n) output) outcome) (ap lines_of trailing)
               (subst (λ text. MayPrint w'.number y.0 (lines_of (drop taken rest)) text outcome) (ap (drop (length v.0)) left_is ∙ drop-drop (length v.0) done output ∙ ap (λ k. drop (done + k) output) (sym v.1)) y.2),
         )
 
     stands : HasReached script (take (done + n) output) w' (drop (at + taken) script)
     stands =
         subst (λ text. HasReached script text w' (drop (at + taken) script)) (sym (ap (λ k. take (done + k) output) v.1 ∙ taken_more output v.0 left done left_is v.2.0))
-        (subst (HasReached script (take done output ++ v.0) w') behind (stands_served script (take done output) v.0 rest (drop taken rest) w w' (bytes ∷ []) cut stood v.3))
+        (subst (HasReached script (take done output ++ v.0) w') trailing (stands_served script (take done output) v.0 rest (drop taken rest) w w' (bytes ∷ []) cut stood v.3))
 
   pub rules_excluded : IsVerdict w bytes left w' verdict.Excluded → IsRuling script output ruling.Excluded
   rules_excluded v outcome may = let x = here outcome may in v x.0 (lines_of (drop taken rest)) outcome x.1 x.2

@@ -5,9 +5,9 @@ use Rattle.mvs_job.specs.LineEvents.{ended}
 use Rattle.mvs_c.specs.Exports.{HandsOver}
 
 -- the end of a step and another event are not nothing
-pub some_told : (end : Option Bool) (e : Event) → ended end ++ e ∷ [] ≢ []
-some_told None e = λ h. (let f = h in cc)
-some_told (Some abended) e = λ h. (let f = h in cc)
+pub some_event : (end : Option Bool) (e : Event) → ended end ++ e ∷ [] ≢ []
+some_event None e = λ h. (let f = h in cc)
+some_event (Some abended) e = λ h. (let f = h in cc)
 
 -- no bytes fit into each buffer
 pub none_fit : (before after : List ℕ) (wanted status : ℕ) → HandsOver [] before after wanted 0 status → status ≡ 0

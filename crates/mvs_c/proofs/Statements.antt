@@ -30,15 +30,15 @@ use Rattle.mvs_c.proofs.StatementRows.{not_zero, short_line, obtained, IsLine, g
 
 -- the statement of an obtain, by what is written for its lengths and behind its subpool
 abbrev line_with : Form → List ℕ → List ℕ → List ℕ → ℕ → List ℕ → List ℕ
-line_with f task lengths area s behind = task ++ codes " " ++ (obtain_text f ++ lengths ++ area_key f ++ area ++ codes ",SP=" ++ decimal s ++ behind)
+line_with f task lengths area s trailing = task ++ codes " " ++ (obtain_text f ++ lengths ++ area_key f ++ area ++ codes ",SP=" ++ decimal s ++ trailing)
 
 -- the same, from its end
 abbrev row_with : Form → List ℕ → List ℕ → List ℕ → ℕ → List ℕ → List ℕ
-row_with f task lengths area s behind = task ++ (codes " " ++ (obtain_text f ++ (lengths ++ (area_key f ++ (area ++ (codes ",SP=" ++ (decimal s ++ behind)))))))
+row_with f task lengths area s trailing = task ++ (codes " " ++ (obtain_text f ++ (lengths ++ (area_key f ++ (area ++ (codes ",SP=" ++ (decimal s ++ trailing)))))))
 
-in_row : (f : Form) (task lengths area : List ℕ) (s : ℕ) (behind : List ℕ) → line_with f task lengths area s behind ≡ row_with f task lengths area s behind
-in_row f task lengths area s behind =
-    row3 task (codes " ") _ ∙ (λ i. task ++ (codes " " ++ row7 (obtain_text f) lengths (area_key f) area (codes ",SP=") (decimal s) behind i))
+in_row : (f : Form) (task lengths area : List ℕ) (s : ℕ) (trailing : List ℕ) → line_with f task lengths area s trailing ≡ row_with f task lengths area s trailing
+in_row f task lengths area s trailing =
+    row3 task (codes " ") _ ∙ (λ i. task ++ (codes " " ++ row7 (obtain_text f) lengths (area_key f) area (codes ",SP=") (decimal s) trailing i))
 
 -- with the operands of a statement without and with a location
 abbrev IsSized : Form → List ℕ → Type 0

@@ -198,9 +198,9 @@ module _ (number : ℕ) (job later : JobValue) (set : NameOrigins) (bytes : List
     unset : (after : Explained) (y : Answer) → not (is_active job.state.owners t) ≡ false → resolved job.names q ≡ None → after ≡ mid → later ≡ job → y ≡ NoName → Stands after (full_reason (Some later) after.why.read after.why.reason y) y
     unset after y on none same stays is =
         subst (λ z. Stands after (full_reason (Some later) after.why.read after.why.reason z) z) (sym is)
-        (subst (λ r. Stands after r NoName) (sym told_is) (at (first_unset job.names (looked_up q)) refl (some_unset job.names q none))) where
-          told_is : unset_of (Some later) after.why.read ≡ option_map (λ name. NotSet name) (first_unset job.names (looked_up q))
-          told_is = ap (λ j. unset_of (Some j) after.why.read) stays ∙ ap (λ (x : Explained). unset_of (Some job) x.why.read) same ∙ ap (unset_of (Some job)) read_request
+        (subst (λ r. Stands after r NoName) (sym unset_is) (at (first_unset job.names (looked_up q)) refl (some_unset job.names q none))) where
+          unset_is : unset_of (Some later) after.why.read ≡ option_map (λ name. NotSet name) (first_unset job.names (looked_up q))
+          unset_is = ap (λ j. unset_of (Some j) after.why.read) stays ∙ ap (λ (x : Explained). unset_of (Some job) x.why.read) same ∙ ap (unset_of (Some job)) read_request
 
           at : (v : Option Name) → first_unset job.names (looked_up q) ≡ v → is_some v ≡ true → Stands after (option_map (λ name. NotSet name) v) NoName
           at None f some = false_true some
@@ -399,9 +399,9 @@ module _ (set : NameOrigins) (bytes : List ℕ) (mid after : Explained) (lines :
       (statement_stands number job later set bytes t mid look lines s after (full_answer later.state fallen t a) of does.0 observes does.1)
 
   module _ (w w' : WalkValue) (look : IsLooking w.step set bytes mid) where
-    told_line : (t : Name) (s : Statement) (a : Short) (job later : JobValue) → w.step ≡ Some job → w'.step ≡ Some later → LineOf (is_first w.step) bytes (line.Statement t s) → Observes keeps mid job t s (full_answer later.state (ended_with_in w'.reply) t a) after → ServesAs w bytes (line_event.Answered t a) w'
+    event_of_statement : (t : Name) (s : Statement) (a : Short) (job later : JobValue) → w.step ≡ Some job → w'.step ≡ Some later → LineOf (is_first w.step) bytes (line.Statement t s) → Observes keeps mid job t s (full_answer later.state (ended_with_in w'.reply) t a) after → ServesAs w bytes (line_event.Answered t a) w'
         → Stood w.step set bytes (AnswerTo w.number t (full_answer_in w'.step (ended_with_in w'.reply) t a) ∷ []) w'.step (kept_with (answer_reason w'.step after.why.read after.why.reason a))
-    told_line t s a job later is new of observes tells =
+    event_of_statement t s a job later is new of observes tells =
         let serves = subst (λ l. Serves machine w.number w.step l (AnswerTo w.number t (full_answer_in w'.step (ended_with_in w'.reply) t a) ∷ []) w'.step) (one_reading.one_line (is_first w.step) bytes tells.0 (line.Statement t s) tells.1 of) tells.2 in
         subst (λ o. Stood w.step set bytes (AnswerTo w.number t (full_answer_in o (ended_with_in w'.reply) t a) ∷ []) o (kept_with (answer_reason o after.why.read after.why.reason a))) (sym new)
         (subst (λ o. Stood o set bytes (AnswerTo w.number t (full_answer later.state (ended_with_in w'.reply) t a) ∷ []) (Some later) (kept_with (answer_reason (Some later) after.why.read after.why.reason a))) (sym is)
@@ -409,11 +409,11 @@ module _ (set : NameOrigins) (bytes : List ℕ) (mid after : Explained) (lines :
         (subst (λ o. Serves machine w.number o (line.Statement t s) (AnswerTo w.number t (full_answer later.state (ended_with_in w'.reply) t a) ∷ []) (Some later)) is (subst (λ o. Serves machine w.number w.step (line.Statement t s) (AnswerTo w.number t (full_answer_in o (ended_with_in w'.reply) t a) ∷ []) o) new serves))))
 
     -- what is kept of any line, and printed after it
-    pub kept_behind : (t : LineEvent) → ServesAs w bytes t w' → ObservesLine keeps mid w.step bytes t w' after → Stood w.step set bytes (events_of_line w.number w' t) w'.step (kept_with (line_reason w'.step after.why.read after.why.reason t))
-    kept_behind line_event.Nothing tells (of, same) = quiet_line line.Nothing [] w.step w'.step look of (λ job. refl) (λ job. refl) refl refl same
-    kept_behind (line_event.StepBegan end card) tells (t, s, of, is, same) = region_line w.number t s end card card card.name w.step w'.step look of is same
-    kept_behind (line_event.Faulted fault) tells same = fault_line w.number fault w.step w'.step look tells.0 same
-    kept_behind (line_event.Answered t a) tells (s, job, later, of, is, new, observes) = told_line t s a job later is new of observes tells
+    pub kept_after : (t : LineEvent) → ServesAs w bytes t w' → ObservesLine keeps mid w.step bytes t w' after → Stood w.step set bytes (events_of_line w.number w' t) w'.step (kept_with (line_reason w'.step after.why.read after.why.reason t))
+    kept_after line_event.Nothing tells (of, same) = quiet_line line.Nothing [] w.step w'.step look of (λ job. refl) (λ job. refl) refl refl same
+    kept_after (line_event.StepBegan end card) tells (t, s, of, is, same) = region_line w.number t s end card card card.name w.step w'.step look of is same
+    kept_after (line_event.Faulted fault) tells same = fault_line w.number fault w.step w'.step look tells.0 same
+    kept_after (line_event.Answered t a) tells (s, job, later, of, is, new, observes) = event_of_statement t s a job later is new of observes tells
 
 -- ---- what stays
 
@@ -450,8 +450,8 @@ pub looking_begun : (step : Option JobValue) (set begun : NameOrigins) (bytes : 
 looking_begun step set begun bytes x e look =
     record { read = look.read; before = look.before; subpools = look.subpools; unheard = look.unheard; unnamed = look.unnamed; lines = λ job is. look.lines job is ∙ e ∙ ap (λ o. lines_before o set) is }
 
-pub stands_behind : (before after : Option (List ℕ)) (w : WalkValue) (set : NameOrigins) (l : List ℕ) (w' : WalkValue) (t : LineEvent) (text : List ℕ) → Appends before after text → IsExplanationText w.step set l (events_of_line w.number w' t) w'.step text → AppendsExplanation before after w set l w' t
-stands_behind before after w set l w' (line_event.Faulted fault) text a is = tt
-stands_behind before after w set l w' line_event.Nothing text a is = (text, a, is)
-stands_behind before after w set l w' (line_event.StepBegan end card) text a is = (text, a, is)
-stands_behind before after w set l w' (line_event.Answered t x) text a is = (text, a, is)
+pub stands_after : (before after : Option (List ℕ)) (w : WalkValue) (set : NameOrigins) (l : List ℕ) (w' : WalkValue) (t : LineEvent) (text : List ℕ) → Appends before after text → IsExplanationText w.step set l (events_of_line w.number w' t) w'.step text → AppendsExplanation before after w set l w' t
+stands_after before after w set l w' (line_event.Faulted fault) text a is = tt
+stands_after before after w set l w' line_event.Nothing text a is = (text, a, is)
+stands_after before after w set l w' (line_event.StepBegan end card) text a is = (text, a, is)
+stands_after before after w set l w' (line_event.Answered t x) text a is = (text, a, is)

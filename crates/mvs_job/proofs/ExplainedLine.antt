@@ -30,7 +30,7 @@ use Rattle.mvs_job.specs.Observing.{ObservesLine}
 use Rattle.mvs_job.specs.LineEvents.{ServesAs, WalkValue, events_of_line}
 use Rattle.mvs_job.specs.Trace.{Closed, Entry, Executed, Exhausted, Faulty, Kind}
 use Rattle.mvs_job.specs.Why.{line_reason}
-use Rattle.mvs_job.proofs.AfterLines.{keeps, kept_behind, kept_same, kept_with}
+use Rattle.mvs_job.proofs.AfterLines.{keeps, kept_after, kept_same, kept_with}
 use Rattle.mvs_job.proofs.Kept.{stops_naming}
 
 -- ---- the names that are set
@@ -77,29 +77,29 @@ module _ (n : ℕ) (line : List ℕ) (w : WalkValue) (e : Entry) where
   abbrev pub before_it : WalkValue
   before_it = record { step = e.before; number = n; reply = w.reply }
 
-  told_so : (t : LineEvent) → Said n line t w e → ServesAs before_it line t w
-  told_so (line_event.Faulted fault) (of, kind, same) = (of, same)
-  told_so line_event.Nothing (said, of, serves, kind, number, bytes) = (said, of, serves)
-  told_so (line_event.StepBegan end card) (said, of, serves, kind, number, bytes) = (said, of, serves)
-  told_so (line_event.Answered t a) (said, of, serves, kind, number, bytes) = (said, of, serves)
+  serves_as : (t : LineEvent) → Said n line t w e → ServesAs before_it line t w
+  serves_as (line_event.Faulted fault) (of, kind, same) = (of, same)
+  serves_as line_event.Nothing (said, of, serves, kind, number, bytes) = (said, of, serves)
+  serves_as (line_event.StepBegan end card) (said, of, serves, kind, number, bytes) = (said, of, serves)
+  serves_as (line_event.Answered t a) (said, of, serves, kind, number, bytes) = (said, of, serves)
 
   -- it is executed so
   pub entry_serves : (t : LineEvent) → IsEntry n line w t e → ServesAs before_it line t w
-  entry_serves t entry = told_so t (said_by t entry)
+  entry_serves t entry = serves_as t (said_by t entry)
 
   -- ---- what is printed of it
 
   module _ (set : NameOrigins) (mid after x : Explained) (look : IsLooking e.before set line mid) (why : x.why ≡ after.why) (naming : x.naming ≡ after.naming) where
     -- the explanations by what is kept
-    same_behind : (t : LineEvent) → x.reason ≡ line_reason w.step after.why.read after.why.reason t → (events : List Event) → explanation_text (kept_with set line mid after x.lines (line_reason w.step after.why.read after.why.reason t)) events w.step ≡ explanation_text x events w.step
-    same_behind t reason events = ap (λ (y : Explained). explanation_text y events w.step) (kept_same set line mid after x.lines x (line_reason w.step after.why.read after.why.reason t) why naming reason refl)
+    same_after : (t : LineEvent) → x.reason ≡ line_reason w.step after.why.read after.why.reason t → (events : List Event) → explanation_text (kept_with set line mid after x.lines (line_reason w.step after.why.read after.why.reason t)) events w.step ≡ explanation_text x events w.step
+    same_after t reason events = ap (λ (y : Explained). explanation_text y events w.step) (kept_same set line mid after x.lines x (line_reason w.step after.why.read after.why.reason t) why naming reason refl)
 
     executed_text : (t : LineEvent) → x.reason ≡ line_reason w.step after.why.read after.why.reason t → IsEntry n line w t e → (said : Line) → e.kind ≡ Executed said → e.bytes ≡ line → ServesAs before_it line t w → ObservesLine keeps mid e.before line t w after
         → IsExplainedAs set e e.kind (printing (events_of_line n w t) ++ explanation_text x (events_of_line n w t) w.step)
     executed_text t reason entry said kind bytes tells observed =
         let events = events_of_line n w t in
-        let behind = (kept_behind set line mid after x.lines before_it w look t tells observed).0 in
-        let here : IsExplanationText e.before set line events w.step (explanation_text x events w.step) = subst (λ y. IsExplanationText e.before set line events w.step y) (same_behind t reason events) behind in
+        let trailing = (kept_after set line mid after x.lines before_it w look t tells observed).0 in
+        let here : IsExplanationText e.before set line events w.step (explanation_text x events w.step) = subst (λ y. IsExplanationText e.before set line events w.step y) (same_after t reason events) trailing in
         let at : IsExplanationText e.before set e.bytes e.events e.after (explanation_text x events w.step) = subst (λ b. IsExplanationText e.before set b e.events e.after (explanation_text x events w.step)) (sym bytes)
         (subst (λ v. IsExplanationText e.before set line v e.after (explanation_text x events w.step)) (sym entry.events) (subst (λ o. IsExplanationText e.before set line events o (explanation_text x events w.step)) (sym entry.after) here)) in
         subst (λ k. IsExplainedAs set e k (printing events ++ explanation_text x events w.step)) (sym kind) (explanation_text x events w.step, at, ap (λ v. printing v ++ explanation_text x events w.step) (sym entry.events))
@@ -163,20 +163,20 @@ module _ (n : ℕ) (line : List ℕ) (w : WalkValue) (e : Entry) where
 
 -- ---- the text of a line
 
-pub told_more : (x : Explained) (n : ℕ) (w : WalkValue) (t : LineEvent) → (more : List ℕ) × (text_of_event x n w t ≡ printing (events_of_line n w t) ++ more)
-told_more x n w (line_event.Faulted fault) = ([], sym (append-nil (printing (events_of_line n w (line_event.Faulted fault)))))
-told_more x n w line_event.Nothing = (explanation_text x (events_of_line n w line_event.Nothing) w.step, refl)
-told_more x n w (line_event.StepBegan end card) = (explanation_text x (events_of_line n w (line_event.StepBegan end card)) w.step, refl)
-told_more x n w (line_event.Answered t a) = (explanation_text x (events_of_line n w (line_event.Answered t a)) w.step, refl)
+pub text_begins_with_printing : (x : Explained) (n : ℕ) (w : WalkValue) (t : LineEvent) → (more : List ℕ) × (text_of_event x n w t ≡ printing (events_of_line n w t) ++ more)
+text_begins_with_printing x n w (line_event.Faulted fault) = ([], sym (append-nil (printing (events_of_line n w (line_event.Faulted fault)))))
+text_begins_with_printing x n w line_event.Nothing = (explanation_text x (events_of_line n w line_event.Nothing) w.step, refl)
+text_begins_with_printing x n w (line_event.StepBegan end card) = (explanation_text x (events_of_line n w (line_event.StepBegan end card)) w.step, refl)
+text_begins_with_printing x n w (line_event.Answered t a) = (explanation_text x (events_of_line n w (line_event.Answered t a)) w.step, refl)
 
-pub told_faulted : (x : Explained) (n : ℕ) (w : WalkValue) (t : LineEvent) (fault : Fault) → t ≡ line_event.Faulted fault → text_of_event x n w t ≡ printing (events_of_line n w t)
-told_faulted x n w t fault is = subst (λ t. text_of_event x n w t ≡ printing (events_of_line n w t)) (sym is) refl
+pub text_of_fault : (x : Explained) (n : ℕ) (w : WalkValue) (t : LineEvent) (fault : Fault) → t ≡ line_event.Faulted fault → text_of_event x n w t ≡ printing (events_of_line n w t)
+text_of_fault x n w t fault is = subst (λ t. text_of_event x n w t ≡ printing (events_of_line n w t)) (sym is) refl
 
-pub told_behind : (x : Explained) (n : ℕ) (w : WalkValue) (t : LineEvent) → ((fault : Fault) → t ≡ line_event.Faulted fault → ⊥) → text_of_event x n w t ≡ printing (events_of_line n w t) ++ explanation_text x (events_of_line n w t) w.step
-told_behind x n w (line_event.Faulted fault) other = absurd (other fault refl)
-told_behind x n w line_event.Nothing other = refl
-told_behind x n w (line_event.StepBegan end card) other = refl
-told_behind x n w (line_event.Answered t a) other = refl
+pub text_after_printing : (x : Explained) (n : ℕ) (w : WalkValue) (t : LineEvent) → ((fault : Fault) → t ≡ line_event.Faulted fault → ⊥) → text_of_event x n w t ≡ printing (events_of_line n w t) ++ explanation_text x (events_of_line n w t) w.step
+text_after_printing x n w (line_event.Faulted fault) other = absurd (other fault refl)
+text_after_printing x n w line_event.Nothing other = refl
+text_after_printing x n w (line_event.StepBegan end card) other = refl
+text_after_printing x n w (line_event.Answered t a) other = refl
 
 -- ---- the last entry
 

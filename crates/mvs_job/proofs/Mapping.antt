@@ -107,17 +107,17 @@ whole st first n = record { low = omega arith; all = refl; begins = λ some less
 
 -- no run begins in the pages that are left, where there are none
 none_left : (st : State) (first end page n from : ℕ) → from ≤ 4096 * page → IsAt st first end page n → NoneBegins (page_subpool st) first from end → n ≡ 0
-none_left st first end page n from behind at none =
+none_left st first end page n from trailing at none =
     elim (cases_lt 0 n) [
-      | inl some ↦ (let g = none page at.low behind (omega (arith, some, at.all)) in absurd (at.begins some g.0 g.1))
+      | inl some ↦ (let g = none page at.low trailing (omega (arith, some, at.all)) in absurd (at.begins some g.0 g.1))
       | inr over ↦ (let e : n ≡ 0 = omega (arith, over) in e)
     ]
 
 -- the next run begins where the pages that are left begin
 found : (st : State) (first end page n from at count : ℕ) → from ≤ 4096 * page → page ≤ at → IsAt st first end page n → IsPages (page_subpool st) first end at count → NoneBegins (page_subpool st) first from at → at ≡ page
-found st first end page n from at count behind low is pages none =
+found st first end page n from at count trailing low is pages none =
     elim (cases_lt page at) [
-      | inl less ↦ (let g = none page is.low behind less in absurd (is.begins (omega (arith, less, is.all, pages.ends.low, pages.ends.high)) g.0 g.1))
+      | inl less ↦ (let g = none page is.low trailing less in absurd (is.begins (omega (arith, less, is.all, pages.ends.low, pages.ends.high)) g.0 g.1))
       | inr over ↦ (let e : at ≡ page = omega (arith, over, low) in e)
     ]
 
@@ -138,11 +138,11 @@ module _ (number : ℕ) (st : State) (t : Name) where
       → (m : ℕ) × IsAt st first end (page + count) m × (runs_text page n ≡ run_text run ++ runs_text (page + count) m)
   one_run first end page n count run at pages addr len holder =
       let count_is : count - 1 + 1 ≡ count = omega (arith, pages.ends.low) in
-      let behind : page + (count - 1) + 1 ≡ page + count = omega (arith, pages.ends.low) in
+      let trailing : page + (count - 1) + 1 ≡ page + count = omega (arith, pages.ends.low) in
       let all : n ≡ count - 1 + 1 + (n - count) = omega (arith, at.all, pages.ends.low, pages.ends.high) in
       let dist : 4096 * page + 4096 * count ≡ 4096 * (page + count) = omega arith in
       let runs = run_front st (count - 1) (n - count) n page all (λ p low high. pages.ends.alike p low (omega (arith, high, pages.ends.low)))
-      (λ some e. pages.ends.ends (omega (arith, some, at.all)) (ap (page_subpool st) (sym behind) ∙ e)) in (
+      (λ some e. pages.ends.ends (omega (arith, some, at.all)) (ap (page_subpool st) (sym trailing) ∙ e)) in (
         n - count,
         record {
           low = omega (arith, at.low);
@@ -183,8 +183,8 @@ module _ (number : ℕ) (st : State) (t : Name) where
 
   next_above : (from page n : ℕ) (rest : List ℕ) (run : MapRun) (is : IsMapRun st from run) → from ≤ 4096 * page → page ≤ is.page → IsAt st 4096 (4096 + st.regions.above) page n → rest ≡ runs_text page n
       → IsPages (page_subpool st) 4096 (4096 + st.regions.above) is.page is.count → NoneBegins (page_subpool st) 4096 from is.page → Nexts run rest
-  next_above from page n rest run is behind low at rest_is pages none =
-      let same = found st 4096 (4096 + st.regions.above) page n from is.page is.count behind low at pages none in
+  next_above from page n rest run is trailing low at rest_is pages none =
+      let same = found st 4096 (4096 + st.regions.above) page n from is.page is.count trailing low at pages none in
       let one = one_run 4096 (4096 + st.regions.above) page n is.count run at (subst (λ p. IsPages (page_subpool st) 4096 (4096 + st.regions.above) p is.count) same pages) (is.addr ∙ ap (λ p. 4096 * p) same) is.len
       (subst (λ p. IsHolder st.owners (page_subpool st p) run.holder) same is.holder) in (
         runs_text (page + is.count) one.0,

@@ -89,8 +89,8 @@ operands_unended bytes h = either _ where
   either true = field (slice_get (words bytes) 2) refl
   either false = tt
 
-behind : (row : Row) (os : List (List ℕ)) → AreUnended os → AreUnended (operands_after_form row os)
-behind row os h = at (is_empty row.forms) os h where
+trailing : (row : Row) (os : List (List ℕ)) → AreUnended os → AreUnended (operands_after_form row os)
+trailing row os h = at (is_empty row.forms) os h where
   at : (b : Bool) (os : List (List ℕ)) → AreUnended os → AreUnended (cond b os (drop 1 os))
   at true os h = h
   at false [] h = tt
@@ -150,7 +150,7 @@ line_unended bytes l h e = at (is_blank_or_comment bytes) e where
   with_statement row None said e = none_some e
   with_statement row (Some s) said e =
       subst NamesUnended {x = line.Statement (padded (task_in bytes)) s} (let g : Some (line.Statement (padded (task_in bytes)) s) ≡ Some l = e in cc)
-      (unended_padded (task_in bytes) (unended_front _ bytes h), statement_unended row.meaning form _ s (under_unended _ (behind row os (operands_unended bytes h))) said)
+      (unended_padded (task_in bytes) (unended_front _ bytes h), statement_unended row.meaning form _ s (under_unended _ (trailing row os (operands_unended bytes h))) said)
 
   with_row : (o : Option Row) → (o >>= λ row. statement_of row.meaning form (by_key (operands_after_form row os)) >>= λ s. Some (line.Statement (padded (task_in bytes)) s)) ≡ Some l → NamesUnended l
   with_row None e = none_some e

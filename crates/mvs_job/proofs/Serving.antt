@@ -69,9 +69,9 @@ module _ (P : Condition) (old new : WalkValue) (bytes : List ℕ) (first : Bool)
   step_served t says.ReportSubpools step later answer is does = (answer, later, does, refl, refl)
   step_served t says.ReportMap step later answer is does = (answer, later, does, refl, refl)
 
-  pub told_answered : (l : Line) (t : Name) (s : Statement) (step later : JobValue) (a : Short) → read ≡ Ok l → l ≡ line.Statement t s → region_card t s ≡ None → old.step ≡ Some step → new.step ≡ Some later
+  pub event_answered : (l : Line) (t : Name) (s : Statement) (step later : JobValue) (a : Short) → read ≡ Ok l → l ≡ line.Statement t s → region_card t s ≡ None → old.step ≡ Some step → new.step ≡ Some later
       → Does P step t s (full_answer later.state (ended_with_in new.reply) t a) later → ServesAsUnder P old bytes (line_event.Answered t a) new
-  told_answered l t s step later a is l_is of_step e f does = (
+  event_answered l t s step later a is l_is of_step e f does = (
     line.Statement t s,
     said_so first (is_first old.step) bytes read (line.Statement t s) same reading (is ∙ ap (λ x. Ok x) l_is),
     subst (λ o. Serves (job_machine P) old.number old.step (line.Statement t s) (AnswerTo old.number t (full_answer_in o (ended_with_in new.reply) t a) ∷ []) o) (sym f)
@@ -82,15 +82,15 @@ module _ (P : Condition) (old new : WalkValue) (bytes : List ℕ) (first : Bool)
   stops_at_request l t s is l_is takes = (line.Statement t s, said_so first (is_first old.step) bytes read (line.Statement t s) same reading (is ∙ ap (λ x. Ok x) l_is), takes)
 
 -- what a line tells by a step that meets a condition it tells by a step
-pub told_by : (P : Condition) (old new : WalkValue) (bytes : List ℕ) (t : LineEvent) → ServesAsUnder P old bytes t new → ServesAs old bytes t new
-told_by P old new bytes (line_event.Faulted fault) h = h
-told_by P old new bytes line_event.Nothing h = (h.0, h.1, line_other (λ _. P) (λ _. Any) old.number (λ _ _ _ _ _ _. tt) old.step h.0 _ new.step h.2)
-told_by P old new bytes (line_event.StepBegan end card) h = (h.0, h.1, line_other (λ _. P) (λ _. Any) old.number (λ _ _ _ _ _ _. tt) old.step h.0 _ new.step h.2)
-told_by P old new bytes (line_event.Answered t a) h = (h.0, h.1, line_other (λ _. P) (λ _. Any) old.number (λ _ _ _ _ _ _. tt) old.step h.0 _ new.step h.2)
+pub serves_unconditionally : (P : Condition) (old new : WalkValue) (bytes : List ℕ) (t : LineEvent) → ServesAsUnder P old bytes t new → ServesAs old bytes t new
+serves_unconditionally P old new bytes (line_event.Faulted fault) h = h
+serves_unconditionally P old new bytes line_event.Nothing h = (h.0, h.1, line_other (λ _. P) (λ _. Any) old.number (λ _ _ _ _ _ _. tt) old.step h.0 _ new.step h.2)
+serves_unconditionally P old new bytes (line_event.StepBegan end card) h = (h.0, h.1, line_other (λ _. P) (λ _. Any) old.number (λ _ _ _ _ _ _. tt) old.step h.0 _ new.step h.2)
+serves_unconditionally P old new bytes (line_event.Answered t a) h = (h.0, h.1, line_other (λ _. P) (λ _. Any) old.number (λ _ _ _ _ _ _. tt) old.step h.0 _ new.step h.2)
 
-pub told_each : (P : Condition) (old new : WalkValue) (bytes : List ℕ) (r : Result LineEvent OutOfMemoryAt) (Q : OutOfMemoryAt → Type 0) → MatchResult r (λ t. ServesAsUnder P old bytes t new) Q → MatchResult r (λ t. ServesAs old bytes t new) Q
-told_each P old new bytes (Ok t) Q h = told_by P old new bytes t h
-told_each P old new bytes (Err e) Q h = h
+pub each_serves : (P : Condition) (old new : WalkValue) (bytes : List ℕ) (r : Result LineEvent OutOfMemoryAt) (Q : OutOfMemoryAt → Type 0) → MatchResult r (λ t. ServesAsUnder P old bytes t new) Q → MatchResult r (λ t. ServesAs old bytes t new) Q
+each_serves P old new bytes (Ok t) Q h = serves_unconditionally P old new bytes t h
+each_serves P old new bytes (Err e) Q h = h
 
 -- what a line that was served or has a fault may tell
 pub line_tells : (old new : WalkValue) (bytes : List ℕ) (t : LineEvent) → ServesAs old bytes t new → MayHappen old bytes (events_of_line old.number new t)

@@ -51,12 +51,12 @@ IsClosed text = (front : List ℕ) × (text ≡ front ++ 10 ∷ [])
 abbrev pub IsEnded : List ℕ → Type 0
 IsEnded text = (text ≡ []) ⊎ IsClosed text
 
-pub closed_behind : (front text : List ℕ) → IsClosed text → IsClosed (front ++ text)
-closed_behind front text c = (front ++ c.0, ap (λ x. front ++ x) c.1 ∙ sym (append_assoc front c.0 (10 ∷ [])))
+pub closed_after : (front text : List ℕ) → IsClosed text → IsClosed (front ++ text)
+closed_after front text c = (front ++ c.0, ap (λ x. front ++ x) c.1 ∙ sym (append_assoc front c.0 (10 ∷ [])))
 
 ended_both : (one other : List ℕ) → IsEnded one → IsEnded other → IsEnded (one ++ other)
 ended_both one other a (inl e) = subst IsEnded (sym (append-nil one) ∙ ap (λ x. one ++ x) (sym e)) a
-ended_both one other a (inr c) = inr (closed_behind one other c)
+ended_both one other a (inr c) = inr (closed_after one other c)
 
 ended_each : {X : Type 0} (f : X → List ℕ) (xs : List X) → ((x : X) → IsEnded (f x)) → IsEnded (flat_map f xs)
 ended_each f [] each = inl refl
@@ -96,7 +96,7 @@ pub event_ended : (event : Event) → IsEnded (text_of event)
 event_ended (AnswerTo number t answer) = answer_ended number t answer
 event_ended (StepEnded true) = inr (codes "STEP ENDED RC 8", refl)
 event_ended (StepEnded false) = inr (codes "STEP ENDED RC 0", refl)
-event_ended (Faulted number fault) = inr (closed_behind (decimal number ++ codes " JS0" ++ decimal (fault_number fault)) (codes "\nJOB FAULT RC 12\n") (codes "\nJOB FAULT RC 12", refl))
+event_ended (Faulted number fault) = inr (closed_after (decimal number ++ codes " JS0" ++ decimal (fault_number fault)) (codes "\nJOB FAULT RC 12\n") (codes "\nJOB FAULT RC 12", refl))
 
 pub printing_ended : (events : List Event) → IsEnded (printing events)
 printing_ended events = ended_each text_of events event_ended
@@ -156,8 +156,8 @@ begins_so text =
     let more : 1 + position_or_len (λ b. b == 10) text ≡ suc (position_or_len (λ b. b == 10) text) = omega arith in
     ap (λ n. slice_index (take n (42 ∷ text)) 0) more
 
-pub line_out : (one_line_text : List ℕ) → IsLeftOut (one_line (codes "* " ++ one_line_text))
-line_out one_line_text = starred_out (before_first (λ b. b == 10) (codes "* " ++ one_line_text)) (unended (codes "* " ++ one_line_text)) (begins_so (codes " " ++ one_line_text))
+pub line_out : (the_line : List ℕ) → IsLeftOut (one_line (codes "* " ++ the_line))
+line_out the_line = starred_out (before_first (λ b. b == 10) (codes "* " ++ the_line)) (unended (codes "* " ++ the_line)) (begins_so (codes " " ++ the_line))
 
 reason_out : (t : Name) (request : Request) (reason : LineReason) → IsLeftOut (reason_line t request reason)
 reason_out t request reason = line_out (why_text t request reason)
@@ -173,7 +173,7 @@ text_out job (line.Statement t says.ReportMap) (Some reason) = reason_out t Retu
 
 explanation_out : (old : Option JobValue) (l : List ℕ) (events : List Event) (why : List ℕ) → IsExplanation old l events why → IsLeftOut why
 explanation_out None l events why e = none_left_out why e
-explanation_out (Some job) l events why (inl (one_line_text, is, (r, of, e))) = subst IsLeftOut (sym e) (text_out job one_line_text r)
+explanation_out (Some job) l events why (inl (the_line, is, (r, of, e))) = subst IsLeftOut (sym e) (text_out job the_line r)
 explanation_out (Some job) l events why (inr (fault, is, e)) = none_left_out why e
 
 pub out_both : (one other : List ℕ) → IsLeftOut one → IsLeftOut other → IsLeftOut (one ++ other)
@@ -202,7 +202,7 @@ granted_out : (b : Option Baseline) (l : Line) (events : List Event) (new : Opti
 granted_out b l events new = each_out fact_line (λ f. line_out (fact_text f)) (granted_facts b l events new)
 
 granting_out : (old : Option JobValue) (l : List ℕ) (events : List Event) (new : Option JobValue) (done : List ℕ) → IsGranting old l events new done → IsLeftOut done
-granting_out old l events new done (inl (one_line_text, is, e)) = subst IsLeftOut (sym e) (granted_out (before_line old one_line_text) one_line_text events new)
+granting_out old l events new done (inl (the_line, is, e)) = subst IsLeftOut (sym e) (granted_out (before_line old the_line) the_line events new)
 granting_out old l events new done (inr (inl (none, e))) = none_left_out done e
 granting_out old l events new done (inr (inr (fault, is, e))) = none_left_out done e
 
@@ -214,8 +214,8 @@ named_out : (old : Option JobValue) (set : NameOrigins) (l : List ℕ) (events :
 named_out None set l events named e = none_left_out named e
 named_out (Some job) set l events named (a, tells, (n, is, e)) = subst IsLeftOut (sym e) (naming_out n)
 
-behind_out : (old : Option JobValue) (set : NameOrigins) (l : List ℕ) (events : List Event) (new : Option JobValue) (text : List ℕ) → IsExplanationText old set l events new text → IsLeftOut text
-behind_out old set l events new text (why, named, freed, done, is, names, frees, grants, e) =
+after_out : (old : Option JobValue) (set : NameOrigins) (l : List ℕ) (events : List Event) (new : Option JobValue) (text : List ℕ) → IsExplanationText old set l events new text → IsLeftOut text
+after_out old set l events new text (why, named, freed, done, is, names, frees, grants, e) =
     let end = out_both freed done (freeing_out old events freed frees) (granting_out old l events new done grants) in
     subst IsLeftOut (sym e) (out_both why (named ++ (freed ++ done)) (explanation_out old l events why is) (out_both named (freed ++ done) (named_out old set l events named names) end))
 
@@ -223,10 +223,10 @@ behind_out old set l events new text (why, named, freed, done, is, names, frees,
 
 -- the text of an entry is the printing of its events, and what is left out
 pub entry_out : (set : NameOrigins) (e : Entry) (kind : Kind) (text : List ℕ) → IsExplainedAs set e kind text → (why : List ℕ) × (text ≡ printing e.events ++ why) × IsLeftOut why
-entry_out set e (Executed one_line_text) text (why, is, same) = (why, same, behind_out e.before set e.bytes e.events e.after why is)
+entry_out set e (Executed the_line) text (why, is, same) = (why, same, after_out e.before set e.bytes e.events e.after why is)
 entry_out set e (Faulty fault) text same = ([], same ∙ sym (append-nil (printing e.events)), none_left_out [] refl)
 entry_out set e Closed text same = ([], same ∙ sym (append-nil (printing e.events)), none_left_out [] refl)
-entry_out set e (Exhausted one_line_text) text same = ([], same ∙ sym (append-nil (printing e.events)), none_left_out [] refl)
+entry_out set e (Exhausted the_line) text same = ([], same ∙ sym (append-nil (printing e.events)), none_left_out [] refl)
 
 -- What a consumer writes for an entry is the printing of its events, and lines that begin with an asterisk.
 abbrev pub IsStarred : Piece → Type 0

@@ -78,23 +78,23 @@ module _ (all all' : Bool) (heard : Option (List Skipped)) (history : List Entry
 
 -- ---- a line, by its number and by its bytes
 
-told_skipped : (f g : ℕ → List ℕ) (n : ℕ) (t : Name) (a : Answer) → f n ≡ g n → all_skipped f (AnswerTo n t a ∷ []) ≡ all_skipped g (AnswerTo n t a ∷ [])
-told_skipped f g n t answer.NotRun e = ap (λ line. skipped_for n line (Some why.NotRun) ++ []) e
-told_skipped f g n t answer.NoName e = ap (λ line. skipped_for n line (Some why.NoName) ++ []) e
-told_skipped f g n t (answer.At a) e = refl
-told_skipped f g n t answer.Rc0 e = refl
-told_skipped f g n t (answer.Granted len) e = refl
-told_skipped f g n t answer.Rc4 e = refl
-told_skipped f g n t answer.Cell e = refl
-told_skipped f g n t answer.NoCell e = refl
-told_skipped f g n t answer.Attached e = refl
-told_skipped f g n t answer.Ended e = refl
-told_skipped f g n t answer.Done e = refl
-told_skipped f g n t (answer.Data bytes) e = refl
-told_skipped f g n t (answer.Abended code fallen) e = refl
-told_skipped f g n t (answer.Subpools lines) e = refl
-told_skipped f g n t (answer.Map runs) e = refl
-told_skipped f g n t (answer.Region card) e = refl
+answer_skipped : (f g : ℕ → List ℕ) (n : ℕ) (t : Name) (a : Answer) → f n ≡ g n → all_skipped f (AnswerTo n t a ∷ []) ≡ all_skipped g (AnswerTo n t a ∷ [])
+answer_skipped f g n t answer.NotRun e = ap (λ line. skipped_for n line (Some why.NotRun) ++ []) e
+answer_skipped f g n t answer.NoName e = ap (λ line. skipped_for n line (Some why.NoName) ++ []) e
+answer_skipped f g n t (answer.At a) e = refl
+answer_skipped f g n t answer.Rc0 e = refl
+answer_skipped f g n t (answer.Granted len) e = refl
+answer_skipped f g n t answer.Rc4 e = refl
+answer_skipped f g n t answer.Cell e = refl
+answer_skipped f g n t answer.NoCell e = refl
+answer_skipped f g n t answer.Attached e = refl
+answer_skipped f g n t answer.Ended e = refl
+answer_skipped f g n t answer.Done e = refl
+answer_skipped f g n t (answer.Data bytes) e = refl
+answer_skipped f g n t (answer.Abended code fallen) e = refl
+answer_skipped f g n t (answer.Subpools lines) e = refl
+answer_skipped f g n t (answer.Map runs) e = refl
+answer_skipped f g n t (answer.Region card) e = refl
 
 step_skipped : (f : ℕ → List ℕ) (old : Option JobValue) → all_skipped f (ending machine old) ≡ []
 step_skipped f None = refl
@@ -102,7 +102,7 @@ step_skipped f (Some job) = refl
 
 module _ (f g : ℕ → List ℕ) (n : ℕ) (same : f n ≡ g n) (events : List Event) (new : Option JobValue) where
   answered : (t : Name) (a : Answer) → events ≡ AnswerTo n t a ∷ [] → all_skipped f events ≡ all_skipped g events
-  answered t a e = ap (all_skipped f) e ∙ told_skipped f g n t a same ∙ ap (all_skipped g) (sym e)
+  answered t a e = ap (all_skipped f) e ∙ answer_skipped f g n t a same ∙ ap (all_skipped g) (sym e)
 
   served_skipped : (old : Option JobValue) (said : Line) → Serves machine n old said events new → all_skipped f events ≡ all_skipped g events
   served_skipped old line.Nothing h = ap (all_skipped f) h.0 ∙ ap (all_skipped g) (sym h.0)

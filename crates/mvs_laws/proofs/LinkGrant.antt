@@ -31,7 +31,7 @@ pub record Comes (job : JobValue) (s : ℕ) (p : PlaceValue) (new : State) : Typ
 none_or : {X : Type 0} (v : Option X) (x : X) → v ≡ None → v ≡ Some x → ⊥
 none_or v x n e = let f : None ≡ Some x = sym n ∙ e in cc
 
-module _ (job new : JobValue) (m : Labels) (k : Link job m) (s : ℕ) (p : PlaceValue) (g : Comes job s p new.state) (named : new.names ≡ job.names) (o : Owners) (owned : new.state.owners ≡ o) (ended : new.abended ≡ job.abended) (behind : new.former ≡ job.former) where
+module _ (job new : JobValue) (m : Labels) (k : Link job m) (s : ℕ) (p : PlaceValue) (g : Comes job s p new.state) (named : new.names ≡ job.names) (o : Owners) (owned : new.state.owners ≡ o) (ended : new.abended ≡ job.abended) (trailing : new.former ≡ job.former) where
   byte_at : Bool → ℕ → ℕ → Option ℕ
   byte_at c l i = cond c (cond (ltb i p.len) (Some m.fill) None) (m.byte l i)
 
@@ -130,7 +130,7 @@ module _ (job new : JobValue) (m : Labels) (k : Link job m) (s : ℕ) (p : Place
     owners = owned;
     fill = g.fill ∙ k.fill;
     abended = ended ∙ k.abended;
-    former = behind ∙ k.former;
+    former = trailing ∙ k.former;
     labels = record {
       whole = λ l. whole_at (l == m.count) l;
       inside = λ l i b e. inside_at (l == m.count) l i b (eqb-true l m.count) e;

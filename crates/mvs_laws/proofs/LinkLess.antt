@@ -29,7 +29,7 @@ pub record Goes (job : JobValue) (m : Labels) (k : Link job m) (test : ℕ → �
   pub pools : new.pools ≡ empty
   pub fill : new.regions.fill ≡ job.state.regions.fill
 
-module _ (job new : JobValue) (m : Labels) (k : Link job m) (test : ℕ → ℕ → Bool) (g : Goes job m k test new.state) (named : new.names ≡ job.names) (o : Owners) (owned : new.state.owners ≡ o) (a : Bool) (ended : new.abended ≡ a) (behind : new.former ≡ job.former) where
+module _ (job new : JobValue) (m : Labels) (k : Link job m) (test : ℕ → ℕ → Bool) (g : Goes job m k test new.state) (named : new.names ≡ job.names) (o : Owners) (owned : new.state.owners ≡ o) (a : Bool) (ended : new.abended ≡ a) (trailing : new.former ≡ job.former) where
   not_gone : {X : Type 0} → (c : Bool) (v : Option X) (x : X) → (c ≡ true → v ≡ None) → v ≡ Some x → c ≡ false
   not_gone c v x h1 h2 = grind (arith, nat_tests, none_some)
 
@@ -47,7 +47,7 @@ module _ (job new : JobValue) (m : Labels) (k : Link job m) (test : ℕ → ℕ 
     owners = owned;
     fill = g.fill ∙ k.fill;
     abended = ended;
-    former = behind ∙ k.former;
+    former = trailing ∙ k.former;
     labels = record {
       whole = k.labels.whole;
       inside = λ l i b e. k.labels.inside l i b (still (test l i) _ b e).1;

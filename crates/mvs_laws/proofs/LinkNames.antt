@@ -132,8 +132,8 @@ agrees_all base len count (x ∷ xs) (n ∷ ns) (q ∷ ps) l places names a p = 
 
 -- other names
 pub link_named : (job new : JobValue) (m : Labels) (k : Link job m) (names : FinMap name_cmp ℕ) → new.state ≡ job.state → new.abended ≡ job.abended → new.former ≡ job.former → Agrees k.base m.len m.count new.names names → Link new (record m { names = names })
-link_named job new m k names same ended behind a = grind (arith, nat_tests)
+link_named job new m k names same ended trailing a = grind (arith, nat_tests)
 
 -- other owners, and the same storage
 pub link_owners : (job new : JobValue) (m : Labels) (k : Link job m) (o : Owners) (a : Bool) → new.state.held ≡ job.state.held → new.state.bytes ≡ job.state.bytes → new.state.pools ≡ job.state.pools → new.state.regions ≡ job.state.regions → new.state.owners ≡ o → new.names ≡ job.names → new.abended ≡ a → new.former ≡ job.former → Link new (record m { owners = o; abended = a })
-link_owners job new m k o a held bytes pools regions owners named ended behind = grind (arith, nat_tests)
+link_owners job new m k o a held bytes pools regions owners named ended trailing = grind (arith, nat_tests)

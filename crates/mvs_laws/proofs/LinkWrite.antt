@@ -12,7 +12,7 @@ use Rattle.mvs_model.proofs.CellPlaces.{has_is}
 
 module _ (job new : JobValue) (m : Labels) (k : Link job m) (q : Spot) (there : is_there m q ≡ true) (f value : ℕ → Option ℕ)
     (same : (j : ℕ) → j < q.place.len → value (k.base q.label + q.place.addr + j) ≡ f j) (some : (j : ℕ) → j < q.place.len → IsSome (f j))
-    (w : Writes job.state (span_of job m k q) value new.state) (named : new.names ≡ job.names) (ended : new.abended ≡ job.abended) (behind : new.former ≡ job.former) where
+    (w : Writes job.state (span_of job m k q) value new.state) (named : new.names ≡ job.names) (ended : new.abended ≡ job.abended) (trailing : new.former ≡ job.former) where
   byte_at : Bool → ℕ → ℕ → Option ℕ
   byte_at c l i = cond c (f (i - q.place.addr)) (m.byte l i)
 
@@ -70,7 +70,7 @@ module _ (job new : JobValue) (m : Labels) (k : Link job m) (q : Spot) (there : 
     owners = w.owners ∙ k.owners;
     fill = ap (λ r. r.fill) w.regions ∙ k.fill;
     abended = ended ∙ k.abended;
-    former = behind ∙ k.former;
+    former = trailing ∙ k.former;
     labels = record {
       whole = k.labels.whole;
       inside = λ l i b e. let u = was_there (has_offset q l i) l i b refl e in k.labels.inside l i u.0 u.1;

@@ -110,8 +110,8 @@ list_not_passed st t form number lengths start x other (inr (a, inr (v, inl h)))
 list_not_passed st t form number lengths start x other (inr (a, inr (v, inr h))) p = h.1
 
 -- what is refused for something else than a member of a list
-told_refused : (old new : State) (t : Name) (request : Request) (reply : Reply) (x : Refusal) → ((k : ℕ) → x ≢ Member k) → IsRefused old t request x → Step old t request reply new → Settles old t (reply_to request x) reply new
-told_refused old new t request reply x other h step = at (is_list request) refl where
+step_refuses : (old new : State) (t : Name) (request : Request) (reply : Reply) (x : Refusal) → ((k : ℕ) → x ≢ Member k) → IsRefused old t request x → Step old t request reply new → Settles old t (reply_to request x) reply new
+step_refuses old new t request reply x other h step = at (is_list request) refl where
   list_tells : (request : Request) → is_list request ≡ true → IsRefused old t request x → Step old t request reply new → Settles old t (reply_to request x) reply new
   list_tells (ObtainList form number lengths start) e h (inl s) = subst (λ y. Settles old t (reply_to (ObtainList form number lengths start) y) reply new) (sym (list_refused old t form number lengths start x s.0 other h s.1)) s.2
   list_tells (ObtainList form number lengths start) e h (inr d) = absurd (list_not_passed old t form number lengths start x other h d.0)
@@ -122,7 +122,7 @@ told_refused old new t request reply x other h step = at (is_list request) refl 
   at false e = refusals_decide_replies.refused old new t request reply x e h step
 
 pub reasons_decide_replies : ReasonsDecideReplies
-reasons_decide_replies old new t request reply reason other is step = told_refused old new t request reply (refusal_of request reason) other is.0 step
+reasons_decide_replies old new t request reply reason other is step = step_refuses old new t request reply (refusal_of request reason) other is.0 step
 
 pub attempts_are_steps : AttemptsAreSteps
 attempts_are_steps = record {

@@ -11,7 +11,7 @@ use Rattle.mvs_model.specs.Finite.{kept, has}
 use Rattle.mvs_model.specs.Storage.{Regions, Open, Places, Chosen, covers, Covers, has_address}
 use Rattle.mvs_model.specs.Owners.{Owners, entry, Binds, EntersBelow, none, passed, entered, is_given}
 use Rattle.mvs_laws.specs.Examples.{AcrossPages, BoundaryEdges, AboveOnATie, ReleasesJoin, PartsReleased, GivesAndShares, SharersKeep, SmallPart, two_pages, one_held, two_held, nothing_held, pages, most_want}
-use Rattle.mvs_model.proofs.Orders.{same_name_is, same_name_self, told_apart}
+use Rattle.mvs_model.proofs.Orders.{same_name_is, same_name_self, names_differ}
 use Rattle.mvs_model.proofs.Made.{made_without}
 use Rattle.mvs_model.proofs.StorageLaws.{covers_from}
 use Rattle.mvs_model.proofs.Below.{some_below}
@@ -133,7 +133,7 @@ pub gives_and_shares : GivesAndShares
 gives_and_shares old mother name gifts residence new g s m r ne a gl given ge ml kept shared me =
     let ready_g = entry_stays old mother (shares gifts) 128 a.ready a.made mother g s ge in
     let ready_m = entry_stays old mother (shares gifts) 128 a.ready a.made mother m r me in
-    let apart = told_apart mother name ne in (
+    let apart = names_differ mother name ne in (
       a.table name g ∙ cond-true (same_name name name) _ _ (same_name_self name) ∙ cond-true (gives gifts g || shares gifts g) _ _ (or_left (gives gifts g) _ given) ∙ ready_g,
       a.table mother g ∙ cond-false (same_name mother name) _ _ apart ∙ cond-true (same_name mother mother && gives gifts g) _ _ (and_from (same_name mother mother) (gives gifts g) (same_name_self mother) given),
       a.owner s ∙ cond-true (is_given a.ready mother gifts s) _ _ (some_below (λ n. gives gifts n && has (λ q. q == s) (entry a.ready mother n)) 128 g gl (and_from (gives gifts g) _ given (ap (has (λ q. q == s)) ready_g ∙ same_self s))),

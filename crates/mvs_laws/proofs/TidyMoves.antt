@@ -70,19 +70,19 @@ abbrev pub moves_start : Labels
 moves_start = first_labels (card_of job 1 0 0 Below) false
 
 -- all that is known of an example
-abbrev pub all_told : List (Name × Statement) → List Answer → Bool → List Event
-all_told ss answers abended = AnswerTo 1 job (Region (card_of job 1 0 0 Below)) ∷ hints 2 ss answers ++ StepEnded abended ∷ []
+abbrev pub all_events : List (Name × Statement) → List Answer → Bool → List Event
+all_events ss answers abended = AnswerTo 1 job (Region (card_of job 1 0 0 Below)) ∷ hints 2 ss answers ++ StepEnded abended ∷ []
 
 pub shows : (ss : List (Name × Statement)) (answers : List Answer) (new : Labels) (abended : Bool) → new.abended ≡ abended → Answers moves_start ss answers new
-    → ShowsTidy ((job, one_page) ∷ ss) (printing (all_told ss answers abended))
+    → ShowsTidy ((job, one_page) ∷ ss) (printing (all_events ss answers abended))
 shows ss answers new abended e w script r = at (lines_of script) r where
-  at : (lines : List (List ℕ)) → ReadsAs true lines ((job, one_page) ∷ ss) → TidyLines 1 None lines × ((hints : List Event) × (outcome : Outcome) × Walks label_machine (JobEnds label_machine outcome) 1 None lines hints × (printing (all_told ss answers abended) ≡ printing hints))
+  at : (lines : List (List ℕ)) → ReadsAs true lines ((job, one_page) ∷ ss) → TidyLines 1 None lines × ((hints : List Event) × (outcome : Outcome) × Walks label_machine (JobEnds label_machine outcome) 1 None lines hints × (printing (all_events ss answers abended) ≡ printing hints))
   at [] r = absurd r
   at (l ∷ lines) r =
       let serves : ServesLine label_machine 1 None l (AnswerTo 1 job (Region (card_of job 1 0 0 Below)) ∷ []) (Some moves_start) = (line.Statement job one_page, r.0, (refl, refl)) in
       let rest = walked lines ss answers 2 moves_start new r.1 w in (
         (tt, λ hints later h. subst (λ m. TidyLines 2 m lines) (line_one 1 None l (AnswerTo 1 job (Region (card_of job 1 0 0 Below)) ∷ []) hints (Some moves_start) later serves h).1 rest.0),
-        (all_told ss answers new.abended, outcome_of new, inr (Some moves_start, _, _, serves, refl, rest.1), ap (λ b. printing (all_told ss answers b)) (sym e)),
+        (all_events ss answers new.abended, outcome_of new, inr (Some moves_start, _, _, serves, refl, rest.1), ap (λ b. printing (all_events ss answers b)) (sym e)),
       )
 
 -- a statement of the step, of a task that is active

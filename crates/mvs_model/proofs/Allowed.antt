@@ -54,21 +54,21 @@ abbrev EachPasses : Row → List (List ℕ) → List (List ℕ) → Type 0
 EachPasses row left [] = Unit {0}
 EachPasses row left (x ∷ xs) = Passes row left x × EachPasses row (left ++ (x ∷ [])) xs
 
-passes_at : (row : Row) (left same : List (List ℕ)) (x : List ℕ) (behind : List (Fault × Bool)) → same ≡ left → Passes row left x → first_of (operand_checks row (same, x) ++ behind) ≡ first_of behind
-passes_at row left same x behind h1 h2 = grind (arith, nat_tests)
+passes_at : (row : Row) (left same : List (List ℕ)) (x : List ℕ) (trailing : List (Fault × Bool)) → same ≡ left → Passes row left x → first_of (operand_checks row (same, x) ++ trailing) ≡ first_of trailing
+passes_at row left same x trailing h1 h2 = grind (arith, nat_tests)
 
-none_apply : (row : Row) (left os : List (List ℕ)) (behind : List (Fault × Bool)) → EachPasses row left os
-    → first_of (flat_map (operand_checks row) (under (λ l. left ++ l) (with_left os)) ++ behind) ≡ first_of behind
-none_apply row left [] behind each = refl
-none_apply row left (x ∷ os) behind each =
+none_apply : (row : Row) (left os : List (List ℕ)) (trailing : List (Fault × Bool)) → EachPasses row left os
+    → first_of (flat_map (operand_checks row) (under (λ l. left ++ l) (with_left os)) ++ trailing) ≡ first_of trailing
+none_apply row left [] trailing each = refl
+none_apply row left (x ∷ os) trailing each =
     let later : List (List (List ℕ) × List ℕ) = under (λ l. left ++ l) (under (λ l. x ∷ l) (with_left os)) in
     let moved : later ≡ under (λ l. (left ++ (x ∷ [])) ++ l) (with_left os) = twice_under x (λ l. left ++ l) (with_left os) ∙ (λ i. under (λ l. sym (append_assoc left (x ∷ []) l) i) (with_left os)) in
-    passes_at row left (left ++ []) x (flat_map (operand_checks row) later ++ behind) (append-nil left) each.0
-    ∙ ap (λ ps. first_of (flat_map (operand_checks row) ps ++ behind)) moved
-    ∙ none_apply row (left ++ (x ∷ [])) os behind each.1
+    passes_at row left (left ++ []) x (flat_map (operand_checks row) later ++ trailing) (append-nil left) each.0
+    ∙ ap (λ ps. first_of (flat_map (operand_checks row) ps ++ trailing)) moved
+    ∙ none_apply row (left ++ (x ∷ [])) os trailing each.1
 
-all_pass : (row : Row) (os : List (List ℕ)) (behind : List (Fault × Bool)) → EachPasses row [] os → first_of (flat_map (operand_checks row) (with_left os) ++ behind) ≡ first_of behind
-all_pass row os behind each = ap (λ ps. first_of (flat_map (operand_checks row) ps ++ behind)) (sym (under_nothing (with_left os))) ∙ none_apply row [] os behind each
+all_pass : (row : Row) (os : List (List ℕ)) (trailing : List (Fault × Bool)) → EachPasses row [] os → first_of (flat_map (operand_checks row) (with_left os) ++ trailing) ≡ first_of trailing
+all_pass row os trailing each = ap (λ ps. first_of (flat_map (operand_checks row) ps ++ trailing)) (sym (under_nothing (with_left os))) ∙ none_apply row [] os trailing each
 
 -- ---- operands with keys
 
@@ -106,14 +106,14 @@ text_is : (key text : List ℕ) → list_all is_letter key ≡ true → text_of 
 text_is key text h1 = grind (arith, nat_tests, keyed_has_key, equals_at, dropped_front)
 
 -- an operand with a key
-closes_behind : (key text : List ℕ) → list_all is_letter key ≡ true → closes 0 (key ++ (61 ∷ text)) ≡ closes 0 text
-closes_behind [] text e = refl
-closes_behind (b ∷ key) text e =
+closes_after : (key text : List ℕ) → list_all is_letter key ≡ true → closes 0 (key ++ (61 ∷ text)) ≡ closes 0 text
+closes_after [] text e = refl
+closes_after (b ∷ key) text e =
     let a = and_parts (is_letter b) (list_all is_letter key) e in
     let comma : (b == 44) ≡ false = grind (arith, nat_tests, a.0) in
     let opens : (b == 40) ≡ false = grind (arith, nat_tests, a.0) in
     let shuts : (b == 41) ≡ false = grind (arith, nat_tests, a.0) in
-    (λ i. not (comma i && (0 == 0)) && closes (if opens i then 1 else (if shuts i then 0 - 1 else 0)) (key ++ (61 ∷ text))) ∙ closes_behind key text a.1
+    (λ i. not (comma i && (0 == 0)) && closes (if opens i then 1 else (if shuts i then 0 - 1 else 0)) (key ++ (61 ∷ text))) ∙ closes_after key text a.1
 
 keyword_word : (key text : List ℕ) → list_all is_letter key ≡ true → IsWord text → IsWord (key ++ (61 ∷ text))
 keyword_word [] text e is = record { some = refl; printed = is.printed }
@@ -122,7 +122,7 @@ keyword_word (b ∷ key) text e is =
     record { some = refl; printed = and_from (printed b) _ (letter_printed b a.0) (keyword_word key text a.1 is).printed }
 
 keyword_operand : (key text : List ℕ) → list_all is_letter key ≡ true → IsOperand text → IsOperand (key ++ (61 ∷ text))
-keyword_operand key text e is = record { word = keyword_word key text e is.word; closed = closes_behind key text e ∙ is.closed }
+keyword_operand key text e is = record { word = keyword_word key text e is.word; closed = closes_after key text e ∙ is.closed }
 
 -- a form: letters alone
 letters_close : (text : List ℕ) → list_all is_letter text ≡ true → closes 0 text ≡ true
@@ -145,12 +145,12 @@ letters_no_key (b ∷ text) e =
 
 -- ---- what is found among operands
 
-found_behind : (test : List ℕ → Bool) (xs ys : List (List ℕ)) → is_some (find test xs) ≡ false → find test (xs ++ ys) ≡ find test ys
-found_behind test [] ys e = refl
-found_behind test (x ∷ xs) ys e =
+found_after : (test : List ℕ → Bool) (xs ys : List (List ℕ)) → is_some (find test xs) ≡ false → find test (xs ++ ys) ≡ find test ys
+found_after test [] ys e = refl
+found_after test (x ∷ xs) ys e =
     (elim (test x) as (λ b. is_some (if b then Some x else find test xs) ≡ false → (if b then Some x else find test (xs ++ ys)) ≡ find test ys) [
       | true ↦ λ e. true_false e
-      | false ↦ λ e. found_behind test xs ys e
+      | false ↦ λ e. found_after test xs ys e
     ]) e
 
 has_found : (key : List ℕ) (os : List (List ℕ)) → has key os ≡ is_some (find (is_for key) os)
@@ -186,7 +186,7 @@ all_positionals [] pairs keyless = no_positionals pairs
 all_positionals (text ∷ texts) pairs keyless = grind (arith, nat_tests, all_positionals texts pairs keyless.1)
 
 said_is : (places : List (List ℕ)) (pairs : List (List ℕ × List ℕ)) → NoKeys places → Lettered pairs → by_key (places ++ map keyword_text pairs) ≡ by_spelling places pairs
-said_is places pairs keyless are = grind (arith, nat_tests, found_behind, none_for, under_pairs, all_positionals, under)
+said_is places pairs keyless are = grind (arith, nat_tests, found_after, none_for, under_pairs, all_positionals, under)
 
 -- ---- operands that fit pass
 
@@ -215,7 +215,7 @@ lettered row (pair ∷ pairs) letters fit = (key_letters row.keywords pair.0 fit
 
 -- what is not among some operands and is not the next one's key
 not_added : (key : List ℕ) (left : List (List ℕ)) (pair : List ℕ × List ℕ) → list_all is_letter pair.0 ≡ true → has key left ≡ false → bytes_eq pair.0 key ≡ false → has key (left ++ (keyword_text pair ∷ [])) ≡ false
-not_added key left pair h1 h2 h3 = grind (arith, nat_tests, found_behind, has_found, is_for_pair)
+not_added key left pair h1 h2 h3 = grind (arith, nat_tests, found_after, has_found, is_for_pair)
 
 abbrev Absent : List (List ℕ) → List (List ℕ × List ℕ) → Type 0
 Absent left pairs = AllByRecursion (λ pair. has pair.0 left ≡ false) pairs
@@ -361,8 +361,8 @@ known row e =
     record { word = record { some = not-true _ one.0; printed = one.1 }; there = not-true _ two.1; field = three.1; takes = four.1; forms = five.1; keys = six.1 }
 
 -- the operands after the form
-behind : (b : Bool) (form : List ℕ) (l : List (List ℕ)) → (if b then (if b then l else form ∷ l) else drop 1 (if b then l else form ∷ l)) ≡ l
-behind b form l = grind (arith, common_steps)
+trailing : (b : Bool) (form : List ℕ) (l : List (List ℕ)) → (if b then (if b then l else form ∷ l) else drop 1 (if b then l else form ∷ l)) ≡ l
+trailing b form l = grind (arith, common_steps)
 
 -- the first operand is the form, where the row has forms: it has no key, and the row is found by it
 form_checked : (b : Bool) (form : List ℕ) (l : List (List ℕ)) (takes : Bool) → (if b then not takes else takes) ≡ true → (b ≡ false → has_key form ≡ false)
@@ -451,7 +451,7 @@ module _ (first : Bool) (task : List ℕ) (row : Row) (form : List ℕ) (places 
   row_is = found_first row (is_empty row.forms) form list refl ok.form_is (held IsFound table ok.in_table.0 row each_found ok.in_table.1)
 
   front : operands_after_form row operands ≡ list
-  front = behind (is_empty row.forms) form list
+  front = trailing (is_empty row.forms) form list
 
   same : by_key list ≡ by_spelling places pairs
   same = said_is places pairs (keyless row.positional places ok.places_fit) letters

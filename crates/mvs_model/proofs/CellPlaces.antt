@@ -17,8 +17,8 @@ pub whole_has : (p : PlaceValue) (a : ℕ) → IsWhole p → has_address p a ≡
 whole_has p a w = let u : p.addr % 8 ≡ 0 = w.0 in let v : p.len % 8 ≡ 0 = w.1 in grind (arith, nat_tests)
 
 -- a later cell begins after the end of an earlier one
-pub behind_cell : (i j size : ℕ) → i < j → i * size + size ≤ j * size
-behind_cell i j size l = let m : suc i * size ≤ j * size = mul-le-mul_right size l in omega arith
+pub after_cell : (i j size : ℕ) → i < j → i * size + size ≤ j * size
+after_cell i j size l = let m : suc i * size ≤ j * size = mul-le-mul_right size l in omega arith
 
 -- a cell lies in its part
 pub cell_inside : (size : ℕ) (part : Part) (c a : ℕ) → part.place.len ≡ part_length size part.count → IsCellOf size part c → c ≤ a → a < c + size → Covers part.place (a / 8)
@@ -26,4 +26,4 @@ cell_inside size part c a h1 h2 h3 h4 = grind (arith, nat_tests)
 
 -- no two cells of a part have an address in common
 pub one_cell : (size : ℕ) (part : Part) (b c a : ℕ) → IsCellOf size part b → IsCellOf size part c → b ≤ a → a < b + size → c ≤ a → a < c + size → b ≡ c
-one_cell size part b c a h1 h2 h3 h4 h5 h6 = grind (arith, nat_tests, behind_cell)
+one_cell size part b c a h1 h2 h3 h4 h5 h6 = grind (arith, nat_tests, after_cell)

@@ -15,8 +15,8 @@ abbrev spelled : ℕ → List ℕ → ℕ
 spelled n [] = n
 spelled n (b ∷ bs) = spelled (n * 256 + b) bs
 
-behind : (b : ℕ) (bs : List ℕ) → AreBytes (b ∷ bs) → AreBytes bs
-behind b bs are k = are (suc k)
+trailing : (b : ℕ) (bs : List ℕ) → AreBytes (b ∷ bs) → AreBytes bs
+trailing b bs are k = are (suc k)
 
 -- what spells more at the front spells more
 rises : (m n : ℕ) (xs ys : List ℕ) → length xs ≡ length ys → AreBytes xs → AreBytes ys → m < n → spelled m xs < spelled n ys
@@ -25,21 +25,21 @@ rises m n [] (y ∷ ys) e bx by l = absurd (omega arith)
 rises m n (x ∷ xs) [] e bx by l = absurd (omega arith)
 rises m n (x ∷ xs) (y ∷ ys) e bx by l =
     let small : x < 2 ^ 8 = bx 0 in
-    rises (m * 256 + x) (n * 256 + y) xs ys (omega arith) (behind x xs bx) (behind y ys by) (omega arith)
+    rises (m * 256 + x) (n * 256 + y) xs ys (omega arith) (trailing x xs bx) (trailing y ys by) (omega arith)
 
 settles : (n : ℕ) (xs ys : List ℕ) → length xs ≡ length ys → AreBytes xs → AreBytes ys → slice_cmp nat_cmp xs ys ≡ nat_cmp (spelled n xs) (spelled n ys)
 settles n [] [] e bx by = nat_cmp_is n n Equal refl
 settles n [] (y ∷ ys) e bx by = absurd (omega arith)
 settles n (x ∷ xs) [] e bx by = absurd (omega arith)
-settles n (x ∷ xs) (y ∷ ys) e bx by = at (nat_cmp x y) (ranks x y) (settles (n * 256 + x) xs ys (omega arith) (behind x xs bx) (behind y ys by)) where
+settles n (x ∷ xs) (y ∷ ys) e bx by = at (nat_cmp x y) (ranks x y) (settles (n * 256 + x) xs ys (omega arith) (trailing x xs bx) (trailing y ys by)) where
   long : length xs ≡ length ys
   long = omega arith
 
   at : (r : Ordering) → MatchOrdering r (x < y) (x ≡ y) (y < x) → slice_cmp nat_cmp xs ys ≡ nat_cmp (spelled (n * 256 + x) xs) (spelled (n * 256 + x) ys)
       → ordering_then r (slice_cmp nat_cmp xs ys) ≡ nat_cmp (spelled (n * 256 + x) xs) (spelled (n * 256 + y) ys)
-  at Less h same = nat_cmp_is _ _ Less (rises (n * 256 + x) (n * 256 + y) xs ys long (behind x xs bx) (behind y ys by) (omega (arith, h, bx 0)))
+  at Less h same = nat_cmp_is _ _ Less (rises (n * 256 + x) (n * 256 + y) xs ys long (trailing x xs bx) (trailing y ys by) (omega (arith, h, bx 0)))
   at Equal h same = same ∙ ap (λ z. nat_cmp (spelled (n * 256 + x) xs) (spelled (n * 256 + z) ys)) h
-  at Greater h same = nat_cmp_is _ _ Greater (rises (n * 256 + y) (n * 256 + x) ys xs (sym long) (behind y ys by) (behind x xs bx) (omega (arith, h, by 0)))
+  at Greater h same = nat_cmp_is _ _ Greater (rises (n * 256 + y) (n * 256 + x) ys xs (sym long) (trailing y ys by) (trailing x xs bx) (omega (arith, h, by 0)))
 
 eight : (bs : List ℕ) → length bs ≡ 8 → from_be_bytes w64 bs ≡ spelled 0 bs
 eight bs h1 = grind (arith, common_steps)
@@ -56,7 +56,7 @@ same_spelled m n [] [] e bx by = sym (and-true (nat_eq m n))
 same_spelled m n [] (y ∷ ys) e bx by = absurd (omega arith)
 same_spelled m n (x ∷ xs) [] e bx by = absurd (omega arith)
 same_spelled m n (x ∷ xs) (y ∷ ys) e bx by =
-    same_spelled (m * 256 + x) (n * 256 + y) xs ys (omega arith) (behind x xs bx) (behind y ys by)
+    same_spelled (m * 256 + x) (n * 256 + y) xs ys (omega arith) (trailing x xs bx) (trailing y ys by)
     ∙ ap (λ t. t && pointwise nat_eq xs ys) (same_front m n x y (bx 0) (by 0))
     ∙ and_assoc (nat_eq m n) (nat_eq x y) (pointwise nat_eq xs ys)
 

@@ -10,8 +10,8 @@ use Rattle.mvs_model.specs.Name.{IsNameText, IsName, padded}
 byte_in : (text : List ℕ) (k : ℕ) → k < length text → get_or (padded text) k 0 ≡ get_or text k 0
 byte_in text k l = get_or-append text _ 0 k l
 
-byte_behind : (text : List ℕ) (k : ℕ) → length text ≤ k → k < 8 → get_or (padded text) k 0 ≡ 32
-byte_behind text k l h = get_or-append_right text _ k 0 l ∙ get_or-replicate (8 - length text) (k - length text) 32 0 (omega arith)
+byte_after : (text : List ℕ) (k : ℕ) → length text ≤ k → k < 8 → get_or (padded text) k 0 ≡ 32
+byte_after text k l h = get_or-append_right text _ k 0 l ∙ get_or-replicate (8 - length text) (k - length text) 32 0 (omega arith)
 
 pub padded_is_name : (text : List ℕ) → IsNameText text → IsName (padded text)
-padded_is_name text t = grind (arith, nat_tests, byte_in, byte_behind)
+padded_is_name text t = grind (arith, nat_tests, byte_in, byte_after)

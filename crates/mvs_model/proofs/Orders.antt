@@ -51,5 +51,5 @@ same_entry_is e d = tied_pair (name_cmp e.0 d.0) e.1 d.1
 pub differs : (m n : List ℕ) → same_name m n ≡ false → m ≢ n
 differs m n f e = let g : true ≡ false = sym (same_name_self n) ∙ ap (λ x. same_name x n) (sym e) ∙ f in cc
 
-pub told_apart : (m n : List ℕ) → m ≢ n → same_name m n ≡ false
-told_apart m n ne = false_from_ne_true (same_name m n) (λ e. ne (same_name_is m n e))
+pub names_differ : (m n : List ℕ) → m ≢ n → same_name m n ≡ false
+names_differ m n ne = false_from_ne_true (same_name m n) (λ e. ne (same_name_is m n e))

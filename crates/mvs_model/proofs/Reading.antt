@@ -177,14 +177,14 @@ all_enough =
 pub none_first : (check : Fault × Bool) (checks : List (Fault × Bool)) → first_of (check ∷ checks) ≡ None → (check.1 ≡ false) × (first_of checks ≡ None)
 none_first check checks h1 = grind (arith, nat_tests)
 
-pub none_behind : (front behind : List (Fault × Bool)) → first_of (front ++ behind) ≡ None → first_of behind ≡ None
-none_behind [] behind e = e
-none_behind (check ∷ front) behind e = none_behind front behind (none_first check (front ++ behind) e).1
+pub none_beyond : (front trailing : List (Fault × Bool)) → first_of (front ++ trailing) ≡ None → first_of trailing ≡ None
+none_beyond [] trailing e = e
+none_beyond (check ∷ front) trailing e = none_beyond front trailing (none_first check (front ++ trailing) e).1
 
 -- the row of a statement without a fault has what it needs
 pub row_says : (form : List ℕ) (operands : List (List ℕ)) (row : Row) → IsEnough row → first_of (row_checks operands (Some row)) ≡ None
     → is_some (statement_of row.meaning form (by_key (operands_after_form row operands))) ≡ true
-row_says form operands row h1 h2 = grind (arith, nat_tests, none_first, none_behind)
+row_says form operands row h1 h2 = grind (arith, nat_tests, none_first, none_beyond)
 
 -- so the line says something
 abbrev pub said_with : List ℕ → List ℕ → List (List ℕ) → Option Row → Option Line

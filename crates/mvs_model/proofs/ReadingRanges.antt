@@ -17,7 +17,7 @@ use Rattle.mvs_model.specs.declared.line.Line.TheVariants as line
 use Rattle.mvs_model.specs.Name.{padded}
 use Rattle.mvs_model.specs.Lines.{IsLine}
 use Rattle.mvs_model.specs.Reading.{LineOf, checks, is_blank_or_comment, statement_checks, row_checks, row_of, rows_of, operands_after_form, form_in, task_in, operation_in, operands_of}
-use Rattle.mvs_model.proofs.Reading.{found_has, passing_have, said_with, none_first, none_behind, none_later, first_fails}
+use Rattle.mvs_model.proofs.Reading.{found_has, passing_have, said_with, none_first, none_beyond, none_later, first_fails}
 use Rattle.mvs_model.proofs.ReadingTaken.{none_in_front, bytes_same}
 use Rattle.mvs_model.specs.ReadingLaws.{keyed}
 use Rattle.mvs_model.proofs.ReadingTaken.{under_key}
@@ -269,7 +269,7 @@ row_found operation operands row e = (
 row_ranged : (first : Bool) (t form operation : List ℕ) (operands : List (List ℕ)) (row : Row) (s : Statement) → IsRow row operation
     → (first && not (bytes_eq operation (codes "REGION"))) ≡ false
     → first_of (row_checks operands (Some row)) ≡ None → statement_of row.meaning form (by_key (operands_after_form row operands)) ≡ Some s → IsStatement first t s
-row_ranged first t form operation operands row s h1 h2 h3 h4 = grind (arith, nat_tests, first_fails, none_behind, none_first, none_in_front)
+row_ranged first t form operation operands row s h1 h2 h3 h4 = grind (arith, nat_tests, first_fails, none_beyond, none_first, none_in_front)
 
 statement_ranged : (first : Bool) (task operation : List ℕ) (operands : List (List ℕ)) (l : Line) → first_of (statement_checks first task operation operands) ≡ None
     → said_with task (form_in operation operands) operands (row_of operation operands) ≡ Some l → IsLine first (Ok l)

@@ -7,16 +7,16 @@ use Rattle.mvs_model.specs.Grammar.{Row}
 use Rattle.mvs_model.specs.Reading.{first_of, operand_checks, with_left, kind_of, if_kind, is_of, is_within, text_of, has_key, key_of, is_for, value_of}
 use Rattle.std.specs.List.{list_any}
 use Rattle.mvs_model.specs.ReadingLaws.{Taken, IsTaken, keyed}
-use Rattle.mvs_model.proofs.Reading.{none_later, first_fails, none_behind}
+use Rattle.mvs_model.proofs.Reading.{none_later, first_fails, none_beyond}
 use Rattle.mvs_model.proofs.Tests.{false_true, none_some}
 pub use Rattle.std.proofs.lemmas.Bool.{and_parts as and_true, eqb-true as nat_same}
 
-pub none_in_front : (front behind : List (Fault × Bool)) → first_of (front ++ behind) ≡ None → first_of front ≡ None
-none_in_front [] behind e = refl
-none_in_front (check ∷ front) behind e =
-    (elim check.1 as (λ b. (if b then Some check.0 else first_of (front ++ behind)) ≡ None → (if b then Some check.0 else first_of front) ≡ None) [
+pub none_in_front : (front trailing : List (Fault × Bool)) → first_of (front ++ trailing) ≡ None → first_of front ≡ None
+none_in_front [] trailing e = refl
+none_in_front (check ∷ front) trailing e =
+    (elim check.1 as (λ b. (if b then Some check.0 else first_of (front ++ trailing)) ≡ None → (if b then Some check.0 else first_of front) ≡ None) [
       | true ↦ λ e. e
-      | false ↦ λ e. none_in_front front behind e
+      | false ↦ λ e. none_in_front front trailing e
     ]) e
 
 -- an operand that no check is against is taken
@@ -39,9 +39,9 @@ all_taken : (row : Row) (put : List (List ℕ) → List (List ℕ)) (os : List (
     → (o : List ℕ) (test : List ℕ → Bool) → find test os ≡ Some o → (left : List (List ℕ)) × Taken row left o × (test o ≡ true)
 all_taken row put [] e o test f = none_some f
 all_taken row put (x ∷ os) e o test f =
-    let behind : List (Fault × Bool) = flat_map (operand_checks row) (under put (under (λ left. x ∷ left) (with_left os))) in
-    let here : first_of (operand_checks row (put [], x)) ≡ None = none_in_front (operand_checks row (put [], x)) behind e in
-    let later : first_of behind ≡ None = none_behind (operand_checks row (put [], x)) behind e in
+    let trailing : List (Fault × Bool) = flat_map (operand_checks row) (under put (under (λ left. x ∷ left) (with_left os))) in
+    let here : first_of (operand_checks row (put [], x)) ≡ None = none_in_front (operand_checks row (put [], x)) trailing e in
+    let later : first_of trailing ≡ None = none_beyond (operand_checks row (put [], x)) trailing e in
     (elim (test x) as (λ b. test x ≡ b → (if b then Some x else find test os) ≡ Some o → (left : List (List ℕ)) × Taken row left o × (test o ≡ true)) [
       | true ↦ λ t f.
           let same : x ≡ o = (let g : Some x ≡ Some o = f in cc) in

@@ -34,11 +34,11 @@ name_is_printed b e = grind (arith, nat_tests)
 
 -- ---- cut at blanks
 
-pub blank_behind : (xs rest : List ℕ) → list_all printed xs ≡ true → slice_split (λ b. b == 32) (xs ++ 32 ∷ rest) ≡ xs ∷ slice_split (λ b. b == 32) rest
-blank_behind [] rest e = refl
-blank_behind (x ∷ xs) rest e =
+pub blank_after : (xs rest : List ℕ) → list_all printed xs ≡ true → slice_split (λ b. b == 32) (xs ++ 32 ∷ rest) ≡ xs ∷ slice_split (λ b. b == 32) rest
+blank_after [] rest e = refl
+blank_after (x ∷ xs) rest e =
     let a = and_parts (printed x) (list_all printed xs) e in
-    slice_split-cons_no (λ b. b == 32) x (xs ++ 32 ∷ rest) (printed_no_blank x a.0) ∙ ap (onto_first x) (blank_behind xs rest a.1)
+    slice_split-cons_no (λ b. b == 32) x (xs ++ 32 ∷ rest) (printed_no_blank x a.0) ∙ ap (onto_first x) (blank_after xs rest a.1)
 
 pub no_blank : (xs : List ℕ) → list_all printed xs ≡ true → slice_split (λ b. b == 32) xs ≡ xs ∷ []
 no_blank [] e = refl
@@ -53,7 +53,7 @@ two_kept : (a b : List ℕ) → is_empty a ≡ false → is_empty b ≡ false �
 two_kept a b h1 h2 = grind (arith, nat_tests)
 
 pub words_are : (a b c : List ℕ) → IsWord a → IsWord b → IsWord c → words (a ++ (32 ∷ (b ++ (32 ∷ c)))) ≡ a ∷ b ∷ c ∷ []
-words_are a b c h1 h2 h3 = grind (arith, nat_tests, blank_behind, no_blank, three_kept)
+words_are a b c h1 h2 h3 = grind (arith, nat_tests, blank_after, no_blank, three_kept)
 
 pub before_blank : (xs rest : List ℕ) → list_all printed xs ≡ true → before_first (λ b. b == 32) (xs ++ 32 ∷ rest) ≡ xs
 before_blank [] rest e = refl
@@ -79,15 +79,15 @@ last_part opened (x ∷ xs) e =
     let a = and_parts (not ((x == 44) && (opened == 0))) (closes (opened_by opened x) xs) e in
     not_cut opened x xs (xs ∷ []) (not-true _ a.0) (last_part (opened_by opened x) xs a.1)
 
-part_behind : (opened : ℕ) (xs rest : List ℕ) → closes opened xs ≡ true → parts_within opened (xs ++ 44 ∷ rest) ≡ xs ∷ parts_within 0 rest
-part_behind opened [] rest e = ap (λ t. if t then [] ∷ parts_within 0 rest else onto_first 44 (parts_within (opened_by opened 44) rest)) e
-part_behind opened (x ∷ xs) rest e =
+part_after : (opened : ℕ) (xs rest : List ℕ) → closes opened xs ≡ true → parts_within opened (xs ++ 44 ∷ rest) ≡ xs ∷ parts_within 0 rest
+part_after opened [] rest e = ap (λ t. if t then [] ∷ parts_within 0 rest else onto_first 44 (parts_within (opened_by opened 44) rest)) e
+part_after opened (x ∷ xs) rest e =
     let a = and_parts (not ((x == 44) && (opened == 0))) (closes (opened_by opened x) xs) e in
-    not_cut opened x (xs ++ 44 ∷ rest) (xs ∷ parts_within 0 rest) (not-true _ a.0) (part_behind (opened_by opened x) xs rest a.1)
+    not_cut opened x (xs ++ 44 ∷ rest) (xs ∷ parts_within 0 rest) (not-true _ a.0) (part_after (opened_by opened x) xs rest a.1)
 
 parts_are : (x : List ℕ) (xs : List (List ℕ)) → AllByRecursion IsOperand (x ∷ xs) → parts_within 0 (joined (x ∷ xs)) ≡ x ∷ xs
 parts_are x [] is = last_part 0 x is.0.closed
-parts_are x (y ∷ ys) is = part_behind 0 x (joined (y ∷ ys)) is.0.closed ∙ ap (λ l. x ∷ l) (parts_are y ys is.1)
+parts_are x (y ∷ ys) is = part_after 0 x (joined (y ∷ ys)) is.0.closed ∙ ap (λ l. x ∷ l) (parts_are y ys is.1)
 
 -- ---- the line
 
@@ -112,7 +112,7 @@ pub plain_word : (a : List ℕ) → IsWord a → list_all plain a ≡ true
 plain_word a is = all_weaker printed plain printed_is_plain a is.printed
 
 two_words : (a b : List ℕ) → IsWord a → IsWord b → words (a ++ (32 ∷ (b ++ (32 ∷ [])))) ≡ a ∷ b ∷ []
-two_words a b h1 h2 = grind (arith, nat_tests, blank_behind, two_kept)
+two_words a b h1 h2 = grind (arith, nat_tests, blank_after, two_kept)
 
 -- a line without operands
 cut_bare : (task operation : List ℕ) → is_name task ≡ true → IsWord operation → IsCut task operation [] (line_text task operation [])

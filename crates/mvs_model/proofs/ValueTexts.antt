@@ -82,12 +82,12 @@ pub record Writes (n : ℕ) (text : List ℕ) : Type 0 where
   pub digits : list_all is_digit text ≡ true
   pub value : number text ≡ n
 
-counted_behind : (so_far : ℕ) (text : List ℕ) (b : ℕ) → counted so_far (text ++ (b ∷ [])) ≡ counted so_far text * 10 + (b - 48)
-counted_behind so_far [] b = refl
-counted_behind so_far (c ∷ text) b = counted_behind (so_far * 10 + (c - 48)) text b
+counted_after : (so_far : ℕ) (text : List ℕ) (b : ℕ) → counted so_far (text ++ (b ∷ [])) ≡ counted so_far text * 10 + (b - 48)
+counted_after so_far [] b = refl
+counted_after so_far (c ∷ text) b = counted_after (so_far * 10 + (c - 48)) text b
 
 number_after : (text : List ℕ) (b : ℕ) → number (text ++ (b ∷ [])) ≡ number text * 10 + (b - 48)
-number_after text b = sym (counted_all (text ++ (b ∷ []))) ∙ counted_behind 0 text b ∙ ap (λ n. n * 10 + (b - 48)) (counted_all text)
+number_after text b = sym (counted_all (text ++ (b ∷ []))) ∙ counted_after 0 text b ∙ ap (λ n. n * 10 + (b - 48)) (counted_all text)
 
 one_digit : (n : ℕ) → n < 10 → Writes n ((48 + n) ∷ [])
 one_digit n small = record { some = refl; digits = (let e : is_digit (48 + n) ≡ true = grind (arith, nat_tests) in and_from (is_digit (48 + n)) true e refl); value = (let e : (48 + n - 48) * 1 + 0 ≡ n = omega arith in e) }
@@ -107,12 +107,12 @@ decimal_writes n small = decimal_by_steps Writes one_digit digit_more n small
 
 -- ---- hexadecimal digits
 
-hex_counted_behind : (so_far : ℕ) (text : List ℕ) (b : ℕ) → hex_counted so_far (text ++ (b ∷ [])) ≡ hex_counted so_far text * 16 + hex_digit b
-hex_counted_behind so_far [] b = refl
-hex_counted_behind so_far (c ∷ text) b = hex_counted_behind (so_far * 16 + hex_digit c) text b
+hex_counted_after : (so_far : ℕ) (text : List ℕ) (b : ℕ) → hex_counted so_far (text ++ (b ∷ [])) ≡ hex_counted so_far text * 16 + hex_digit b
+hex_counted_after so_far [] b = refl
+hex_counted_after so_far (c ∷ text) b = hex_counted_after (so_far * 16 + hex_digit c) text b
 
-hex_number_behind : (text : List ℕ) (b : ℕ) → hex_number (text ++ (b ∷ [])) ≡ hex_number text * 16 + hex_digit b
-hex_number_behind text b = sym (hex_counted_all (text ++ (b ∷ []))) ∙ hex_counted_behind 0 text b ∙ ap (λ n. n * 16 + hex_digit b) (hex_counted_all text)
+hex_number_after : (text : List ℕ) (b : ℕ) → hex_number (text ++ (b ∷ [])) ≡ hex_number text * 16 + hex_digit b
+hex_number_after text b = sym (hex_counted_all (text ++ (b ∷ []))) ∙ hex_counted_after 0 text b ∙ ap (λ n. n * 16 + hex_digit b) (hex_counted_all text)
 
 -- the glyph of a digit is one, and says it
 glyph_says : (d : ℕ) → d < 16 → (is_hex_digit (glyph d) ≡ true) × (hex_digit (glyph d) ≡ d)
@@ -133,7 +133,7 @@ hex_writes (suc k) n small =
     record {
       many = length-append (hex k (n / 16)) (glyph (n % 16) ∷ []) ∙ (let e : length (hex k (n / 16)) + 1 ≡ suc k = omega (arith, w.many) in e);
       digits = all_append is_hex_digit (hex k (n / 16)) (glyph (n % 16) ∷ []) w.digits (and_from (is_hex_digit (glyph (n % 16))) true g.0 refl);
-      value = hex_number_behind (hex k (n / 16)) (glyph (n % 16)) ∙ (λ i. w.value i * 16 + g.1 i) ∙ (let e : n / 16 * 16 + n % 16 ≡ n = omega arith in e);
+      value = hex_number_after (hex k (n / 16)) (glyph (n % 16)) ∙ (λ i. w.value i * 16 + g.1 i) ∙ (let e : n / 16 * 16 + n % 16 ≡ n = omega arith in e);
     }
 
 -- ---- lists
@@ -147,11 +147,11 @@ back_of xs ys = grind (arith, common_steps)
 abbrev EachSimple : List (List ℕ) → Type 0
 EachSimple texts = AllByRecursion AllSimple texts
 
-comma_behind : (text rest : List ℕ) → AllSimple text → slice_split (λ b. b == 44) (text ++ (44 ∷ rest)) ≡ text ∷ slice_split (λ b. b == 44) rest
-comma_behind [] rest e = refl
-comma_behind (b ∷ text) rest e =
+comma_after : (text rest : List ℕ) → AllSimple text → slice_split (λ b. b == 44) (text ++ (44 ∷ rest)) ≡ text ∷ slice_split (λ b. b == 44) rest
+comma_after [] rest e = refl
+comma_after (b ∷ text) rest e =
     let a = and_parts (simple b) (list_all simple text) e in
-    slice_split-cons_no (λ b. b == 44) b (text ++ (44 ∷ rest)) (simple_is b a.0).no_comma ∙ ap (onto_first b) (comma_behind text rest a.1)
+    slice_split-cons_no (λ b. b == 44) b (text ++ (44 ∷ rest)) (simple_is b a.0).no_comma ∙ ap (onto_first b) (comma_after text rest a.1)
 
 no_comma : (text : List ℕ) → AllSimple text → slice_split (λ b. b == 44) text ≡ text ∷ []
 no_comma [] e = refl
@@ -161,7 +161,7 @@ no_comma (b ∷ text) e =
 
 split_joined : (text : List ℕ) (texts : List (List ℕ)) → EachSimple (text ∷ texts) → slice_split (λ b. b == 44) (joined (text ∷ texts)) ≡ text ∷ texts
 split_joined text [] each = no_comma text each.0
-split_joined text (next ∷ texts) each = comma_behind text (joined (next ∷ texts)) each.0 ∙ ap (λ l. text ∷ l) (split_joined next texts each.1)
+split_joined text (next ∷ texts) each = comma_after text (joined (next ∷ texts)) each.0 ∙ ap (λ l. text ∷ l) (split_joined next texts each.1)
 
 joined_past : (text : List ℕ) (texts : List (List ℕ)) (rest : List ℕ) → EachSimple (text ∷ texts) → closes 1 (joined (text ∷ texts) ++ rest) ≡ closes 1 rest
 joined_past text [] rest each = closes_past 1 text rest each.0
@@ -305,9 +305,9 @@ plus_at (b ∷ name) text e =
 has_plus : (name text : List ℕ) → list_any is_plus (name ++ (43 ∷ text)) ≡ true
 has_plus name text = grind (arith, common_steps, or_right)
 
-behind_plus : (name text : List ℕ) → drop (suc (length name)) (name ++ (43 ∷ text)) ≡ text
-behind_plus [] text = refl
-behind_plus (b ∷ name) text = behind_plus name text
+after_plus : (name text : List ℕ) → drop (suc (length name)) (name ++ (43 ∷ text)) ≡ text
+after_plus [] text = refl
+after_plus (b ∷ name) text = after_plus name text
 
 -- a name is not the beginning of X'..'
 no_quote_at : (b c : ℕ) (text : List ℕ) → list_all is_name_byte (b ∷ c ∷ text) ≡ true → ((b == 88) && ((c == 39) && true)) ≡ false
@@ -334,7 +334,7 @@ name_with name digits e figures range =
     let unquoted : is_quoted text ≡ false = not_quoted (nat_le 3 (length text)) _ _ (no_quote name digits bytes.0 bytes.1) in
     let before : before_first is_plus text ≡ name = ap (λ k. take k text) (plus_at name digits bytes.1) ∙ front_of name (43 ∷ digits) in
     let one : length name + 1 ≡ suc (length name) = omega arith in
-    let after : after_first is_plus text ≡ digits = ap (λ k. drop (k + 1) text) (plus_at name digits bytes.1) ∙ ap (λ k. drop k text) one ∙ behind_plus name digits in
+    let after : after_first is_plus text ≡ digits = ap (λ k. drop (k + 1) text) (plus_at name digits bytes.1) ∙ ap (λ k. drop k text) one ∙ after_plus name digits in
     let s : AllSimple text = distance_simple name digits e d.1 in
     let some : is_empty text ≡ false = append_some name (43 ∷ digits) bytes.0 in (
       record {
@@ -373,8 +373,8 @@ plus_nowhere (b ∷ name) e =
 take_whole : (text : List ℕ) → take (length text) text ≡ text
 take_whole text = grind (arith, common_steps)
 
-none_behind : (text : List ℕ) → drop (suc (length text)) text ≡ []
-none_behind text = grind (arith, common_steps)
+none_beyond : (text : List ℕ) → drop (suc (length text)) text ≡ []
+none_beyond text = grind (arith, common_steps)
 
 pub name_alone : (name : List ℕ) → is_name name ≡ true → FitsAlone Address name × (location name ≡ Named (padded name) 0)
 name_alone name e =
@@ -382,7 +382,7 @@ name_alone name e =
     let unquoted : is_quoted name ≡ false = not_quoted (nat_le 3 (length name)) _ _ (alone_unquoted name bytes.0 bytes.1) in
     let before : before_first is_plus name ≡ name = ap (λ k. take k name) (plus_nowhere name bytes.1) ∙ take_whole name in
     let one : length name + 1 ≡ suc (length name) = omega arith in
-    let after : after_first is_plus name ≡ [] = ap (λ k. drop (k + 1) name) (plus_nowhere name bytes.1) ∙ ap (λ k. drop k name) one ∙ none_behind name in
+    let after : after_first is_plus name ≡ [] = ap (λ k. drop (k + 1) name) (plus_nowhere name bytes.1) ∙ ap (λ k. drop k name) one ∙ none_beyond name in
     let none = no_plus name bytes.1 in (
       record {
         fits = record {

@@ -49,18 +49,18 @@ module _ (start before one two now : Option (List ℕ)) (script text line next :
     unfolding is_faulty
     on = ap (λ f. if f then [] else questions (line_meaning line) ++ with_queries (first && is_blank_or_comment line) (lines_of next)) (ap is_some said.no_fault) ∙ ap (λ o. questions o ++ with_queries (first && is_blank_or_comment line) (lines_of next)) said.says
 
-    behind : with_queries true (lines_of script) ≡ (((s.0 ++ line) ++ 10 ∷ []) ++ questions (Some l)) ++ with_queries (first && is_blank_or_comment line) (lines_of next)
-    behind = whole ∙ ap (λ t. ((s.0 ++ line) ++ 10 ∷ []) ++ t) on ∙ sym (append_assoc ((s.0 ++ line) ++ 10 ∷ []) (questions (Some l)) (with_queries (first && is_blank_or_comment line) (lines_of next)))
+    trailing : with_queries true (lines_of script) ≡ (((s.0 ++ line) ++ 10 ∷ []) ++ questions (Some l)) ++ with_queries (first && is_blank_or_comment line) (lines_of next)
+    trailing = whole ∙ ap (λ t. ((s.0 ++ line) ++ 10 ∷ []) ++ t) on ∙ sym (append_assoc ((s.0 ++ line) ++ 10 ∷ []) (questions (Some l)) (with_queries (first && is_blank_or_comment line) (lines_of next)))
 
     pub in_questions : Appends before one line → Appends one two (10 ∷ []) → AppendsFront two now (questions (Some l)) → AppendsFront start now (with_queries true (lines_of script))
     in_questions a b front =
-        subst (AppendsFront start now) (sym behind)
+        subst (AppendsFront start now) (sym trailing)
         (front_longer start now (((s.0 ++ line) ++ 10 ∷ []) ++ questions (Some l)) (with_queries (first && is_blank_or_comment line) (lines_of next)) (front_more start two now ((s.0 ++ line) ++ 10 ∷ []) (questions (Some l)) (to_end a b) front))
 
     pub line_asked : (nothing : Bool) → nothing ≡ is_blank_or_comment line → Appends before one line → Appends one two (10 ∷ []) → Appends two now (questions (Some l)) → SoFar start now script (first && nothing) next
     line_asked nothing is a b c =
         subst (λ n. SoFar start now script (first && n) next) (sym is)
-        (((s.0 ++ line) ++ 10 ∷ []) ++ questions (Some l), Appends-trans start two now ((s.0 ++ line) ++ 10 ∷ []) (questions (Some l)) (to_end a b) c, behind)
+        (((s.0 ++ line) ++ 10 ∷ []) ++ questions (Some l), Appends-trans start two now ((s.0 ++ line) ++ 10 ∷ []) (questions (Some l)) (to_end a b) c, trailing)
 
 pub nothing_asked : (start : Option (List ℕ)) (script : List ℕ) → SoFar start start script true script
 nothing_asked start script = ([], Appends-nil start, refl)

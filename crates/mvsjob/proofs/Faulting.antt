@@ -66,8 +66,8 @@ module _ (text rest : List ℕ) (number : ℕ) (first : Bool) (at passed end : �
   here : lines_of (drop at text) ≡ take end rest ∷ lines_of (drop (end + 1) rest)
   here = ap lines_of (sym is) ∙ cut
 
-  behind : drop (end + 1) rest ≡ drop (at + (end + 1)) text
-  behind = ap (drop (end + 1)) is ∙ drop-drop (end + 1) at text
+  trailing : drop (end + 1) rest ≡ drop (at + (end + 1)) text
+  trailing = ap (drop (end + 1)) is ∙ drop-drop (end + 1) at text
 
   further : (o : Option Fault) → first_of (checks is_first (take end rest)) ≡ o → first_fault number first (lines_of text) ≡ fault_at (number + passed) o (first_fault (number + passed + 1) (is_first && is_blank_or_comment (take end rest)) (lines_of (drop (end + 1) rest)))
   further o e = p.same ∙ ap (first_fault (number + passed) is_first) here ∙ ap (λ o. fault_at (number + passed) o (first_fault (number + passed + 1) (is_first && is_blank_or_comment (take end rest)) (lines_of (drop (end + 1) rest)))) e
@@ -75,13 +75,13 @@ module _ (text rest : List ℕ) (number : ℕ) (first : Bool) (at passed end : �
   pub passed_next : (l : Line) (nothing : Bool) → LineOf is_first (take end rest) l → nothing ≡ is_blank_or_comment (take end rest) → Passed text number first (at + (end + 1)) (passed + 1) (is_first && nothing)
   passed_next l nothing said e = record {
     before = p.before ++ take end rest ∷ [];
-    lines = p.lines ∙ ap (λ ls. p.before ++ ls) here ∙ sym (append_assoc p.before (take end rest ∷ []) (lines_of (drop (end + 1) rest))) ∙ ap (λ t. (p.before ++ take end rest ∷ []) ++ lines_of t) behind;
+    lines = p.lines ∙ ap (λ ls. p.before ++ ls) here ∙ sym (append_assoc p.before (take end rest ∷ []) (lines_of (drop (end + 1) rest))) ∙ ap (λ t. (p.before ++ take end rest ∷ []) ++ lines_of t) trailing;
     counted = let f = length-append p.before (take end rest ∷ []) in omega (arith, f, p.counted);
     few = omega (arith, p.few);
     same =
         let n : number + passed + 1 ≡ number + (passed + 1) = omega arith in
         further None said.no_fault ∙ ap (λ n. first_fault n (is_first && is_blank_or_comment (take end rest)) (lines_of (drop (end + 1) rest))) n ∙ ap (λ b. first_fault (number + (passed + 1)) (is_first && b) (lines_of (drop (end + 1) rest))) (sym e)
-        ∙ ap (λ t. first_fault (number + (passed + 1)) (is_first && nothing) (lines_of t)) behind;
+        ∙ ap (λ t. first_fault (number + (passed + 1)) (is_first && nothing) (lines_of t)) trailing;
   }
 
   pub fault_here : (printed : ℕ) (fault : Fault) → printed ≡ number + passed → FaultOf is_first (take end rest) fault → IsFirstFault number first (lines_of text) printed fault

@@ -11,7 +11,7 @@ const broken=text=>plain(text).replace(/,/g,",<wbr>"); // A statement may be bro
 const count=(number,word)=>`${number} ${word}${number===1?"":"s"}`,plain=text=>text.replace(/&/g,"&amp;").replace(/</g,"&lt;");
 const round=number=>+number.toFixed(2),end=range=>range.at+range.length,overlap=(one,other)=>one.at<end(other)&&end(one)>other.at;
 const pageOf=at=>floor(at/PAGE),rounded=length=>ceil(length/8)*8;
-// A subpool has one of seven hues and one of three patterns, so that 21 subpools are told apart.
+// A subpool has one of seven hues and one of three patterns, so that 21 subpools look different.
 const HUES=7,PATTERNS=3,patternOf=({colour})=>floor(colour/HUES)%PATTERNS;
 const hueOf=subpool=>`h${subpool.colour%HUES}${patternOf(subpool)?" p"+patternOf(subpool):""}`;
 const named=subpool=>`SP ${subpool.number} of ${subpool.owner}`;
@@ -85,7 +85,7 @@ class State{
  begin(statement){
   this.statement=statement;this.index=statement.index;
   this.done={granted:[],freed:[],read:[],written:[],asked:[],cells:[],returned:[],entries:[],lost:[],attached:[],ended:[]}}
- areaBehind(at){ // The index of the first area that ends behind an address.
+ areaAfter(at){ // The index of the first area that ends after an address.
   let low=0,high=this.areas.length;
   while(low<high){
    const middle=(low+high)>>1;
@@ -93,10 +93,10 @@ class State{
   return low}
  areasIn(range){
   const found=[];
-  for(let k=this.areaBehind(range.at);k<this.areas.length&&this.areas[k].at<end(range);k++)found.push(this.areas[k]);
+  for(let k=this.areaAfter(range.at);k<this.areas.length&&this.areas[k].at<end(range);k++)found.push(this.areas[k]);
   return found}
  wholeArea(page){ // The area of more than two pages that fills a page.
-  const area=this.areas[this.areaBehind(page*PAGE)];
+  const area=this.areas[this.areaAfter(page*PAGE)];
   const whole=area&&!area.pool&&area.length>2*PAGE&&area.at<=page*PAGE&&end(area)>=(page+1)*PAGE;return whole?area:null}
  subpoolOf(page){const found=this.pages.get(page);return found?found.subpool:null}
  account(area,sign){ // Adds an area to its pages (sign 1), or takes it away (-1).
@@ -117,7 +117,7 @@ class State{
   return at>=part.cells&&cell+pool.size<=part.cells+part.count*pool.size&&pool.taken.has(cell)}
  grant(area){
   if(!area.pool)this.fillBytes(area);
-  Object.assign(area,{first:area.at,since:this.index});this.areas.splice(this.areaBehind(area.at),0,area);
+  Object.assign(area,{first:area.at,since:this.index});this.areas.splice(this.areaAfter(area.at),0,area);
   this.account(area,1);this.done.granted.push(area)}
  noteFreed(area){this.done.freed.push(area);this.account(area,-1)}
  free(range){ // Frees a range, in which areas may lie in part.
@@ -127,7 +127,7 @@ class State{
    if(area.at<from)kept.push(cut(area.at,from));
    if(to<end(area))kept.push(cut(to,end(area)));
    this.noteFreed(cut(from,to))}
-  this.areas.splice(this.areaBehind(range.at),found.length,...kept)}
+  this.areas.splice(this.areaAfter(range.at),found.length,...kept)}
  freeAll(test){
   const found=this.areas.filter(test);this.areas=this.areas.filter(area=>!test(area));
   found.forEach(area=>this.noteFreed(area))}
@@ -196,7 +196,7 @@ const CHANGES={ // What each line of change does to the state.
   state.writeBytes(range.at,digits.match(/../g).map(byte=>parseInt(byte,16)))},
  LOOK:(state,at,length)=>state.done.asked.push(rangeOf(at,length)),
  END:(state,name,...how)=>state.endTask(name,how.join(" "))};
-function apply(before,statement){ // The state behind the next statement.
+function apply(before,statement){ // The state after the next statement.
  const{changes}=statement,state=statement.begins?new State(before.step+1,changes[0][2],changes[0][4],changes[0][6]):before;
  state.begin(statement);for(const[word,...operands]of changes)if(CHANGES[word])CHANGES[word](state,...operands);
  return state}
@@ -251,12 +251,12 @@ function drawRegions(state,width,most,small,shown){ // The regions: some pages o
  const{narrow,margin,ruler}=layoutOf(width,small),columns=narrow?32:64,touched=touchedPages.get(state.step)||new Set();
  const room=floor((width-margin-ruler-2)/columns*2)/2,wide=small?min(room,8):room,across=wide*columns,size=small?9.5:11;
  const tall=small?7:narrow?10:touched.size<=1?15:touched.size<=2?13:11,many=state.below+state.above>24;
- const regions=[["below 16 MB",BELOW,BELOW+state.below]],told=[],{changed,marked}=changedPages(state);
+ const regions=[["below 16 MB",BELOW,BELOW+state.below]],descriptions=[],{changed,marked}=changedPages(state);
  if(state.above)regions.push(["above 16 MB",ABOVE,ABOVE+state.above]);
  const stale=[...state.names.keys()].filter(name=>state.isStale(name));
- const plan={state,columns,rows:512/columns,margin,ruler,wide,across,tall,size,small,shown,stale,told},chosen=choose();
+ const plan={state,columns,rows:512/columns,margin,ruler,wide,across,tall,size,small,shown,stale,descriptions},chosen=choose();
  let y=0,svg="";regions.forEach(region=>drawRegion(...region));
- return picture(margin+across+ruler+2,ceil(y),"Storage after the statement",told.slice(0,60).join("; "),svg);
+ return picture(margin+across+ruler+2,ceil(y),"Storage after the statement",descriptions.slice(0,60).join("; "),svg);
  function choose(){ // The pages drawn one by one: those changed, and those of late.
   const since=page=>(state.pages.get(page)||{since:0}).since,inside=page=>regions.some(([,first,stop])=>page>=first&&page<stop);
   const wanted=new Set([...state.pages.keys(),...changed].filter(page=>inside(page)&&(state.subpoolOf(page)||changed.has(page))));
@@ -295,7 +295,7 @@ function drawRegions(state,width,most,small,shown){ // The regions: some pages o
   const here={at:page*PAGE,length:PAGE},area=state.wholeArea(page);
   if(state.subpoolOf(page))return area&&(!many||area.since===state.index)?area:"used";
   return state.done.freed.find(freed=>freed.at<=here.at&&end(freed)>=end(here))||(many?"used":"free")}
- function drawBar(first,limit){ // A bar for pages of one kind; answers the page behind them.
+ function drawBar(first,limit){ // A bar for pages of one kind; returns the page after them.
   const kind=kindOf(first),top=y+12,box=look=>rect(margin,top,across,9,look);let stop=first+1,text="",look="";
   while(stop<limit&&!chosen.has(stop)&&kindOf(stop)===kind)stop++;
   const pages=count(stop-first,"page"),{held}=shareHeld(state,first,stop);
@@ -305,9 +305,9 @@ function drawRegions(state,width,most,small,shown){ // The regions: some pages o
    svg+=strip(state,first,stop,margin,top,across,9)+(kind.since===state.index?box("edge"):"");
    text=kind!=="used"?`${kind.name}, ${pages} full`:pages+(held?`: ${count(held,"byte")} held`:" free")}
   svg+=words(margin,y+9,text,10,look);if(margin)svg+=words(0,y+10,hex(first*PAGE),size,"soft");
-  told.push(`${hex(first*PAGE)}: ${text}`);y+=small?24:27;return stop}}
-function drawPage(plan,number,y){ // A page, as rows of doublewords. A span has its first doubleword, and the one behind it.
- const{state,columns,rows,margin,ruler,wide,across,tall,size,small,shown,stale,told}=plan,{done,index}=state;
+  descriptions.push(`${hex(first*PAGE)}: ${text}`);y+=small?24:27;return stop}}
+function drawPage(plan,number,y){ // A page, as rows of doublewords. A span has its first doubleword, and the one after it.
+ const{state,columns,rows,margin,ruler,wide,across,tall,size,small,shown,stale,descriptions}=plan,{done,index}=state;
  const page={at:number*PAGE,length:PAGE},{subpool,held}=state.pages.get(number)||{subpool:null,held:0},top=y+(margin?0:14);
  const left=column=>margin+column*wide,above=row=>top+row*tall,grid=()=>Array.from({length:rows},()=>new Array(columns).fill(false));
  // Labels must not cover what is written or occupied.
@@ -334,7 +334,7 @@ function drawPage(plan,number,y){ // A page, as rows of doublewords. A span has 
  function label(range,text,extra,kind,isNew){labels.push({text,extra,kind,isNew,...spanOf(range)})}
  function occupy(area){
   const{first,stop}=spanOf(area);for(let k=first;k<stop;k++)occupied[floor(k/columns)][k%columns]=true;
-  told.push(titleOf(area))}
+  descriptions.push(titleOf(area))}
  function drawGround(){
   let lines="";for(let row=1;row<rows;row++)lines+=`M${margin} ${above(row)}h${across}`;
   for(let column=8;column<columns;column+=8)lines+=`M${left(column)} ${top}v${rows*tall}`;
@@ -357,7 +357,7 @@ function drawPage(plan,number,y){ // A page, as rows of doublewords. A span has 
   const start=left(from-column)+.7;return`M${start} ${above(row)+1.2}H${left(to-column)-.7}v${tall-2.4}H${start}z`}
  function drawFreed(area){
   marks+=path(outline(area),"freed",`freed: ${area.name} ${hex(area.at)}`);
-  told.push(`freed: ${area.name}, ${count(area.length,"byte")} at ${hex(area.at)}`);
+  descriptions.push(`freed: ${area.name}, ${count(area.length,"byte")} at ${hex(area.at)}`);
   if(area.pool)label(area,area.name,"","gone",false)}
  function drawStale(){ // The stale names; of many, those of what is freed now.
   const freed=done.freed.concat(done.returned);
@@ -390,7 +390,7 @@ function drawPage(plan,number,y){ // A page, as rows of doublewords. A span has 
   for(const k of order.slice(0,9)){
    const first=k===row?from:0,stop=min((k===last?to:columns)-columnsOf(text),first+39);
    for(let column=first;column<=stop;column++)yield[k,column,text,true]}}
- function*spotsBeside(label,text){ // Behind an area, below, or above; about a cell.
+ function*spotsBeside(label,text){ // To the right of an area, below, or above; about a cell.
   const{row,last,from,to}=cornersOf(label),fit=min(from,columns-columnsOf(text));
   if(label.kind==="cell")for(const by of[-1,1,2,3])yield[row+by,from,text];
   else yield*[[last,to,text],[last+1,max(0,fit),text],[row-1,fit,text],[last+2,fit,text]];
@@ -428,7 +428,7 @@ function drawCloseUp(state,width,shown,small){ // The close-up: bytes, and below
  function label(range,text,kind){ // A text in the middle of a range, where it has room.
   const from=left(range.at),to=left(end(range));
   return to-from<text.length*7.2+4?"":words((from+to)/2,top+height/2+4,text,12,kind+" halo middle")}
- function drawGround(){ // The pages behind the bytes, doublewords, and offsets.
+ function drawGround(){ // The pages under the bytes, doublewords, and offsets.
   let svg="",lines="";
   if(margin)svg+=words(0,35,"close-up",12,"bold")+words(0,49,hex(shown.at),12)+words(0,63,shown.length+" bytes",10.5,"soft");
   for(const page of pagesOf(shown)){
@@ -485,9 +485,9 @@ function chip(state,task,number,{subpool,how,since},lost,small){ // A subpool th
  const has={owned:"owned",given:"given, owned",shared:`shared, ${subpool.owner}\u2019s`}[how];
  const kinds=`chip${how==="shared"?" shared":""}${isNew?" new":""}${lost?(kept?" kept":" lost"):""}`;
  const says=lost?lossOf(state,task,subpool):has+(subpool.held&&!small?", "+holds:"");
- const told=task.subpools.size<=4||isNew||lost?`<small>${says}</small>`:"";
+ const details=task.subpools.size<=4||isNew||lost?`<small>${says}</small>`:"";
  const title=`subpool ${number}: ${lost?"no more":`${has}, ${holds}`}`;
- return`<span class="${kinds} ${hueOf(subpool)}" title="${title}"><b>${number}</b>${told}</span>`}
+ return`<span class="${kinds} ${hueOf(subpool)}" title="${title}"><b>${number}</b>${details}</span>`}
 function lossOf(state,task,{owner,removed}){
  if(task.end===undefined)return removed===undefined?"given to "+owner:"no more";
  if(removed!==state.index)return owner+" keeps it";
@@ -627,24 +627,24 @@ function markOf({result},done){
  if(done.granted.length||done.cells.length)return"grant";
  return done.freed.length||done.returned.length?"release":"tick"}
 function agrees(state){ // Whether the state is what REPORT and WHERE printed.
- return state.statement.printed.split("\n").map(line=>line.split(" ")).every(told=>{
-  if(told[2]==="SP"&&told[3]!=="NONE")return agreesSubpool(state,told);
-  if(told[2]==="MAP")return agreesMap(state,told);
-  if(told[2]==="DATA")return agreesData(state,told);
+ return state.statement.printed.split("\n").map(line=>line.split(" ")).every(fields=>{
+  if(fields[2]==="SP"&&fields[3]!=="NONE")return agreesSubpool(state,fields);
+  if(fields[2]==="MAP")return agreesMap(state,fields);
+  if(fields[2]==="DATA")return agreesData(state,fields);
   const place=state.names.get(state.statement.operand);
-  return told[2]!=="AT"||(place!==undefined&&hex(place.at)===told[3])})}
+  return fields[2]!=="AT"||(place!==undefined&&hex(place.at)===fields[3])})}
 function agreesData({done,bytes,fill},[,,,offset,...digits]){
  const first=done.read[0].at+parseInt(offset.slice(1),16);
  return digits.join("").match(/../g).every((byte,k)=>parseInt(byte,16)===(bytes.has(first+k)?bytes.get(first+k):fill))}
-function agreesSubpool(state,told){
- const task=state.tasks.get(told[1]),entry=task&&task.subpools.get(+told[3]);
- if(!entry||(entry.subpool.owner===task.name)!==(told[4]==="OWNED"))return false;
+function agreesSubpool(state,fields){
+ const task=state.tasks.get(fields[1]),entry=task&&task.subpools.get(+fields[3]);
+ if(!entry||(entry.subpool.owner===task.name)!==(fields[4]==="OWNED"))return false;
  const held=pooled=>state.areas.reduce((sum,area)=>area.subpool===entry.subpool&&!area.pool!==pooled?sum+area.length:sum,0);
- return held(false)===+told[6]&&held(true)===+told[8]}
-function agreesMap(state,told){
- return pagesOf(rangeOf(told[3],told[4])).every(page=>{
+ return held(false)===+fields[6]&&held(true)===+fields[8]}
+function agreesMap(state,fields){
+ return pagesOf(rangeOf(fields[3],fields[4])).every(page=>{
   const subpool=state.subpoolOf(page);
-  return told[5]==="FREE"?!subpool:subpool&&subpool.number===+told[6]&&subpool.owner===told[8]})}
+  return fields[5]==="FREE"?!subpool:subpool&&subpool.number===+fields[6]&&subpool.owner===fields[8]})}
 function drawTimeLine(width){ // The time line: a column for each statement, a row for each task, a band for each page.
  const number=script.length,margin=width<600?64:104,step=min(96,(width-margin-14)/number),names=new Set(lanes.map(lane=>lane.name));
  for(const{result,task}of script)if(result!=="js")names.add(task);
@@ -706,7 +706,7 @@ const MARKS={
  grant:circle,release:circle,refused:cross,
  abend:(x,y,r)=>square(x,y,r+1)+cross(x,y,r-1.2)};
 // The keys: the width of a picture, the picture, and words.
-const box=(kind,told)=>[20,rect(1.5,1.5,17,9,kind),told],mark=(name,told)=>[14,path(MARKS[name](7,6,4),name),told];
+const box=(kind,text)=>[20,rect(1.5,1.5,17,9,kind),text],mark=(name,text)=>[14,path(MARKS[name](7,6,4),name),text];
 const STORAGE_KEY=[
  box("area new","granted now"),box("area","held"),box("page","free, only for this subpool"),
  box("freed","freed now"),box("read","read"),box("written","written"),
@@ -716,9 +716,9 @@ const TIME_KEY=[
  mark("refused","refused, the task continues"),mark("abend","abend, fault"),
  [26,level({colour:0},0,0,26,12,5/12),"a page: its subpool, and how much of it is held"]];
 function keyOf(entries){
- const svg=entries.map(([width,inside,told])=>{
+ const svg=entries.map(([width,inside,text])=>{
   const icon=`<svg width="${width}" height="12" viewBox="0 0 ${width} 12" aria-hidden="true" class="h0">${inside}</svg>`;
-  return`<span>${width?icon:inside}${told}</span>`});
+  return`<span>${width?icon:inside}${text}</span>`});
  return`<div class="key">${svg.join("")}</div>`}
 // 7. Two runs. Statements with the same text are paired, in their order.
 const replyOf=({printed})=>printed.replace(/^[0-9]+ /gm,""),textOf=({code})=>code.replace(/ +/g," ");
@@ -884,7 +884,7 @@ function brief({printed,task}){ // What a statement printed, in short.
  return shown.join("\n")+(cut?"\n\u2026":"")}
 function draw(){
  const state=replay(current),width=byId("now").clientWidth||700,{line,comments,code,result,printed,why}=current;
- byId("now").innerHTML=`<div id="told">${comments.length?`<p class="comment">${comments.map(plain).join("<br>")}</p>`:""}
+ byId("now").innerHTML=`<div id="reply">${comments.length?`<p class="comment">${comments.map(plain).join("<br>")}</p>`:""}
 <h2><i>${line}</i>${broken(code)}</h2><pre class="printed ${result}">${linked(printed)}</pre><p class="why">${linked(why)}</p></div>`
   +drawCloseUp(state,width,current.window)+bytesTable(state,current.window,width)+historyTable(state,current.window)
   +drawRuns(state,width)+keyOf(STORAGE_KEY);

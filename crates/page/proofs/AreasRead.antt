@@ -18,7 +18,7 @@ use Rattle.mvs_model.specs.Name.{padded, same_name}
 use Rattle.mvs_model.specs.Reading.{◌>>=◌, ◌when◌, ByKey, LineOf, operands_after_form, by_key, checks, first_of, form_in, has_key, if_kind, is_conflict, is_for, is_half, is_list, is_name, is_name_byte, is_twice, items, key_of, kind_of, lacks_keyword, lacks_positional, number, operand_checks, operands_of, operation_in, release_of, repeats, row_checks, row_of, rows_of, is_blank_or_comment, statement_checks, statement_of, task_in, text_of, value_of, with_left}
 use Rattle.mvs_model.specs.ReadingLaws.{keyed}
 use Rattle.mvs_model.proofs.Orders.{same_name_is}
-use Rattle.mvs_model.proofs.Reading.{found_has, first_fails, none_behind, none_later, passing_have, said_with}
+use Rattle.mvs_model.proofs.Reading.{found_has, first_fails, none_beyond, none_later, passing_have, said_with}
 use Rattle.mvs_model.proofs.ReadingTaken.{bytes_same, none_in_front, under_key}
 use Rattle.mvs_model.proofs.Tests.{bytes_self, none_some, true_false}
 use Rattle.job_script.proofs.Taking.{left_split}
@@ -89,8 +89,8 @@ once_under row os ok key text v = at (find (is_for key) os) refl v where
       let s = split_at (is_for key) os o f in
       let w = left_split s.0 o s.1 in
       let all : first_of (flat_map (operand_checks row) (with_left s.0 ++ (s.0, o) ∷ w.0)) ≡ None = ap (λ ps. first_of (flat_map (operand_checks row) ps)) (sym w.1) ∙ ap (λ xs. first_of (flat_map (operand_checks row) (with_left xs))) (sym s.2) ∙ ok in
-      let behind = none_behind (flat_map (operand_checks row) (with_left s.0)) (operand_checks row (s.0, o) ++ flat_map (operand_checks row) w.0) (ap first_of (sym (flat_map-append (operand_checks row) (with_left s.0) ((s.0, o) ∷ w.0))) ∙ all) in
-      let here = none_in_front (operand_checks row (s.0, o)) (flat_map (operand_checks row) w.0) behind in
+      let trailing = none_beyond (flat_map (operand_checks row) (with_left s.0)) (operand_checks row (s.0, o) ++ flat_map (operand_checks row) w.0) (ap first_of (sym (flat_map-append (operand_checks row) (with_left s.0) ((s.0, o) ∷ w.0))) ∙ all) in
+      let here = none_in_front (operand_checks row (s.0, o)) (flat_map (operand_checks row) w.0) trailing in
       let once = first_fails (drop 1 (operand_checks row (s.0, o))) (none_later 1 (operand_checks row (s.0, o)) here) in
       let parts = or_parts _ (if_kind (λ kind. repeats kind (text_of o)) (kind_of row s.0 o)) once in
       let k = and_parts (has_key o) (bytes_eq (key_of o) key) s.3 in
@@ -225,8 +225,8 @@ last_checks row os = MissingOperand when (lacks_positional row os || lacks_keywo
 row_fits : (form : List ℕ) (operands : List (List ℕ)) (row : Row) (s : Statement) → IsFit row → first_of (row_checks operands (Some row)) ≡ None → statement_of row.meaning form (by_key (operands_after_form row operands)) ≡ Some s → AreasFit s
 row_fits form operands row s fit e is =
     let checks = flat_map (operand_checks row) (with_left (operands_after_form row operands)) in
-    let behind = last_checks row (by_key (operands_after_form row operands)) in
-    fit form (operands_after_form row operands) s (none_in_front checks behind e) (first_fails (drop 1 behind) (none_later 1 behind (none_behind checks behind e))) is
+    let trailing = last_checks row (by_key (operands_after_form row operands)) in
+    fit form (operands_after_form row operands) s (none_in_front checks trailing e) (first_fails (drop 1 trailing) (none_later 1 trailing (none_beyond checks trailing e))) is
 
 statement_fits : (first : Bool) (task operation : List ℕ) (operands : List (List ℕ)) (l : Line) → first_of (statement_checks first task operation operands) ≡ None → said_with task (form_in operation operands) operands (row_of operation operands) ≡ Some l → LineFits l
 statement_fits first task operation operands l e said = at (none_later 5 (statement_checks first task operation operands) e) (row_of operation operands) refl said where

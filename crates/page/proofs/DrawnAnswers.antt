@@ -52,7 +52,7 @@ use Rattle.page.specs.Picture.{Label, Means, Picture, ShowsBy, replayed_all}
 use Rattle.page.proofs.Drawing.{same_shown}
 use Rattle.page.proofs.DrawnEnds.{abend_left, ends_shown, return_left}
 use Rattle.page.proofs.DrawnGifts.{attach_shown}
-use Rattle.page.proofs.DrawnGrants.{area_told, areas_shown, grant_shown, owners_same, set_here}
+use Rattle.page.proofs.DrawnGrants.{area_of_grant, areas_shown, grant_shown, owners_same, set_here}
 use Rattle.page.proofs.DrawnReleases.{empties_shown, frees_shown}
 use Rattle.page.proofs.Labels.{entered, keeper_same, meant}
 use Rattle.page.proofs.Numbered.{Numbered}
@@ -111,12 +111,12 @@ module _ (carries : Change → List ℕ) (old new : JobValue) (t : Name) (said :
     pub act_shown : is_active old.state.owners t ≡ true → (Acts old.state t r m.reply new.state → Shown a said) → Shown a said
     act_shown active f = by_test (not (is_active old.state.owners t)) (step_cases old.state t r m.reply new.state m.step) (λ e _. true_false (sym active ∙ not-true (is_active old.state.owners t) e)) (λ _ k. f k)
 
-  module _ (active : is_active old.state.owners t ≡ true) (before : IsKept old.state) (behind : IsKept new.state) where
+  module _ (active : is_active old.state.owners t ≡ true) (before : IsKept old.state) (trailing : IsKept new.state) where
     -- the label of the subpool that a task means by a number
-    pub label_told : (number s : ℕ) → new.state.owners.tasks ≡ old.state.owners.tasks → is_invalid number ≡ false → entry new.state.owners (effective_task old.state.owners t number) number ≡ Some s
+    pub label_of_effective : (number s : ℕ) → new.state.owners.tasks ≡ old.state.owners.tasks → is_invalid number ≡ false → entry new.state.owners (effective_task old.state.owners t number) number ≡ Some s
         → (l : Label) × (resolved_owner new.state.owners t number ≡ Some (l.number, l.owner)) × Means new.state.owners l s
-    label_told number s tasks valid is =
-        let l = meant new.state.owners t number s behind.well.owners.owned behind.numbered (ap (λ m. contains_key m t) tasks ∙ active) (not-false (is_subpool_number number) valid) ((λ i. entry new.state.owners (keeper_same old.state.owners new.state.owners t number tasks i) number) ∙ is) in
+    label_of_effective number s tasks valid is =
+        let l = meant new.state.owners t number s trailing.well.owners.owned trailing.numbered (ap (λ m. contains_key m t) tasks ∙ active) (not-false (is_subpool_number number) valid) ((λ i. entry new.state.owners (keeper_same old.state.owners new.state.owners t number tasks i) number) ∙ is) in
         (record { number = l.0.0; owner = l.0.1 }, l.1, l.2)
 
     -- one area
@@ -124,18 +124,18 @@ module _ (carries : Change → List ℕ) (old new : JobValue) (t : Name) (said :
       abbrev obtain : SourceRequest
       obtain = written.Obtain form number ask variable area
 
-      told_as : (v : Bool) (q : PlaceValue) → answer_changes t obtain (grant_answer (written.Obtain form number ask v area) q) new ≡ listed (area_change new t number area)
-      told_as true q = refl
-      told_as false q = refl
+      changes_of_grant : (v : Bool) (q : PlaceValue) → answer_changes t obtain (grant_answer (written.Obtain form number ask v area) q) new ≡ listed (area_change new t number area)
+      changes_of_grant true q = refl
+      changes_of_grant false q = refl
 
       granted : is_invalid number ≡ false → (q : PlaceValue) → m.reply ≡ Obtained q → GrantTo old.state (effective_task old.state.owners t number) number (want_of ask (side_for old.state t form ask.loc)) q new.state → Shown obtain said
       granted valid q is g =
           let k = effective_task old.state.owners t number in
           let names : new.names ≡ all_set old.names (area ∷ []) (q ∷ []) = m.names ∙ ap (λ x. all_set old.names (area ∷ []) (places_in x)) is in
-          let l = label_told number g.subpool (enters_tasks old.state.owners k number g.subpool new.state.owners g.owners) valid (entered old.state.owners k number g.subpool new.state.owners g.is_subpool g.owners) in
+          let l = label_of_effective number g.subpool (enters_tasks old.state.owners k number g.subpool new.state.owners g.owners) valid (entered old.state.owners k number g.subpool new.state.owners g.is_subpool g.owners) in
           let place : get new.names area ≡ Some q = ap (λ f. get f area) names ∙ set_here old.names area q in
-          done_shown obtain (request.Obtain form number ask) m (Obtained q) (listed (Some (change.Take q l.0.number l.0.owner area))) is (told_as variable q ∙ ap listed (area_told new t area number l.0 q l.1 place))
-          (grant_shown old new k area number (want_of ask (side_for old.state t form ask.loc)) q g l.0 p behind.numbered l.2 names shows)
+          done_shown obtain (request.Obtain form number ask) m (Obtained q) (listed (Some (change.Take q l.0.number l.0.owner area))) is (changes_of_grant variable q ∙ ap listed (area_of_grant new t area number l.0 q l.1 place))
+          (grant_shown old new k area number (want_of ask (side_for old.state t form ask.loc)) q g l.0 p trailing.numbered l.2 names shows)
 
       pub obtain_shown : Shown obtain said
       obtain_shown = act_shown obtain (request.Obtain form number ask) m active (λ k.
@@ -177,8 +177,8 @@ module _ (carries : Change → List ℕ) (old new : JobValue) (t : Name) (said :
           let here = entered old.state.owners k number g.subpool h.0.owners g.is_subpool g.owners in
           let owners : new.state.owners ≡ h.0.owners = owners_same k number g.subpool (map want ns) ps h.0 new.state here h.2 in
           let now : entry new.state.owners k number ≡ Some g.subpool = ap (λ o. entry o k number) owners ∙ here in
-          let l = label_told number g.subpool (ap (λ o. o.tasks) owners ∙ enters_tasks old.state.owners k number g.subpool h.0.owners g.owners) valid now in
-          areas_shown carries new k t number g.subpool l.0 behind.numbered l.2 now l.1 (want n ∷ map want ns) (q ∷ ps) areas old p h same once names shows
+          let l = label_of_effective number g.subpool (ap (λ o. o.tasks) owners ∙ enters_tasks old.state.owners k number g.subpool h.0.owners g.owners) valid now in
+          areas_shown carries new k t number g.subpool l.0 trailing.numbered l.2 now l.1 (want n ∷ map want ns) (q ∷ ps) areas old p h same once names shows
 
       granted_list : is_invalid number ≡ false → (ps : List PlaceValue) → m.reply ≡ Listed ps → ListGrant old.state (effective_task old.state.owners t number) number (map want lengths) ps new.state → Shown list said
       granted_list valid ps is g =
@@ -221,7 +221,7 @@ module _ (carries : Change → List ℕ) (old new : JobValue) (t : Name) (said :
           let label : resolved_owner new.state.owners t number ≡ None = ap (λ st. resolved_owner st.owners t number) h ∙ ap (λ v. cond (is_subpool_number number && is_active old.state.owners t) (label_of old.state.owners v) None) none ∙ either_none (is_subpool_number number && is_active old.state.owners t) (label_of old.state.owners None) refl in
           done_shown all all_asked m Rc0 [] is (ap (λ v. listed (option_map (λ l. change.Empty l.0 l.1) v)) label) (same_shown old new p h (names_same all all_asked m (ap places_in is)) shows)
       emptied valid (Some s) some is h =
-          let l = label_told number s (ap (λ o. o.tasks) h.owners) valid (ap (λ o. entry o (effective_task old.state.owners t number) number) h.owners ∙ some) in
+          let l = label_of_effective number s (ap (λ o. o.tasks) h.owners) valid (ap (λ o. entry o (effective_task old.state.owners t number) number) h.owners ∙ some) in
           done_shown all all_asked m Rc0 (change.Empty l.0.number l.0.owner ∷ []) is (ap (λ v. listed (option_map (λ l. change.Empty l.0 l.1) v)) l.1)
           (empties_shown old new l.0 s p before.numbered (subst (λ o. Means o l.0 s) h.owners l.2) h (names_same all all_asked m (ap places_in is)) shows)
 
@@ -236,7 +236,7 @@ module _ (carries : Change → List ℕ) (old new : JobValue) (t : Name) (said :
       attached (Some code) e h = abends_shown (written.Attach name gifts residence) (request.Attach name gifts residence) m code h
       attached None e h =
           done_shown (written.Attach name gifts residence) (request.Attach name gifts residence) m Attached _ h.0 refl
-          (attach_shown carries old new t name gifts residence h.1 before.well.owners.owned before.numbered active e behind.well.owners.owned behind.numbered (names_same (written.Attach name gifts residence) (request.Attach name gifts residence) m (ap places_in h.0)) p shows)
+          (attach_shown carries old new t name gifts residence h.1 before.well.owners.owned before.numbered active e trailing.well.owners.owned trailing.numbered (names_same (written.Attach name gifts residence) (request.Attach name gifts residence) m (ap places_in h.0)) p shows)
 
       pub attach_step_shown : Shown (written.Attach name gifts residence) said
       attach_step_shown = act_shown (written.Attach name gifts residence) (request.Attach name gifts residence) m active (λ k. attached (attach_refusal old.state.owners t name gifts) refl k)

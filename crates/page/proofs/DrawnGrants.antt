@@ -80,8 +80,8 @@ set_first : (area : Name) (areas : List Name) (p : PlaceValue) (ps : List PlaceV
 set_first area areas p ps names e = set_else areas ps (insert names area p) area e ∙ set_here names area p
 
 -- the change of an area
-pub area_told : (new : JobValue) (t area : Name) (number : ℕ) (l : Label) (p : PlaceValue) → resolved_owner new.state.owners t number ≡ Some (l.number, l.owner) → get new.names area ≡ Some p → area_change new t number area ≡ Some (change.Take p l.number l.owner area)
-area_told new t area number l p label place =
+pub area_of_grant : (new : JobValue) (t area : Name) (number : ℕ) (l : Label) (p : PlaceValue) → resolved_owner new.state.owners t number ≡ Some (l.number, l.owner) → get new.names area ≡ Some p → area_change new t number area ≡ Some (change.Take p l.number l.owner area)
+area_of_grant new t area number l p label place =
     ap (option_and_then (λ p. option_map (λ l. change.Take p l.0 l.1 area) (resolved_owner new.state.owners t number))) place
     ∙ ap (option_map (λ l. change.Take p l.0 l.1 area)) label
 
@@ -112,5 +112,5 @@ module _ (carries : Change → List ℕ) (new : JobValue) (t u : Name) (number s
       let mid : JobValue = record { state = h.0; names = insert old.names area q; abended = old.abended; former = old.former } in
       let place : get new.names area ≡ Some q = ap (λ f. get f area) names ∙ set_first area areas q ps old.names apart.0 in
       let one = grant_shown old mid t area number want q g l p (subst Numbered owners k) (subst (λ r. Means h.0.owners l r) subpool_is (subst (λ o. Means o l s) owners m)) refl shows in
-      subst (λ o. ShowsBy (Means new.state.owners) (replayed_all carries p (listed o ++ area_changes new u number areas)) new) (sym (area_told new u area number l q changes_are place))
+      subst (λ o. ShowsBy (Means new.state.owners) (replayed_all carries p (listed o ++ area_changes new u number areas)) new) (sym (area_of_grant new u area number l q changes_are place))
       (areas_shown wants ps areas mid (with_name area q (with_area q l p)) h.2 (omega (arith, size)) apart.1 names one)

@@ -88,7 +88,7 @@ module _ (old new : JobValue) (t : Name) (said : Answer) (p : Picture) (shows : 
   no_name : (a : SourceRequest) → OnlyAnswers old answer.NoName said new → Shown carries old new t said p shows a said
   no_name a h = subst (λ x. Shown carries old new t said p shows a x) (sym h.0) (tells_shown [] h.1 refl)
 
-  module _ (active : is_active old.state.owners t ≡ true) (before : IsKept old.state) (behind : IsKept new.state) where
+  module _ (active : is_active old.state.owners t ≡ true) (before : IsKept old.state) (trailing : IsKept new.state) where
     -- a request reads or writes bytes
     accesses_shown : (a : SourceRequest) (r : Request) (m : Makes Any old t a r said new) (allowed : Bool) (done : Type 0) (cs : List Change)
         → (new.names ≡ old.names → answer_changes t a (answer_of old.state a r reply.Done) new ≡ cs) → (allowed ≡ true → done → new.names ≡ old.names → ShowsBy (Means new.state.owners) (replayed_all carries p cs) new)
@@ -99,34 +99,34 @@ module _ (old new : JobValue) (t : Name) (said : Answer) (p : Picture) (shows : 
         done_shown carries old new t said p shows a r m reply.Done cs x.0 (changes_are names) (shown (not-false allowed e) x.1 names))
 
     asks_shown : (a : SourceRequest) → AreasFit (says.Request a) → Asks Any old t a (resolved old.names a) said new → Shown carries old new t said p shows a said
-    asks_shown (written.Obtain form number ask variable area) fit m = obtain_shown carries old new t said p shows active before behind form number ask variable area m
-    asks_shown (written.ObtainList form number lengths start areas) fit m = obtain_list_shown carries old new t said p shows active before behind form number lengths start areas m fit.0 fit.1
+    asks_shown (written.Obtain form number ask variable area) fit m = obtain_shown carries old new t said p shows active before trailing form number ask variable area m
+    asks_shown (written.ObtainList form number lengths start areas) fit m = obtain_list_shown carries old new t said p shows active before trailing form number lengths start areas m fit.0 fit.1
     asks_shown (written.Release form number location n) fit h = at (address_of old.names location) refl h where
       at : (v : Option ℕ) → address_of old.names location ≡ v → Asks Any old t (written.Release form number location n) (option_map (λ a. request.Release form number (place_at a n)) v) said new → Shown carries old new t said p shows (written.Release form number location n) said
       at None e h = no_name (written.Release form number location n) h
-      at (Some x) e m = release_shown carries old new t said p shows active before behind (written.Release form number location n) (request.Release form number (place_at x n)) m form number (place_at x n ∷ [])
+      at (Some x) e m = release_shown carries old new t said p shows active before trailing (written.Release form number location n) (request.Release form number (place_at x n)) m form number (place_at x n ∷ [])
           (λ names. ap (λ v. request_changes (option_map (λ a. request.Release form number (place_at a n)) v)) (ap (λ f. address_of f location) names ∙ e)) (λ k. k)
     asks_shown (written.ReleaseArea form number area) fit h = at (get old.names area) refl h where
       at : (v : Option PlaceValue) → get old.names area ≡ v → Asks Any old t (written.ReleaseArea form number area) (option_map (λ p. request.Release form number p) v) said new → Shown carries old new t said p shows (written.ReleaseArea form number area) said
       at None e h = no_name (written.ReleaseArea form number area) h
-      at (Some x) e m = release_shown carries old new t said p shows active before behind (written.ReleaseArea form number area) (request.Release form number x) m form number (x ∷ [])
+      at (Some x) e m = release_shown carries old new t said p shows active before trailing (written.ReleaseArea form number area) (request.Release form number x) m form number (x ∷ [])
           (λ names. ap (λ v. request_changes (option_map (λ p. request.Release form number p) v)) (ap (λ f. get f area) names ∙ e)) (λ k. k)
     asks_shown (written.ReleaseList form number locations lengths) fit h = at (places_of old.names locations lengths) refl h where
       at : (v : Option (List PlaceValue)) → places_of old.names locations lengths ≡ v → Asks Any old t (written.ReleaseList form number locations lengths) (option_map (λ ps. request.ReleaseList form number ps) v) said new → Shown carries old new t said p shows (written.ReleaseList form number locations lengths) said
       at None e h = no_name (written.ReleaseList form number locations lengths) h
-      at (Some ps) e m = release_shown carries old new t said p shows active before behind (written.ReleaseList form number locations lengths) (request.ReleaseList form number ps) m form number ps
+      at (Some ps) e m = release_shown carries old new t said p shows active before trailing (written.ReleaseList form number locations lengths) (request.ReleaseList form number ps) m form number ps
           (λ names. ap (λ v. request_changes (option_map (λ ps. request.ReleaseList form number ps) v)) (ap (λ f. places_of f locations lengths) names ∙ e)) (λ k. k)
-    asks_shown (written.ReleaseWhole form number) fit m = release_whole_shown carries old new t said p shows active before behind form number m
-    asks_shown (written.Build pool number size primary secondary loc) fit m = build_shown carries old new t said p shows active before behind pool number size primary secondary loc m
-    asks_shown (written.Get pool conditional cell) fit m = get_shown carries old new t said p shows active before behind pool conditional cell m
+    asks_shown (written.ReleaseWhole form number) fit m = release_whole_shown carries old new t said p shows active before trailing form number m
+    asks_shown (written.Build pool number size primary secondary loc) fit m = build_shown carries old new t said p shows active before trailing pool number size primary secondary loc m
+    asks_shown (written.Get pool conditional cell) fit m = get_shown carries old new t said p shows active before trailing pool conditional cell m
     asks_shown (written.Free pool cell) fit h = at (address_of old.names cell) refl h where
       at : (v : Option ℕ) → address_of old.names cell ≡ v → Asks Any old t (written.Free pool cell) (option_map (λ a. request.Free pool a) v) said new → Shown carries old new t said p shows (written.Free pool cell) said
       at None e h = no_name (written.Free pool cell) h
-      at (Some c) e m = free_shown carries old new t said p shows active before behind (written.Free pool cell) pool c m (λ names. ap (λ v. request_changes (option_map (λ a. request.Free pool a) v)) (ap (λ f. address_of f cell) names ∙ e))
-    asks_shown (written.Delete pool) fit m = delete_shown carries old new t said p shows active before behind pool m
-    asks_shown (written.Attach name gifts residence) fit m = attach_step_shown carries old new t said p shows active before behind name gifts residence m
-    asks_shown written.Return fit m = return_shown carries old new t said p shows active before behind m
-    asks_shown (written.Abend n) fit m = abend_shown carries old new t said p shows active before behind n m
+      at (Some c) e m = free_shown carries old new t said p shows active before trailing (written.Free pool cell) pool c m (λ names. ap (λ v. request_changes (option_map (λ a. request.Free pool a) v)) (ap (λ f. address_of f cell) names ∙ e))
+    asks_shown (written.Delete pool) fit m = delete_shown carries old new t said p shows active before trailing pool m
+    asks_shown (written.Attach name gifts residence) fit m = attach_step_shown carries old new t said p shows active before trailing name gifts residence m
+    asks_shown written.Return fit m = return_shown carries old new t said p shows active before trailing m
+    asks_shown (written.Abend n) fit m = abend_shown carries old new t said p shows active before trailing n m
     asks_shown (written.Show location n) fit h = at (address_of old.names location) refl h where
       at : (v : Option ℕ) → address_of old.names location ≡ v → Asks Any old t (written.Show location n) (option_map (λ a. request.Show a n) v) said new → Shown carries old new t said p shows (written.Show location n) said
       at None e h = no_name (written.Show location n) h
@@ -173,4 +173,4 @@ module _ (old new : JobValue) (t : Name) (said : Answer) (p : Picture) (shows : 
     at says.ReportMap = refl
 
   pub does_shown : (s : Statement) → AreasFit s → IsKept old.state → IsKept new.state → Does Any old t s said new → ShowsBy (Means new.state.owners) (replayed_all carries p (statement_changes t s said new)) new
-  does_shown s fit before behind h = by_test (not (is_active old.state.owners t)) h (λ _ x. not_run s x) (λ e x. says_shown (not-false (is_active old.state.owners t) e) before behind s fit x)
+  does_shown s fit before trailing h = by_test (not (is_active old.state.owners t)) h (λ _ x. not_run s x) (λ e x. says_shown (not-false (is_active old.state.owners t) e) before trailing s fit x)

@@ -38,7 +38,7 @@ use Rattle.page.specs.declared.change.Change.TheVariants as change
 use Rattle.page.specs.Changes.{answer_changes, last_part, part_change}
 use Rattle.page.specs.Picture.{Both, IsDrawn, IsMark, Label, Means, Picture, ShowsBy, filled, replayed, replayed_all, with_cell, with_name, with_new_pool, with_pool}
 use Rattle.page.proofs.Drawing.{bytes_same, marks_stay, pools_stay}
-use Rattle.page.proofs.DrawnAnswers.{IsKept, Shown, abends_shown, act_shown, done_shown, label_told, names_same, refuses_shown}
+use Rattle.page.proofs.DrawnAnswers.{IsKept, Shown, abends_shown, act_shown, done_shown, label_of_effective, names_same, refuses_shown}
 use Rattle.page.proofs.DrawnGifts.{replayed_both}
 use Rattle.page.proofs.DrawnGrants.{entries_shown, set_here, set_shown}
 use Rattle.page.proofs.DrawnPools.{drawn_there, dropped_shown, given_shown, last_of, no_part_there, part_drawn, part_shown, put_shown, taken_shown}
@@ -92,7 +92,7 @@ named_shown old new name place p e names shows = record {
   pools = λ n. subst (λ (s : State). Both (IsDrawn (Means s.owners)) (p.pools n) (get s.pools n)) (sym e) (shows.pools n);
 }
 
-module _ (carries : Change → List ℕ) (old new : JobValue) (t : Name) (said : Answer) (p : Picture) (shows : ShowsBy (Means old.state.owners) p old) (active : is_active old.state.owners t ≡ true) (before : IsKept old.state) (behind : IsKept new.state) where
+module _ (carries : Change → List ℕ) (old new : JobValue) (t : Name) (said : Answer) (p : Picture) (shows : ShowsBy (Means old.state.owners) p old) (active : is_active old.state.owners t ≡ true) (before : IsKept old.state) (trailing : IsKept new.state) where
   abbrev S : SourceRequest → Answer → Type 0
   S a x = Shown carries old new t said p shows a x
 
@@ -113,9 +113,9 @@ module _ (carries : Change → List ℕ) (old new : JobValue) (t : Name) (said :
     built valid is s of q o enters x =
         let k = effective_task old.state.owners t number in
         let mid : JobValue = record old { state = record old.state { owners = o; pools = insert old.state.pools name (new_pool s plan) } } in
-        let l = label_told carries old new t said p shows active before behind number s (ap (λ o. o.tasks) x.owners_are ∙ enters_tasks old.state.owners k number s o enters) valid (ap (λ o. entry o k number) x.owners_are ∙ entered old.state.owners k number s o of enters) in
+        let l = label_of_effective carries old new t said p shows active before trailing number s (ap (λ o. o.tasks) x.owners_are ∙ enters_tasks old.state.owners k number s o enters) valid (ap (λ o. entry o k number) x.owners_are ∙ entered old.state.owners k number s o of enters) in
         let means : Means o l.0 s = subst (λ o. Means o l.0 s) x.owners_are l.2 in
-        let begun = new_pool_shown old mid k name number s plan of enters (subst Numbered x.owners_are behind.numbered) l.0 means refl refl refl refl refl p shows in
+        let begun = new_pool_shown old mid k name number s plan of enters (subst Numbered x.owners_are trailing.numbered) l.0 means refl refl refl refl refl p shows in
         let part : Part = record { place = q; count = primary } in
         let done : ShowsBy (Means new.state.owners) (replayed carries (with_new_pool name l.0 size p) (change.Part name q primary)) new =
         part_shown mid new name (new_pool s plan) primary q (with_new_pool name l.0 size p) x.regions x.bytes x.owners_are (names_same carries old new t said p shows build asked m (ap places_in is)) (record { label = l.0; cell_size = size; parts = []; taken = λ c. false })

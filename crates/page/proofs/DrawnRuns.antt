@@ -137,19 +137,19 @@ region_shown number old t u s card former new events p e n =
       at (Some job) = begin_shown (carried (Some (job_at card former))) card former p
 
 serves_shown : (number : ℕ) (old : Option JobValue) (l : Line) (events : List Event) (new : Option JobValue) (p : Picture) → LineFits l → KeptStep old → KeptStep new → Serves machine number old l events new → Shows p old → Shows (replayed_all (carried new) p (changes_of l events new)) new
-serves_shown number old line.Nothing events new p fit before behind h shows =
+serves_shown number old line.Nothing events new p fit before trailing h shows =
     subst (λ events. Shows (replayed_all (carried new) p (changes_of line.Nothing events new)) new) (sym h.0) (subst (Shows p) (sym h.1) shows)
-serves_shown number None (line.Statement t s) events new p fit before behind h shows =
+serves_shown number None (line.Statement t s) events new p fit before trailing h shows =
     served_first machine (λ _. Unit {0}) (λ s. Shows (replayed_all (carried new) p (changes_of (line.Statement t s) events new)) new) number t s events new h tt
     (λ below above fill residence _ x. region_shown number None t t (says.Region below above fill residence) (card_of t below above fill residence) _ new events p x.0 x.1)
-serves_shown number (Some job) (line.Statement t s) events new p fit before behind h shows =
+serves_shown number (Some job) (line.Statement t s) events new p fit before trailing h shows =
     served_in machine AreasFit (λ s. Shows (replayed_all (carried new) p (changes_of (line.Statement t s) events new)) new) number job t s events new h fit
     (λ below above fill residence _ x. region_shown number (Some job) t t (says.Region below above fill residence) (card_of t below above fill residence) _ new events p x.0 x.1)
     (λ s _ fit x.
     subst (λ events. Shows (replayed_all (carried new) p (changes_of (line.Statement t s) events new)) new) (sym x.3)
     (subst (λ new. Shows (replayed_all (carried new) p (changes_of (line.Statement t s) (AnswerTo number t x.0 ∷ []) new)) new) (sym x.4)
     (subst (λ cs. ShowsBy (Means x.1.state.owners) (replayed_all (carried (Some x.1)) p cs) x.1) (sym (said_is t t s x.0 x.1 (does_region job x.1 t s x.0 x.2)))
-    (does_shown job x.1 t x.0 p shows s fit before (subst KeptStep x.4 behind) x.2))))
+    (does_shown job x.1 t x.0 p shows s fit before (subst KeptStep x.4 trailing) x.2))))
 
 -- what a line says that is served is what it is read as
 read_is : (number : ℕ) (old : Option JobValue) (l : List ℕ) (read : Line) (events : List Event) (new : Option JobValue) → IsReadAs old l read → (h : ServesLine machine number old l events new) → h.0 ≡ read
@@ -158,8 +158,8 @@ read_is number old l read events new (inr fault) h = absurd (one_reading.not_bot
 
 line_shown : (number : ℕ) (old : Option JobValue) (l : List ℕ) (read : Line) (events : List Event) (new : Option JobValue) (p : Picture) → IsReadAs old l read → ServesLine machine number old l events new → KeptStep old → KeptStep new
     → Shows p old → Shows (replayed_all (carried new) p (changes_of read events new)) new
-line_shown number old l read events new p is h before behind shows =
-    subst (λ r. Shows (replayed_all (carried new) p (changes_of r events new)) new) (read_is number old l read events new is h) (serves_shown number old h.0 events new p (line_fits (is_first old) l h.0 h.1) before behind h.2 shows)
+line_shown number old l read events new p is h before trailing shows =
+    subst (λ r. Shows (replayed_all (carried new) p (changes_of r events new)) new) (read_is number old l read events new is h) (serves_shown number old h.0 events new p (line_fits (is_first old) l h.0 h.1) before trailing h.2 shows)
 
 -- ---- a run
 

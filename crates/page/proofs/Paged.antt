@@ -132,14 +132,14 @@ shown_of events = escaped (printing events)
 reply_then : (printed rest : List ℕ) → Shows rest [] → Shows (reply_of printed ++ rest) (escaped printed)
 reply_then printed rest p = subst (Shows (reply_of printed ++ rest)) (append-nil (escaped printed)) (both_shown (reply_of printed) rest (escaped printed) [] (reply_shown printed) p)
 
-item_shown : (number : ℕ) (l : List ℕ) (read : Line) (events : List Event) (new : Option JobValue) (behind : List ℕ) → Shows (item_of number l read events new behind) (shown_of events)
-item_shown number l read [] new behind = note_of_shown number l
-item_shown number l read (e ∷ events) new behind =
+item_shown : (number : ℕ) (l : List ℕ) (read : Line) (events : List Event) (new : Option JobValue) (trailing : List ℕ) → Shows (item_of number l read events new trailing) (shown_of events)
+item_shown number l read [] new trailing = note_of_shown number l
+item_shown number l read (e ∷ events) new trailing =
     let how = class_of (e ∷ events) in
     let printed = printing (e ∷ events) in
     let changes = change_lines new (changes_of read (e ∷ events) new) in
-    both_shown (head_of number how l) (reply_of printed ++ tail_of behind changes) [] (escaped printed) (head_shown number how l (class_of_plain (e ∷ events)))
-    (reply_then printed (tail_of behind changes) (tail_shown behind changes))
+    both_shown (head_of number how l) (reply_of printed ++ tail_of trailing changes) [] (escaped printed) (head_shown number how l (class_of_plain (e ∷ events)))
+    (reply_then printed (tail_of trailing changes) (tail_shown trailing changes))
 
 fault_shown : (number : ℕ) (l : List ℕ) (events : List Event) → Shows (fault_of number l events) (shown_of events)
 fault_shown number l events =
@@ -158,9 +158,9 @@ Seen outcome number old lines text = (events : List Event) × Walks machine (Job
 seen_so : (outcome : Outcome) (lines : List (List ℕ)) (number : ℕ) (old : Option JobValue) (set : NameOrigins) (text : List ℕ) → Items (Ok outcome) number old set lines text → Seen outcome number old lines text
 seen_so outcome [] number old set text h = (h.0, h.1, subst (λ t. Shows t (shown_of h.0)) (sym h.2) (reply_shown (printing h.0)))
 seen_so outcome (l ∷ lines) number old set text (inl ((events, faults, e), out)) = (events, inl (faults, out), subst (λ t. Shows t (shown_of events)) (sym e) (fault_shown number l events))
-seen_so outcome (l ∷ lines) number old set text (inr (mid, later, item, rest, (read, events, behind, reads, serves, sets, is, e), cut, more)) =
+seen_so outcome (l ∷ lines) number old set text (inr (mid, later, item, rest, (read, events, trailing, reads, serves, sets, is, e), cut, more)) =
     let s = seen_so outcome lines (number + 1) mid later rest more in
-    let one = subst (λ t. Shows t (shown_of events)) (sym e) (item_shown number l read events mid behind) in (
+    let one = subst (λ t. Shows t (shown_of events)) (sym e) (item_shown number l read events mid trailing) in (
       events ++ s.0,
       inr (mid, events, s.0, serves, refl, s.1),
       subst (λ t. Shows t (shown_of (events ++ s.0))) (sym cut) (subst (Shows (item ++ rest)) (sym (shown_both events s.0)) (both_shown item rest (shown_of events) (shown_of s.0) one s.2)),

@@ -39,8 +39,8 @@ byte_plain b = amp (b == 38) where
 pub escaped_plain : (text : List ℕ) → is_plain (escaped text) ≡ true
 escaped_plain text = each_plain escaped_byte byte_plain text
 
-words_plain : (behind : List ℕ) → is_plain (words_of behind) ≡ true
-words_plain behind = each_plain (λ l. escaped (drop 2 l) ++ codes "\n") (λ l. both_plain (escaped (drop 2 l)) (codes "\n") (escaped_plain (drop 2 l)) refl) (lines_of behind)
+words_plain : (trailing : List ℕ) → is_plain (words_of trailing) ≡ true
+words_plain trailing = each_plain (λ l. escaped (drop 2 l) ++ codes "\n") (λ l. both_plain (escaped (drop 2 l)) (codes "\n") (escaped_plain (drop 2 l)) refl) (lines_of trailing)
 
 -- ---- what a reader sees
 
@@ -138,14 +138,14 @@ pub reply_shown : (printed : List ℕ) → Shows (reply_of printed) (escaped pri
 reply_shown printed rest =
     ap (pre_texts (Inside true)) (append_assoc (escaped printed) (codes "</pre>\n") rest) ∙ seen (escaped printed) (codes "</pre>\n" ++ rest) (escaped_plain printed)
 
-pub tail_shown : (behind changes : List ℕ) → Shows (tail_of behind changes) []
-tail_shown behind changes =
-    let words = words_of behind in
+pub tail_shown : (trailing changes : List ℕ) → Shows (tail_of trailing changes) []
+tail_shown trailing changes =
+    let words = words_of trailing in
     let lines = escaped changes in
     let end = lines ++ codes "</pre>\n</article>\n" in
     let listed = codes "</p>\n<pre class=\"d\">" ++ end in
     none_shown (codes "<p>") (words ++ listed) (λ rest. refl)
-    (none_shown words listed (plain_shown words (words_plain behind))
+    (none_shown words listed (plain_shown words (words_plain trailing))
     (none_shown (codes "</p>\n<pre class=\"d\">") end (λ rest. refl) (none_shown lines (codes "</pre>\n</article>\n") (plain_shown lines (escaped_plain changes)) (λ rest. refl))))
 
 pub note_of_shown : (number : ℕ) (l : List ℕ) → Shows (note_of number l) []

@@ -30,23 +30,23 @@ use Rattle.page.specs.Markup.{class_of, head_of, note_of, reply_of, tail_of}
 use Rattle.page.specs.Pages.{IsFaultItem, IsItem, IsNext, IsReadAs, WritesItem}
 use Rattle.page.specs.Items.{continues, item_of_event}
 
-module _ (w w' : WalkValue) (set later : NameOrigins) (l : List ℕ) (read : Line) (behind item : List ℕ) (reads : IsReadAs w.step l read) where
+module _ (w w' : WalkValue) (set later : NameOrigins) (l : List ℕ) (read : Line) (trailing item : List ℕ) (reads : IsReadAs w.step l read) where
   -- the item of a line that tells something else than a fault
-  item_is : (t : LineEvent) → ServesAs w l t w' → RecordsOrigins w set l w' t later → AppendsExplanation (Some []) (Some behind) w set l w' t → continues t ≡ true → item ≡ item_of_event w.number l read w' t behind → IsItem w.number w.step set l w'.step later item
+  item_is : (t : LineEvent) → ServesAs w l t w' → RecordsOrigins w set l w' t later → AppendsExplanation (Some []) (Some trailing) w set l w' t → continues t ≡ true → item ≡ item_of_event w.number l read w' t trailing → IsItem w.number w.step set l w'.step later item
   item_is (line_event.Faulted fault) tells kept stands so e = absurd (let f : false ≡ true = so in cc)
-  item_is line_event.Nothing tells kept (text, is, h) so e = (read, events_of_line w.number w' line_event.Nothing, behind, reads, tells, kept, subst (IsExplanationText w.step set l (events_of_line w.number w' line_event.Nothing) w'.step) (sym is) h, e)
+  item_is line_event.Nothing tells kept (text, is, h) so e = (read, events_of_line w.number w' line_event.Nothing, trailing, reads, tells, kept, subst (IsExplanationText w.step set l (events_of_line w.number w' line_event.Nothing) w'.step) (sym is) h, e)
   item_is (line_event.StepBegan end card) tells kept (text, is, h) so e =
-      (read, events_of_line w.number w' (line_event.StepBegan end card), behind, reads, tells, kept, subst (IsExplanationText w.step set l (events_of_line w.number w' (line_event.StepBegan end card)) w'.step) (sym is) h, e)
+      (read, events_of_line w.number w' (line_event.StepBegan end card), trailing, reads, tells, kept, subst (IsExplanationText w.step set l (events_of_line w.number w' (line_event.StepBegan end card)) w'.step) (sym is) h, e)
   item_is (line_event.Answered t a) tells kept (text, is, h) so e =
-      (read, events_of_line w.number w' (line_event.Answered t a), behind, reads, tells, kept, subst (IsExplanationText w.step set l (events_of_line w.number w' (line_event.Answered t a)) w'.step) (sym is) h, e)
+      (read, events_of_line w.number w' (line_event.Answered t a), trailing, reads, tells, kept, subst (IsExplanationText w.step set l (events_of_line w.number w' (line_event.Answered t a)) w'.step) (sym is) h, e)
 
-  fault_is : (t : LineEvent) → ServesAs w l t w' → continues t ≡ false → item ≡ item_of_event w.number l read w' t behind → IsFaultItem w.number w.step l item
+  fault_is : (t : LineEvent) → ServesAs w l t w' → continues t ≡ false → item ≡ item_of_event w.number l read w' t trailing → IsFaultItem w.number w.step l item
   fault_is (line_event.Faulted fault) tells so e = (events_of_line w.number w' (line_event.Faulted fault), (fault, tells.0, refl), e)
   fault_is line_event.Nothing tells so e = absurd (let f : true ≡ false = so in cc)
   fault_is (line_event.StepBegan end card) tells so e = absurd (let f : true ≡ false = so in cc)
   fault_is (line_event.Answered t a) tells so e = absurd (let f : true ≡ false = so in cc)
 
-  module _ (t : LineEvent) (tells : ServesAs w l t w') (kept : RecordsOrigins w set l w' t later) (stands : AppendsExplanation (Some []) (Some behind) w set l w' t) (e : item ≡ item_of_event w.number l read w' t behind) where
+  module _ (t : LineEvent) (tells : ServesAs w l t w') (kept : RecordsOrigins w set l w' t later) (stands : AppendsExplanation (Some []) (Some trailing) w set l w' t) (e : item ≡ item_of_event w.number l read w' t trailing) where
     pub item_written : (before after : Option (List ℕ)) (b : Bool) → b ≡ continues t → Appends before after item → WritesItem before after w.number w.step set l w'.step later (Ok b)
     item_written before after true so a = (item, a, item_is t tells kept stands (sym so) e)
     item_written before after false so a = (item, a, fault_is t tells (sym so) e)
@@ -69,11 +69,11 @@ module _ (w w' : WalkValue) (set later : NameOrigins) (l : List ℕ) (nothing : 
   some_events [] e is = absurd (let f : e ∷ [] ≡ [] = is in cc)
   some_events (x ∷ front) e is = absurd (let f : x ∷ (front ++ e ∷ []) ≡ [] = is in cc)
 
-  told_nothing : (t : LineEvent) → ServesAs w l t w' → t ≡ line_event.Nothing
-  told_nothing line_event.Nothing tells = refl
-  told_nothing (line_event.Faulted fault) tells = absurd (one_reading.not_both (is_first w.step) l line.Nothing fault nothing tells.0)
-  told_nothing (line_event.StepBegan end card) tells = absurd (some_events (ended end) (AnswerTo w.number card.name (Region card)) (no_events _ tells))
-  told_nothing (line_event.Answered t a) tells = absurd (some_events [] (AnswerTo w.number t (full_answer_in w'.step (ended_with_in w'.reply) t a)) (no_events _ tells))
+  event_is_nothing : (t : LineEvent) → ServesAs w l t w' → t ≡ line_event.Nothing
+  event_is_nothing line_event.Nothing tells = refl
+  event_is_nothing (line_event.Faulted fault) tells = absurd (one_reading.not_both (is_first w.step) l line.Nothing fault nothing tells.0)
+  event_is_nothing (line_event.StepBegan end card) tells = absurd (some_events (ended end) (AnswerTo w.number card.name (Region card)) (no_events _ tells))
+  event_is_nothing (line_event.Answered t a) tells = absurd (some_events [] (AnswerTo w.number t (full_answer_in w'.step (ended_with_in w'.reply) t a)) (no_events _ tells))
 
   -- nothing is explained of it
   unexplained : (step : Option JobValue) → LineOf (is_first step) l line.Nothing → IsExplanationText step set l [] w'.step []
@@ -90,7 +90,7 @@ module _ (w w' : WalkValue) (set later : NameOrigins) (l : List ℕ) (nothing : 
 
   module _ (t : LineEvent) (tells : ServesAs w l t w') (kept : RecordsOrigins w set l w' t later) where
     is_noted : IsItem w.number w.step set l w'.step later (note_of w.number l)
-    is_noted = noted t (told_nothing t tells) tells kept
+    is_noted = noted t (event_is_nothing t tells) tells kept
 
     pub note_written : (before after : Option (List ℕ)) → Appends before after (note_of w.number l) → WritesItem before after w.number w.step set l w'.step later (Ok true)
     note_written before after a = (note_of w.number l, a, is_noted)
@@ -101,28 +101,28 @@ module _ (w w' : WalkValue) (set later : NameOrigins) (l : List ℕ) (nothing : 
 -- ---- the text of an item
 
 -- the item of a line with a fault
-pub faulted_is : (number : ℕ) (l : List ℕ) (read : Line) (w : WalkValue) (t : LineEvent) (fault : Fault) (behind printed : List ℕ) → t ≡ line_event.Faulted fault → printed ≡ printing (events_of_line number w t)
-    → head_of number (codes "js") l ++ (reply_of printed ++ codes "<p>The job ends here.</p>\n</article>\n") ≡ item_of_event number l read w t behind
-faulted_is number l read w (line_event.Faulted g) fault behind printed is e = ap (λ x. head_of number (codes "js") l ++ (reply_of x ++ codes "<p>The job ends here.</p>\n</article>\n")) e
-faulted_is number l read w line_event.Nothing fault behind printed is e = absurd (let f : line_event.Nothing ≡ line_event.Faulted fault = is in cc)
-faulted_is number l read w (line_event.StepBegan end card) fault behind printed is e = absurd (let f : line_event.StepBegan end card ≡ line_event.Faulted fault = is in cc)
-faulted_is number l read w (line_event.Answered t a) fault behind printed is e = absurd (let f : line_event.Answered t a ≡ line_event.Faulted fault = is in cc)
+pub faulted_is : (number : ℕ) (l : List ℕ) (read : Line) (w : WalkValue) (t : LineEvent) (fault : Fault) (trailing printed : List ℕ) → t ≡ line_event.Faulted fault → printed ≡ printing (events_of_line number w t)
+    → head_of number (codes "js") l ++ (reply_of printed ++ codes "<p>The job ends here.</p>\n</article>\n") ≡ item_of_event number l read w t trailing
+faulted_is number l read w (line_event.Faulted g) fault trailing printed is e = ap (λ x. head_of number (codes "js") l ++ (reply_of x ++ codes "<p>The job ends here.</p>\n</article>\n")) e
+faulted_is number l read w line_event.Nothing fault trailing printed is e = absurd (let f : line_event.Nothing ≡ line_event.Faulted fault = is in cc)
+faulted_is number l read w (line_event.StepBegan end card) fault trailing printed is e = absurd (let f : line_event.StepBegan end card ≡ line_event.Faulted fault = is in cc)
+faulted_is number l read w (line_event.Answered t a) fault trailing printed is e = absurd (let f : line_event.Answered t a ≡ line_event.Faulted fault = is in cc)
 
 -- the item of a statement
 abbrev item_by : ℕ → List ℕ → List ℕ → List ℕ → List ℕ → List ℕ → List ℕ
-item_by number l behind how printed changes = head_of number how l ++ (reply_of printed ++ tail_of behind changes)
+item_by number l trailing how printed changes = head_of number how l ++ (reply_of printed ++ tail_of trailing changes)
 
-by_parts : (number : ℕ) (l behind how how' printed printed' changes changes' : List ℕ) → how ≡ how' → printed ≡ printed' → changes ≡ changes' → item_by number l behind how printed changes ≡ item_by number l behind how' printed' changes'
-by_parts number l behind how how' printed printed' changes changes' e f g =
-    ap (λ x. item_by number l behind x printed changes) e ∙ ap (λ x. item_by number l behind how' x changes) f ∙ ap (λ x. item_by number l behind how' printed' x) g
+by_parts : (number : ℕ) (l trailing how how' printed printed' changes changes' : List ℕ) → how ≡ how' → printed ≡ printed' → changes ≡ changes' → item_by number l trailing how printed changes ≡ item_by number l trailing how' printed' changes'
+by_parts number l trailing how how' printed printed' changes changes' e f g =
+    ap (λ x. item_by number l trailing x printed changes) e ∙ ap (λ x. item_by number l trailing how' x changes) f ∙ ap (λ x. item_by number l trailing how' printed' x) g
 
-pub stated_is : (number : ℕ) (l : List ℕ) (read : Line) (w : WalkValue) (t : LineEvent) (behind how printed changes below : List ℕ) → (t ≡ line_event.Nothing → ⊥) → ((fault : Fault) → t ≡ line_event.Faulted fault → ⊥) → how ≡ class_of (events_of_line number w t) → printed ≡ printing (events_of_line number w t)
-    → changes ≡ change_lines w.step (changes_of read (events_of_line number w t) w.step) → below ≡ behind → item_by number l below how printed changes ≡ item_of_event number l read w t behind
-stated_is number l read w line_event.Nothing behind how printed changes below some other e f g h = absurd (some refl)
-stated_is number l read w (line_event.Faulted fault) behind how printed changes below some other e f g h = absurd (other fault refl)
-stated_is number l read w (line_event.Answered t a) behind how printed changes below some other e f g h = ap (λ x. item_by number l x how printed changes) h ∙ by_parts number l behind how _ printed _ changes _ e f g
-stated_is number l read w (line_event.StepBegan None card) behind how printed changes below some other e f g h = ap (λ x. item_by number l x how printed changes) h ∙ by_parts number l behind how _ printed _ changes _ e f g
-stated_is number l read w (line_event.StepBegan (Some abended) card) behind how printed changes below some other e f g h = ap (λ x. item_by number l x how printed changes) h ∙ by_parts number l behind how _ printed _ changes _ e f g
+pub stated_is : (number : ℕ) (l : List ℕ) (read : Line) (w : WalkValue) (t : LineEvent) (trailing how printed changes below : List ℕ) → (t ≡ line_event.Nothing → ⊥) → ((fault : Fault) → t ≡ line_event.Faulted fault → ⊥) → how ≡ class_of (events_of_line number w t) → printed ≡ printing (events_of_line number w t)
+    → changes ≡ change_lines w.step (changes_of read (events_of_line number w t) w.step) → below ≡ trailing → item_by number l below how printed changes ≡ item_of_event number l read w t trailing
+stated_is number l read w line_event.Nothing trailing how printed changes below some other e f g h = absurd (some refl)
+stated_is number l read w (line_event.Faulted fault) trailing how printed changes below some other e f g h = absurd (other fault refl)
+stated_is number l read w (line_event.Answered t a) trailing how printed changes below some other e f g h = ap (λ x. item_by number l x how printed changes) h ∙ by_parts number l trailing how _ printed _ changes _ e f g
+stated_is number l read w (line_event.StepBegan None card) trailing how printed changes below some other e f g h = ap (λ x. item_by number l x how printed changes) h ∙ by_parts number l trailing how _ printed _ changes _ e f g
+stated_is number l read w (line_event.StepBegan (Some abended) card) trailing how printed changes below some other e f g h = ap (λ x. item_by number l x how printed changes) h ∙ by_parts number l trailing how _ printed _ changes _ e f g
 
 -- what was written to memory that held nothing
 pub all_written : (old new text : List ℕ) → old ≡ [] → new ≡ old ++ text → new ≡ text

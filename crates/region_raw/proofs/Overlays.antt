@@ -14,11 +14,11 @@ overlaid_values [] (w ∷ ws) rest e = absurd (omega (arith, e))
 overlaid_values (x ∷ xs) [] rest e = absurd (omega (arith, e))
 overlaid_values (x ∷ xs) (w ∷ ws) rest e = ap (λ l. Some w ∷ l) (overlaid_values xs ws rest (omega (arith, e)))
 
-overlaid_behind : (front rest : List (Option ℕ)) (at : ℕ) (ws : List ℕ) → at ≡ length front → overlaid (front ++ rest) at ws ≡ front ++ overlaid rest 0 ws
-overlaid_behind [] rest zero ws e = refl
-overlaid_behind [] rest (suc at) ws e = absurd (omega (arith, e))
-overlaid_behind (c ∷ front) rest zero ws e = absurd (omega (arith, e))
-overlaid_behind (c ∷ front) rest (suc at) ws e = ap (λ l. c ∷ l) (overlaid_behind front rest at ws (omega (arith, e)))
+overlaid_after : (front rest : List (Option ℕ)) (at : ℕ) (ws : List ℕ) → at ≡ length front → overlaid (front ++ rest) at ws ≡ front ++ overlaid rest 0 ws
+overlaid_after [] rest zero ws e = refl
+overlaid_after [] rest (suc at) ws e = absurd (omega (arith, e))
+overlaid_after (c ∷ front) rest zero ws e = absurd (omega (arith, e))
+overlaid_after (c ∷ front) rest (suc at) ws e = ap (λ l. c ∷ l) (overlaid_after front rest at ws (omega (arith, e)))
 
 -- values in place of just as many values
 pub overlaid_is : (cs : List (Option ℕ)) (at n : ℕ) (xs ws : List ℕ) → at + n ≤ length cs → take n (drop at cs) ≡ map Some xs → length ws ≡ n → overlaid cs at ws ≡ written cs at n ws
@@ -26,7 +26,7 @@ overlaid_is cs at n xs ws fits is e =
     let rest = drop (at + n) cs in
     let front : at ≡ length (take at cs) = omega (arith, fits, length-take at cs) in
     let long : length xs ≡ length ws = omega (arith, fits, e, ap length is, length-map xs Some, length-take n (drop at cs), length-drop at cs) in
-    ap (λ l. overlaid l at ws) (sym (row_is cs at n xs is)) ∙ overlaid_behind (take at cs) (map Some xs ++ rest) at ws front
+    ap (λ l. overlaid l at ws) (sym (row_is cs at n xs is)) ∙ overlaid_after (take at cs) (map Some xs ++ rest) at ws front
     ∙ ap (λ l. take at cs ++ l) (overlaid_values xs ws rest long)
 
 -- what is blank stays blank, and what has a value has one

@@ -17,8 +17,8 @@ byte_in_row size p i h1 h2 = grind (arith, nat_tests, get_or-map, get_or-replica
 first_are : (size : ℕ) (p : Option (List ℕ)) (ps : Pages) → ArePages size (p ∷ ps) → ArePages size (p ∷ [])
 first_are size p ps h1 = grind (arith, common_steps)
 
-behind : (xs ys : List (Option ℕ)) (k m : ℕ) → m ≡ length xs + k → get_or (xs ++ ys) m None ≡ get_or ys k None
-behind xs ys k m e = ap (λ j. get_or (xs ++ ys) j None) e ∙ get_or-append-add xs ys k None
+trailing : (xs ys : List (Option ℕ)) (k m : ℕ) → m ≡ length xs + k → get_or (xs ++ ys) m None ≡ get_or ys k None
+trailing xs ys k m e = ap (λ j. get_or (xs ++ ys) j None) e ∙ get_or-append-add xs ys k None
 
 byte_in_pages : (size : ℕ) (pos : 0 < size) (ps : Pages) (p o i : ℕ) → ArePages size ps → i < size → o ≡ p * size + i → get_or (spread size ps) o None ≡ byte_in (get_or ps p None) i
 byte_in_pages size pos [] p o i are low e = refl
@@ -28,7 +28,7 @@ byte_in_pages size pos (x ∷ ps) zero o i are low e =
     ∙ get_or_append_left (page_row size x) (spread size ps) None i (omega (arith, low, length_row size pos x ps are))
     ∙ byte_in_row size x i (first_are size x ps are) low
 byte_in_pages size pos (x ∷ ps) (suc p) o i are low e =
-    behind (page_row size x) (spread size ps) (p * size + i) o (omega (arith, e, suc-mul p size, length_row size pos x ps are))
+    trailing (page_row size x) (spread size ps) (p * size + i) o (omega (arith, e, suc-mul p size, length_row size pos x ps are))
     ∙ byte_in_pages size pos ps p (p * size + i) i (rest_are size pos x ps are) low refl
 
 -- the byte at an index is the one there in the row

@@ -52,11 +52,11 @@ module _ {M : Type 1} {𝓤 : Ura M} (𝓛 : Logic 𝓤) (l : Lft) where
       Lends-both 𝓛 short (row b o cs) (said short) (row_seen b o cs) l (Lends-said 𝓛 short tt l) (row_is_lent b cs o)
 
 module _ {M : Type 1} {𝓤 : Ura M} (𝓛 : Logic 𝓤) (κ : Lft) (b : ℕ) where
-  behind : (cs : List (Option ℕ)) (i o at : ℕ) → i ≤ length cs → at ≡ o + i → ent 𝓤 (sem 𝓛 (row_seen b o cs κ)) (sem 𝓛 (row_seen b at (drop i cs) κ))
-  behind cs zero o at le e = let same : o ≡ at = omega arith in qed 𝓛 (‵ (row_seen b o cs κ) ∷ []) ∵ rewrite ! 0 (λ (k : ℕ). ‵ (row_seen b k cs κ)) same refl $ done !
-  behind [] (suc i) o at le e = absurd (omega arith)
-  behind (c ∷ cs) (suc i) o at le e = let less : i ≤ length cs = omega arith in let next : at ≡ (o + 1) + i = omega arith in
-      via 𝓤 (sem 𝓛 (row_seen b (o + 1) cs κ)) (snd∗ 𝓤 (sem 𝓛 (byte_seen b o c κ)) (sem 𝓛 (row_seen b (o + 1) cs κ))) (behind cs i (o + 1) at less next)
+  trailing : (cs : List (Option ℕ)) (i o at : ℕ) → i ≤ length cs → at ≡ o + i → ent 𝓤 (sem 𝓛 (row_seen b o cs κ)) (sem 𝓛 (row_seen b at (drop i cs) κ))
+  trailing cs zero o at le e = let same : o ≡ at = omega arith in qed 𝓛 (‵ (row_seen b o cs κ) ∷ []) ∵ rewrite ! 0 (λ (k : ℕ). ‵ (row_seen b k cs κ)) same refl $ done !
+  trailing [] (suc i) o at le e = absurd (omega arith)
+  trailing (c ∷ cs) (suc i) o at le e = let less : i ≤ length cs = omega arith in let next : at ≡ (o + 1) + i = omega arith in
+      via 𝓤 (sem 𝓛 (row_seen b (o + 1) cs κ)) (snd∗ 𝓤 (sem 𝓛 (byte_seen b o c κ)) (sem 𝓛 (row_seen b (o + 1) cs κ))) (trailing cs i (o + 1) at less next)
 
   in_front : (xs : List ℕ) (rest : List (Option ℕ)) (o : ℕ) → ent 𝓤 (sem 𝓛 (row_seen b o (map Some xs ++ rest) κ)) (sem 𝓛 (elements_shared u8 xs b o κ))
   in_front [] rest o = qed 𝓛 (‵ (row_seen b o rest κ) ∷ []) ∵ keep ! [] $ done !
@@ -65,5 +65,5 @@ module _ {M : Type 1} {𝓤 : Ura M} (𝓛 : Logic 𝓤) (κ : Lft) (b : ℕ) wh
   -- a run of values is read
   pub run_seen : (cs : List (Option ℕ)) (o i n : ℕ) (xs : List ℕ) → i ≤ length cs → take n (drop i cs) ≡ map Some xs → ent 𝓤 (sem 𝓛 (row_seen b o cs κ)) (sem 𝓛 (elements_shared u8 xs b (o + i) κ))
   run_seen cs o i n xs le is = let rest = drop n (drop i cs) in let split = sym (take-append-drop n (drop i cs)) ∙ ap (λ l. l ++ rest) is in
-      qed 𝓛 (‵ (row_seen b o cs κ) ∷ []) ∵ use1 𝓛 (‵ (row_seen b (o + i) (drop i cs) κ)) (behind cs i o (o + i) le refl) $
+      qed 𝓛 (‵ (row_seen b o cs κ) ∷ []) ∵ use1 𝓛 (‵ (row_seen b (o + i) (drop i cs) κ)) (trailing cs i o (o + i) le refl) $
       rewrite ! 0 (λ (l : List (Option ℕ)). ‵ (row_seen b (o + i) l κ)) split refl $ by ! (in_front xs rest (o + i))

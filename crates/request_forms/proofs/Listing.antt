@@ -28,7 +28,7 @@ use Rattle.request_forms.proofs.Rooms.{room_lacks}
 use Rattle.request_forms.proofs.Pooling.{granted, grant_agrees, grants_agree}
 use Rattle.mvs_model.proofs.StorageLaws.{taken_back}
 use Rattle.request_forms.specs.Lists.{GrantsEach, IsMemberShort, LacksAt, LacksAfter, LacksIn, TakesFirst, first_of, later_of, list_wants}
-use Rattle.request_forms.proofs.Obtaining.{its_subpool, new_subpool, stays_entered, now_entered, takes_told}
+use Rattle.request_forms.proofs.Obtaining.{its_subpool, new_subpool, stays_entered, now_entered, takes_correct}
 
 -- the first member granted, and then the others
 pub first_granted : (st mid new : Storage) (s start n : ℕ) (rest lengths hints : List ℕ) (p : PlaceValue) (done ps : List PlaceValue) → lengths ≡ n ∷ rest → IsStorage mid → Grant st s (fixed_want n start Below) p mid → TakesFirst st s (fixed_want n start Below) (first_of hints) p
@@ -100,7 +100,7 @@ module _ (roots : FinMap name_cmp Root) where
   each_takes st new o t number s (want ∷ wants) (a ∷ hints) (p ∷ ps) agree e l h = (
     machine_state roots h.0 o,
     granted roots st h.0 o o t number s want p agree h.1 (its_subpool o t number s e) (stays_entered o t number s e) h.2,
-    takes_told roots st o t number s want (Some a) p agree (its_subpool o t number s e) (λ q i c. ap (λ x. Some x) (h.3 q i c)) a refl,
+    takes_correct roots st o t number s want (Some a) p agree (its_subpool o t number s e) (λ q i c. ap (λ x. Some x) (h.3 q i c)) a refl,
     each_takes h.0 new o t number s wants hints ps (grant_agrees roots st h.0 s want p agree h.1 h.2).0 e (let f : suc (length hints) ≡ suc (length wants) = l in omega (arith, f)) h.4,
   )
 
@@ -136,7 +136,7 @@ module _ (roots : FinMap name_cmp Root) where
   new_takes st new o after t number s (want ∷ wants) (a ∷ hints) (p ∷ ps) agree some e spare b l h = (
     machine_state roots h.0 after,
     granted roots st h.0 o after t number s want p agree h.1 (new_subpool o t number s e spare) (now_entered o t number s after e b) h.2,
-    takes_told roots st o t number s want (Some a) p agree (new_subpool o t number s e spare) (λ q i c. ap (λ x. Some x) (h.3 q i c)) a refl,
+    takes_correct roots st o t number s want (Some a) p agree (new_subpool o t number s e spare) (λ q i c. ap (λ x. Some x) (h.3 q i c)) a refl,
     each_takes h.0 new after t number s wants hints ps (grant_agrees roots st h.0 s want p agree h.1 h.2).0 (bound_entry o after t number s b) (let f : suc (length hints) ≡ suc (length wants) = l in omega (arith, f)) h.4,
   )
 

@@ -56,9 +56,9 @@ module _ (r : Regions) (held : ℕ → Option ℕ) (s : ℕ) (want : WantValue) 
     greatest = λ m a w l q. h a (from_eight 8 a (shorter_place r held s want 8 m a (omega arith) (omega arith) q));
   }
 
-  pub longest_told : (eight : WantValue) (v : Option PlaceValue) → eight ≡ record want { least = 8 } → MatchOption v (NoPlace r held s eight) (Chosen r held s eight) → MatchOption v (IsLongest r held s want 0) (λ p. IsLongest r held s want p.len)
-  longest_told eight None e h = none_is (subst (NoPlace r held s) e h)
-  longest_told eight (Some p) e h = longest_is p (subst (λ w. Chosen r held s w p) e h)
+  pub longest_correct : (eight : WantValue) (v : Option PlaceValue) → eight ≡ record want { least = 8 } → MatchOption v (NoPlace r held s eight) (Chosen r held s eight) → MatchOption v (IsLongest r held s want 0) (λ p. IsLongest r held s want p.len)
+  longest_correct eight None e h = none_is (subst (NoPlace r held s) e h)
+  longest_correct eight (Some p) e h = longest_is p (subst (λ w. Chosen r held s w p) e h)
 
 -- no page
 pub no_pages : (test : ℕ → Bool) → 0 ≡ count_below 0 test

@@ -72,9 +72,9 @@ pub bound_keeper : (o : Owners) (t found : Name) (number s : ℕ) (new : Owners)
 bound_keeper o t found number s new named binds = subst (λ n. Binds o (effective_task o n number) number s new) named binds
 
 -- an area takes the hinted address, where it takes it from the store
-pub takes_told : (roots : FinMap name_cmp Root) (st : Storage) (o : Owners) (t : Name) (number s : ℕ) (want : WantValue) (hints : Option ℕ) (p : PlaceValue) → Agree roots st → SubpoolOf o t number s
+pub takes_correct : (roots : FinMap name_cmp Root) (st : Storage) (o : Owners) (t : Name) (number s : ℕ) (want : WantValue) (hints : Option ℕ) (p : PlaceValue) → Agree roots st → SubpoolOf o t number s
     → ((q : PlaceValue) → hints ≡ Some q.addr → Chosen st.regions (holder st) s want q → Some p ≡ Some q) → (a : ℕ) → hints ≡ Some a → FollowsHint (machine_state roots st o) t number want a p
-takes_told roots st o t number s want hints p agree sub takes a is q later g e =
+takes_correct roots st o t number s want hints p agree sub takes a is q later g e =
     let same : g.subpool ≡ s = one_subpool o t number g.subpool s g.is_subpool sub in
     let chosen : Chosen st.regions (holder st) s want q = subst (λ h. Chosen st.regions h s want q) (same_holder st o (pools_of roots st) agree.parts.storage) (subst (λ u. Chosen st.regions (state.holder (machine_state roots st o)) u want q) same g.chosen) in
     let found : Some p ≡ Some q = takes q (is ∙ ap Some (sym e)) chosen in
@@ -83,4 +83,4 @@ takes_told roots st o t number s want hints p agree sub takes a is q later g e =
 pub area_takes : (roots : FinMap name_cmp Root) (st : Storage) (o : Owners) (t : Name) (number s : ℕ) (want : WantValue) (hints : Option ℕ) (r : Option PlaceValue) → Agree roots st → SubpoolOf o t number s
     → ((q : PlaceValue) → hints ≡ Some q.addr → Chosen st.regions (holder st) s want q → r ≡ Some q) → IfSome r (λ p. (a : ℕ) → hints ≡ Some a → FollowsHint (machine_state roots st o) t number want a p)
 area_takes roots st o t number s want hints None agree sub takes = tt
-area_takes roots st o t number s want hints (Some p) agree sub takes = takes_told roots st o t number s want hints p agree sub takes
+area_takes roots st o t number s want hints (Some p) agree sub takes = takes_correct roots st o t number s want hints p agree sub takes

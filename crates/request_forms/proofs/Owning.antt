@@ -34,28 +34,28 @@ label_is o s number owner kept owned entered =
     ap (λ v. option_and_then (λ t. option_map (λ n. (n, t)) (number_of o t s)) v) owned ∙ ap (λ v. option_map (λ n. (n, owner)) v) (number_kept o owner number s kept entered)
 
 -- what the tasks tell of a subpool
-pub label_told : (o : Owners) (s : ℕ) (v : Option (ℕ × Name)) → OwnersConsistent o → MatchOption v (get o.owner s ≡ None) (λ r. (get o.owner s ≡ Some r.1) × (entry o r.1 r.0 ≡ Some s)) → v ≡ label_of o (Some s)
-label_told o s None kept h = sym (ap (λ v. option_and_then (λ t. option_map (λ n. (n, t)) (number_of o t s)) v) h)
-label_told o s (Some r) kept h = sym (label_is o s r.0 r.1 kept h.0 h.1)
+pub label_correct : (o : Owners) (s : ℕ) (v : Option (ℕ × Name)) → OwnersConsistent o → MatchOption v (get o.owner s ≡ None) (λ r. (get o.owner s ≡ Some r.1) × (entry o r.1 r.0 ≡ Some s)) → v ≡ label_of o (Some s)
+label_correct o s None kept h = sym (ap (λ v. option_and_then (λ t. option_map (λ n. (n, t)) (number_of o t s)) v) h)
+label_correct o s (Some r) kept h = sym (label_is o s r.0 r.1 kept h.0 h.1)
 
 -- what an active task has under a number, and what it means by one
-pub had_told : (o : Owners) (t : Name) (n s : ℕ) (v : Option (ℕ × Name)) → true ≡ is_active o t → entry o t n ≡ Some s → v ≡ label_of o (Some s) → v ≡ entry_owner o t n
-had_told o t n s v active entered is = is ∙ ap (label_of o) (sym entered) ∙ ap (λ b. if b then label_of o (entry o t n) else None) active
+pub had_correct : (o : Owners) (t : Name) (n s : ℕ) (v : Option (ℕ × Name)) → true ≡ is_active o t → entry o t n ≡ Some s → v ≡ label_of o (Some s) → v ≡ entry_owner o t n
+had_correct o t n s v active entered is = is ∙ ap (label_of o) (sym entered) ∙ ap (λ b. if b then label_of o (entry o t n) else None) active
 
-pub meant_told : (o : Owners) (t : Name) (n s : ℕ) (v : Option (ℕ × Name)) → true ≡ is_subpool_number n → true ≡ is_active o t → subpool_meant o t n ≡ Some s → v ≡ label_of o (Some s) → v ≡ resolved_owner o t n
-meant_told o t n s v valid active meant is =
+pub meant_correct : (o : Owners) (t : Name) (n s : ℕ) (v : Option (ℕ × Name)) → true ≡ is_subpool_number n → true ≡ is_active o t → subpool_meant o t n ≡ Some s → v ≡ label_of o (Some s) → v ≡ resolved_owner o t n
+meant_correct o t n s v valid active meant is =
     is ∙ ap (label_of o) (sym meant) ∙ ap (λ b. if true && b then label_of o (subpool_meant o t n) else None) active ∙ ap (λ b. if b && is_active o t then label_of o (subpool_meant o t n) else None) valid
 
 -- whether an active task has a subpool, by what stands under its numbers; and one that is not active
-pub has_told : (o : Owners) (t : Name) (s : ℕ) (hints : Bool) (entries : List (Option ℕ)) → true ≡ is_active o t → length entries ≡ 133 → ((n : ℕ) → n < 133 → get_or entries n None ≡ entry o t n)
+pub has_correct : (o : Owners) (t : Name) (s : ℕ) (hints : Bool) (entries : List (Option ℕ)) → true ≡ is_active o t → length entries ≡ 133 → ((n : ℕ) → n < 133 → get_or entries n None ≡ entry o t n)
     → hints ≡ any_below (λ n. has (λ r. r == s) (get_or entries n None)) (length entries) → hints ≡ has_subpool o t s
-has_told o t s hints entries active size each is =
+has_correct o t s hints entries active size each is =
     is ∙ ap (any_below (λ n. has (λ r. r == s) (get_or entries n None))) size
     ∙ same_below 133 (λ n. has (λ r. r == s) (get_or entries n None)) (λ n. has (λ r. r == s) (entry o t n)) (λ n low. ap (has (λ r. r == s)) (each n low))
     ∙ ap (λ b. b && any_below (λ n. has (λ r. r == s) (entry o t n)) 133) active
 
-pub none_told : (o : Owners) (t : Name) (s : ℕ) → false ≡ is_active o t → false ≡ has_subpool o t s
-none_told o t s active = ap (λ b. b && any_below (λ n. has (λ r. r == s) (entry o t n)) 133) active
+pub none_correct : (o : Owners) (t : Name) (s : ℕ) → false ≡ is_active o t → false ≡ has_subpool o t s
+none_correct o t s active = ap (λ b. b && any_below (λ n. has (λ r. r == s) (entry o t n)) 133) active
 
 module _ (roots : FinMap name_cmp Root) (st : Storage) (o : Owners) (agree : Agree roots st) (s : ℕ) where
   seen : page_holder st ≡ page_subpool (machine_state roots st o)

@@ -83,9 +83,9 @@ module _ (m : MemoryState) (pages : List (Option ℕ)) (s : ℕ) where
         let before : count_below start f ≡ count_below from f = count_stays f from start run.after (λ i low high. held_begins i (run.held i low high)) in
         let page : start / 512 ≡ from / 512 = omega (arith, run.after, run.some, run.within) in
         let one : count_below (start + 1) f ≡ count_below start f + 1 = count_once f start (first_begins start (ap (owner_of pages) page ∙ own) (run.free start (omega arith) run.some) begun) in
-        let behind : count_below end f ≡ count_below (start + 1) f = count_stays f (start + 1) end (omega (arith, run.some)) (λ i low high.
+        let trailing : count_below end f ≡ count_below (start + 1) f = count_stays f (start + 1) end (omega (arith, run.some)) (λ i low high.
         inner_begins i (λ zero. absurd (omega (arith, zero, low, high, run.after, run.within))) (run.free (i - 1) (omega (arith, low)) (omega (arith, high)))) in
-        omega (arith, before, one, behind)
+        omega (arith, before, one, trailing)
 
     -- that ends before the page does
     pub inside_counted : (steps : ℕ) → 1 ≤ steps → end < 512 * (from / 512) + 512 → looked_at m pages s from + steps ≡ looked_at m pages s end + (steps - 1)

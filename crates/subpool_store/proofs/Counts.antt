@@ -42,11 +42,11 @@ count_run f base at start end low more some all none =
 
 -- the count of a middle part, where nothing else passes
 pub count_middle : (n x y z : ℕ) (f : ℕ → Bool) → n ≡ x + (y + z) → ((i : ℕ) → i < x → f i ≡ false) → ((i : ℕ) → x + y ≤ i → i < n → f i ≡ false) → count_below n f ≡ count_below y (λ i. f (x + i))
-count_middle n x y z f is before behind =
+count_middle n x y z f is before trailing =
     let one : count_below n f ≡ count_below x f + count_below (y + z) (λ i. f (x + i)) = count_split n x (y + z) f is in
     let two : count_below (y + z) (λ i. f (x + i)) ≡ count_below y (λ i. f (x + i)) + count_below z (λ i. f (x + (y + i))) = count_split (y + z) y z (λ i. f (x + i)) refl in
     let none : count_below x f ≡ 0 = count_none x f before in
-    let rest : count_below z (λ i. f (x + (y + i))) ≡ 0 = count_none z (λ i. f (x + (y + i))) (λ i low. behind (x + (y + i)) (omega arith) (omega arith)) in
+    let rest : count_below z (λ i. f (x + (y + i))) ≡ 0 = count_none z (λ i. f (x + (y + i))) (λ i low. trailing (x + (y + i)) (omega arith) (omega arith)) in
     omega arith
 
 pub count_empty : (n : ℕ) (f : ℕ → Bool) → n ≡ 0 → 0 ≡ count_below n f
@@ -119,7 +119,7 @@ count_both b a fill st both is s =
       low =
           let f : b.first ≡ 3072 = first_b in
           let m : b.pages ≤ 2048 = few_b in
-          count_middle 2097152 3072 (512 * b.pages) (2097152 - 3072 - 512 * b.pages) (holds (store_of b a fill) s) (omega arith) (λ i before. outside i (λ from. absurd (omega arith)) (omega arith)) (λ i behind to. outside i (λ _. omega arith) to)
+          count_middle 2097152 3072 (512 * b.pages) (2097152 - 3072 - 512 * b.pages) (holds (store_of b a fill) s) (omega arith) (λ i before. outside i (λ from. absurd (omega arith)) (omega arith)) (λ i trailing to. outside i (λ _. omega arith) to)
           ∙ count_same (512 * b.pages) (λ i. holds (store_of b a fill) s (3072 + i)) (λ i. has (λ t. eqb t s) (get b.held (b.first + i))) (λ i inside. ap (has (λ t. eqb t s)) (low_holder b a fill (3072 + i) (omega arith) ∙ ap (λ x. get b.held (x + i)) (sym first_b)))
 
       high : count_below (512 * a.pages) (λ i. holds (store_of b a fill) s (2097152 + i)) ≡ count_below (512 * a.pages) (λ i. has (λ t. eqb t s) (get a.held (a.first + i)))

@@ -26,8 +26,8 @@ marked_more a b c from at to v low high one two = record {
 }
 
 -- what lies after a range is as before
-pub behind_mark : (a b : List Bool) (from at : ℕ) (v : Bool) → IsMarked a from at v b → (i : ℕ) → at ≤ i → get_or b i false ≡ get_or a i false
-behind_mark a b from at v marked i low = marked.each i ∙ cond-false _ _ _ (out_of_range_from from at i (λ _. low))
+pub after_mark : (a b : List Bool) (from at : ℕ) (v : Bool) → IsMarked a from at v b → (i : ℕ) → at ≤ i → get_or b i false ≡ get_or a i false
+after_mark a b from at v marked i low = marked.each i ∙ cond-false _ _ _ (out_of_range_from from at i (λ _. low))
 
 pub was_set : (a b : List Bool) (from to : ℕ) → IsMarked a from to false b → (i : ℕ) → get_or b i false ≡ true → get_or a i false ≡ true
 was_set a b from to marked i set = elim (cases_Bool (in_range from to i)) [

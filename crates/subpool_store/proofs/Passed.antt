@@ -30,7 +30,7 @@ walk_at at entry queue counted = record { start = at; end = at; entry = entry; q
 pub walk_few : (m : MemoryState) (pages : List (Option ℕ)) (s : ℕ) (w : PageWalk) → IsExact m.held pages → IsWalk m pages s w → w.counted.steps < 33554432
 walk_few m pages s w exact walk = counted_few m pages s w.end w.counted.steps walk.counted walk.within exact.sizes exact.most
 
-module _ (m : MemoryState) (pages : List (Option ℕ)) (s n : ℕ) (exact : IsExact m.held pages) (w : PageWalk) (walk : IsWalk m pages s w) (inside : IsInside pages s w) (page start end behind : ℕ) (here : w.end / 512 ≡ page)
+module _ (m : MemoryState) (pages : List (Option ℕ)) (s n : ℕ) (exact : IsExact m.held pages) (w : PageWalk) (walk : IsWalk m pages s w) (inside : IsInside pages s w) (page start end trailing : ℕ) (here : w.end / 512 ≡ page)
     (run : IsFreeRun m.held w.end (512 * page + 512) start end) (ends : end < 512 * page + 512) where
   pub short_page : end / 512 ≡ page
   short_page = omega (arith, here, run.some, run.after, ends)
@@ -42,7 +42,7 @@ module _ (m : MemoryState) (pages : List (Option ℕ)) (s n : ℕ) (exact : IsEx
   short_fails = held_fails m pages s end (run.stops ends)
 
   -- a run more
-  pub short_passed : IsCursor m page end behind → (more : Counted) → more.steps ≡ w.counted.steps + 1 → IsWalk m pages s (record { start = end; end = end; entry = w.entry; queue = behind; counted = more })
+  pub short_passed : IsCursor m page end trailing → (more : Counted) → more.steps ≡ w.counted.steps + 1 → IsWalk m pages s (record { start = end; end = end; entry = w.entry; queue = trailing; counted = more })
   short_passed cursor more is =
       let own = entry_own pages s (w.end / 512) inside in record {
         ordered = omega arith;
@@ -51,7 +51,7 @@ module _ (m : MemoryState) (pages : List (Option ℕ)) (s n : ℕ) (exact : IsEx
         stands = record {
           is = walk.stands.is ∙ inside ∙ sym short_inside;
           page = inl (walk.stands.is ∙ inside);
-          cursor = λ _. subst (λ p. IsCursor m p end behind) (sym short_page) cursor;
+          cursor = λ _. subst (λ p. IsCursor m p end trailing) (sym short_page) cursor;
           fresh = λ _. inr (run.stops ends);
         };
         counted =

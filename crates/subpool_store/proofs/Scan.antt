@@ -27,11 +27,11 @@ run_passes test first n from start end next p q run addr_is len_is inside d cove
     (low, run.passes (d - first) (omega arith) (omega arith))
 
 -- the scan keeps the longest place so far
-pub best_behind : (test : ℕ → Bool) (first n : ℕ) (want : WantValue) (from start end next : ℕ) (p : PlaceValue) (best best' r : Option PlaceValue) → IsNextRun test n from start end next → 8 ≤ want.least → 8 * n ≡ want.least →
+pub best_after : (test : ℕ → Bool) (first n : ℕ) (want : WantValue) (from start end next : ℕ) (p : PlaceValue) (best best' r : Option PlaceValue) → IsNextRun test n from start end next → 8 ≤ want.least → 8 * n ≡ want.least →
     p.addr ≡ 8 * (first + start) → p.len ≡ 8 * (end - start) → LongestIn p want r →
     ((n : ℕ) → Beats best n → Beats best' n) → ((n : ℕ) → Beats r n → Beats best' n) →
     CandidatesAfterBest test first want best from → CandidatesAfterBest test first want best' next
-best_behind test first n want from start end next p best best' r run some is addr_is len_is answer keeps takes before q cand =
+best_after test first n want from start end next p best best' r run some is addr_is len_is answer keeps takes before q cand =
     elim (before q cand) [
       | inr beaten ↦ inr (keeps q.len beaten)
       | inl begun ↦
@@ -43,7 +43,7 @@ best_behind test first n want from start end next p best best' r run some is add
           let some_run : start < end = run.some in
           let starts : start ≤ q.addr / 8 - first = elim (cases_lt (q.addr / 8 - first) start) [ inl low ↦ absurd (after_skipped low) | inr high ↦ high ] in
           elim (cases_lt q.addr (8 * (first + next))) [
-            | inr behind ↦ inl behind
+            | inr trailing ↦ inl trailing
             | inl low ↦
                 elim (cases_lt q.addr (8 * (first + end))) [
                   | inr past ↦ absurd (run.rest (q.addr / 8 - first) (omega arith) (omega arith) (window test first n want q is cand))

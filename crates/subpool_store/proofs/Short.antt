@@ -10,8 +10,8 @@ pub past_fails : (bits : List Bool) (pages : List (Option ℕ)) (s i : ℕ) → 
 past_fails bits pages s i past = ap (λ b. not b && is_usable s (owner_of pages (i / 512))) (get_or_past bits i true past)
 
 -- what does not go on with a run begins after its end
-pub begins_behind : (start end : ℕ) → (start ≡ end → ⊥) → end ≤ start → end < start
-begins_behind start end no_more low = elim (cases_eq start end) [ inl is ↦ absurd (no_more is) | inr other ↦ omega (arith, other, low) ]
+pub begins_after : (start end : ℕ) → (start ≡ end → ⊥) → end ≤ start → end < start
+begins_after start end no_more low = elim (cases_eq start end) [ inl is ↦ absurd (no_more is) | inr other ↦ omega (arith, other, low) ]
 
 module _ (test : ℕ → Bool) (n : ℕ) where
   -- nothing lies between a place and itself
@@ -22,7 +22,7 @@ module _ (test : ℕ → Bool) (n : ℕ) where
   pub fits_skip : (from at next : ℕ) → 1 ≤ n → NoneFits test n from at → ((i : ℕ) → at ≤ i → i < next → test i ≡ false) → NoneFits test n from next
   fits_skip from at next some none skipped x low high window = elim (cases_lt x at) [
     | inl before ↦ none x low before window
-    | inr behind ↦ absurd (both_ways _ (skipped x behind high) (window x (omega arith) (omega (arith, some))))
+    | inr trailing ↦ absurd (both_ways _ (skipped x trailing high) (window x (omega arith) (omega (arith, some))))
   ]
 
   -- and then a run that is too short
@@ -34,4 +34,4 @@ module _ (test : ℕ → Bool) (n : ℕ) where
 
   -- one stretch after another
   pub fits_join : (from at to : ℕ) → NoneFits test n from at → NoneFits test n at to → NoneFits test n from to
-  fits_join from at to one two x low high window = elim (cases_lt x at) [ inl before ↦ one x low before window | inr behind ↦ two x behind high window ]
+  fits_join from at to one two x low high window = elim (cases_lt x at) [ inl before ↦ one x low before window | inr trailing ↦ two x trailing high window ]

@@ -64,7 +64,7 @@ module _ (b a : RegionState) (fill : ℕ) (both : IsStore b a) (s : ℕ) where
       count_same 2097152 (begins_free_run (holder (store_of b a fill)) s) (begins_free_run (get b.held) s) (λ d low. begins_same (holder (store_of b a fill)) (get b.held) s d (λ e page. low_holder b a fill e (omega (arith, page, low))))
       ∙ count_middle 2097152 b.first (512 * b.pages) (2097152 - 3072 - 512 * b.pages) (begins_free_run (get b.held) s) (omega arith)
       (λ d before. begins_none (get b.held) s d (λ e page. outside_b e (inl (omega (arith, f, before, page)))))
-      (λ d behind to. begins_none (get b.held) s d (λ e page. outside_b e (inr (omega (arith, f, behind, page)))))
+      (λ d trailing to. begins_none (get b.held) s d (λ e page. outside_b e (inr (omega (arith, f, trailing, page)))))
 
   -- the runs above
   pub runs_above : count_below (512 * a.pages) (λ i. begins_free_run (holder (store_of b a fill)) s (2097152 + i)) ≡ count_below (512 * a.pages) (λ i. begins_free_run (get a.held) s (a.first + i))

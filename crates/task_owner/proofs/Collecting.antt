@@ -46,12 +46,12 @@ pub number_read : (x : TaskSlot) (n : ℕ) (o : Option ℕ) → o ≡ slice_inde
 number_read x n o e low long = ap (λ b. cond b (item_at x.numbers n) None) (let t : ltb n 133 ≡ true = grind (arith, nat_tests) in t) ∙ read_at x.numbers n n o e refl (omega (arith, long))
 
 -- two that are reported as equal, and two that are not
-pub told_same : (o : Option ℕ) (s : ℕ) → option_eq nat_eq o (Some s) ≡ true → o ≡ Some s
-told_same None s e = absurd (let f : false ≡ true = e in cc)
-told_same (Some r) s e = ap Some (eqb-true r s e)
+pub option_eq_same : (o : Option ℕ) (s : ℕ) → option_eq nat_eq o (Some s) ≡ true → o ≡ Some s
+option_eq_same None s e = absurd (let f : false ≡ true = e in cc)
+option_eq_same (Some r) s e = ap Some (eqb-true r s e)
 
-pub told_other : (o : Option ℕ) (s : ℕ) → option_eq nat_eq o (Some s) ≡ false → o ≡ Some s → ⊥
-told_other o s e same = let f : false ≡ true = sym e ∙ ap (λ p. option_eq nat_eq p (Some s)) same ∙ eq-eqb s s refl in cc
+pub option_eq_other : (o : Option ℕ) (s : ℕ) → option_eq nat_eq o (Some s) ≡ false → o ≡ Some s → ⊥
+option_eq_other o s e same = let f : false ≡ true = sym e ∙ ap (λ p. option_eq nat_eq p (Some s)) same ∙ eq-eqb s s refl in cc
 
 -- a task that has not got a subpool loses nothing
 pub nothing_lost : (number s : ℕ) (o : Option TaskSlot) → ((x : TaskSlot) → o ≡ Some x → number_of x number ≡ Some s → ⊥) → IsLost number s o o

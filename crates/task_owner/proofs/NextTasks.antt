@@ -73,12 +73,12 @@ module _ (active : Slab TaskSlot) (given : Option Name) (left : List (ℕ × Tas
           record { next = r.0; is = r.1; later = subst (λ n. is_before n r.0 ≡ false) same r.2 }
 
 -- what was found, where none is left
-pub first_told : (active : Slab TaskSlot) (given : Option Name) (left : List (ℕ × TaskSlot)) (found : Option Name) → left ≡ [] → FirstSeen active given left found
+pub first_correct : (active : Slab TaskSlot) (given : Option Name) (left : List (ℕ × TaskSlot)) (found : Option Name) → left ≡ [] → FirstSeen active given left found
     → MatchOption found ((k : ℕ) (x : TaskSlot) → get active k ≡ Some x → IsAfter x.name given → ⊥)
     (λ next. ((k : ℕ) × (x : TaskSlot) × (get active k ≡ Some x) × (x.name ≡ next) × IsAfter next given)
     × ((k : ℕ) (x : TaskSlot) → get active k ≡ Some x → IsAfter x.name given → is_before x.name next ≡ false))
-first_told active given left None empty s = λ k x there after. (let l = seen_none active given left None empty s k x there after in let no_name : ◌≡◌ {A = Option Name} None (Some l.next) = l.is in cc)
-first_told active given left (Some next) empty s =
+first_correct active given left None empty s = λ k x there after. (let l = seen_none active given left None empty s k x there after in let no_name : ◌≡◌ {A = Option Name} None (Some l.next) = l.is in cc)
+first_correct active given left (Some next) empty s =
     let f = s.from next refl in (
       (f.key, f.task, f.there, f.named, f.after),
       λ k x there after. (

@@ -85,8 +85,8 @@ child_mother seats owned d key id e f sound active name h =
       ap (mother_of seats) h.3 ∙ ap (option_map (λ y. y.name)) mother.1 ∙ ap Some (sym (name_is seats owned d key id e f sound mother.0 mother.1)),
     )
 
-pub child_told : (seats : List (Option TaskSlot)) (owned : List (Option Owned)) (d : TasksValue) (key id : ℕ) (e : directory seats owned ≡ d) (f : key ≡ id) (sound : IsSound seats owned) (active : IsTask d id)
+pub child_correct : (seats : List (Option TaskSlot)) (owned : List (Option Owned)) (d : TasksValue) (key id : ℕ) (e : directory seats owned ≡ d) (f : key ≡ id) (sound : IsSound seats owned) (active : IsTask d id)
     → (r : Option Name) → MatchOption r ((k : ℕ) (x : TaskSlot) → item_at seats k ≡ Some x → x.mother ≢ Some key) (λ name. (k : ℕ) × (x : TaskSlot) × (item_at seats k ≡ Some x) × (x.mother ≡ Some key) × (x.name ≡ name))
     → IfSome r (λ name. IsMother d.owners (name_of d id) name)
-child_told seats owned d key id e f sound active None h = tt
-child_told seats owned d key id e f sound active (Some name) h = child_mother seats owned d key id e f sound active name h
+child_correct seats owned d key id e f sound active None h = tt
+child_correct seats owned d key id e f sound active (Some name) h = child_mother seats owned d key id e f sound active name h

@@ -17,11 +17,11 @@ pub returns : goal.returns
 returns c =
     let task = c.split_once.result.0.now in
     let o = c.in-Some-read_operation.operation in
-    let behind = c.next_word.result.1.now in
+    let trailing = c.next_word.result.1.now in
     let parts = rw c.in-Some.is at c.split_once.ensures.parts in
     let named : is_name task ≡ true = sym c.is_name.ensures ∙ c.if-not-is_name.false in
     let place : is_in_place c.args.first (operation_text o) ≡ true = sym c.is_in_place.ensures ∙ c.if-not-is_in_place.false in
-    let split = split_line c.args.line.now task c.in-Some.rest.now c.next_word.result.0.now behind o c.split_once.ensures.before named parts c.next_word.ensures.word c.next_word.ensures.rest c.in-Some-read_operation.ensures in
+    let split = split_line c.args.line.now task c.in-Some.rest.now c.next_word.result.0.now trailing o c.split_once.ensures.before named parts c.next_word.ensures.word c.next_word.ensures.rest c.in-Some-read_operation.ensures in
     let with_field = subst (λ f. FormReading (operation_text o) c.name.result (operands_in (as_field f)) (filled c.read_operands.new.line c.read_operands.result)) c.field_of.ensures c.read_operands.ensures in
-    let reading = subst (λ t. FormReading (operation_text o) t (operands_in (as_field (field_of o behind))) (filled c.read_operands.new.line c.read_operands.result)) c.name.ensures with_field in
-    statement_read c.args.first c.args.line.now task o (field_of o behind) (filled c.read_operands.new.line c.read_operands.result) split named place reading
+    let reading = subst (λ t. FormReading (operation_text o) t (operands_in (as_field (field_of o trailing))) (filled c.read_operands.new.line c.read_operands.result)) c.name.ensures with_field in
+    statement_read c.args.first c.args.line.now task o (field_of o trailing) (filled c.read_operands.new.line c.read_operands.result) split named place reading

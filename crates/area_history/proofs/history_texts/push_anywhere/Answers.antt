@@ -1,6 +1,6 @@
 use Rattle.std.proofs.Common.{◌++◌, codes, decimal}
-use Rattle.job_script.proofs.Appending.{behind}
+use Rattle.job_script.proofs.Appending.{trailing}
 use Rattle.area_history.proofs.history_texts.push_anywhere.Goals as goal
 
 pub returns-clause-text : goal.returns-clause-text
-returns-clause-text c = (behind c.args.text.now c.push_decimal.new.self c.push_str-2.new.self (codes "With LOC=ANY it would fit: the largest area then has " ++ decimal c.args.longest) (codes " bytes. (rule 14)") (behind c.args.text.now c.push_str.new.self c.push_decimal.new.self (codes "With LOC=ANY it would fit: the largest area then has ") (decimal c.args.longest) (c.push_str.ensures.text) (c.push_decimal.ensures.text)) (c.push_str-2.ensures.text))
+returns-clause-text c = (trailing c.args.text.now c.push_decimal.new.self c.push_str-2.new.self (codes "With LOC=ANY it would fit: the largest area then has " ++ decimal c.args.longest) (codes " bytes. (rule 14)") (trailing c.args.text.now c.push_str.new.self c.push_decimal.new.self (codes "With LOC=ANY it would fit: the largest area then has ") (decimal c.args.longest) (c.push_str.ensures.text) (c.push_decimal.ensures.text)) (c.push_str-2.ensures.text))

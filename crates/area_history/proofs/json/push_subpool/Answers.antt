@@ -1,9 +1,9 @@
 use Rattle.std.proofs.Common.{◌≡◌, ◌++◌, ◌∙◌, ap, codes, decimal, rules}
 use Rattle.mvs_model.specs.Name.{trimmed}
-use Rattle.job_script.proofs.Appending.{behind}
+use Rattle.job_script.proofs.Appending.{trailing}
 use Rattle.area_history.proofs.json.push_subpool.Goals as goal
 
 pub returns-clause-text : goal.returns-clause-text
 returns-clause-text c =
     let number : c.from.result ≡ c.args.number = search rules in
-    behind c.args.text.now c.push_str-2.new.self c.push_name.new.self (codes ",\"subpool\":" ++ decimal c.args.number ++ codes ",\"owner\":\"") (trimmed c.args.owner.now) (behind c.args.text.now c.push_decimal.new.self c.push_str-2.new.self (codes ",\"subpool\":" ++ decimal c.args.number) (codes ",\"owner\":\"") (behind c.args.text.now c.push_str.new.self c.push_decimal.new.self (codes ",\"subpool\":") (decimal c.args.number) (c.push_str.ensures.text) (c.push_decimal.ensures.text ∙ ap (λ n. c.push_str.new.self ++ decimal n) number)) (c.push_str-2.ensures.text)) (c.push_name.ensures.text)
+    trailing c.args.text.now c.push_str-2.new.self c.push_name.new.self (codes ",\"subpool\":" ++ decimal c.args.number ++ codes ",\"owner\":\"") (trimmed c.args.owner.now) (trailing c.args.text.now c.push_decimal.new.self c.push_str-2.new.self (codes ",\"subpool\":" ++ decimal c.args.number) (codes ",\"owner\":\"") (trailing c.args.text.now c.push_str.new.self c.push_decimal.new.self (codes ",\"subpool\":") (decimal c.args.number) (c.push_str.ensures.text) (c.push_decimal.ensures.text ∙ ap (λ n. c.push_str.new.self ++ decimal n) number)) (c.push_str-2.ensures.text)) (c.push_name.ensures.text)

@@ -1,7 +1,7 @@
 use Rattle.std.proofs.Common.{arith, sym, ap, subst, ◌∙◌, ◌+◌}
 use Rattle.std.proofs.lemmas.Bool.Decides.{nat_tests}
 use Rattle.std.specs.Option.{option_copied}
-use Rattle.cell_pool.proofs.NextPools.{FirstBelow, none_more, one_more, first_told, within}
+use Rattle.cell_pool.proofs.NextPools.{FirstBelow, none_more, one_more, first_correct, within}
 use Rattle.cell_pool.proofs.entry.find_next.Goals as goal
 use Rattle.cell_pool.proofs.entry.find_next.Goals.{in-Some, in_default}
 
@@ -12,4 +12,4 @@ loop-key-preserved c = elim c.match-get.branch [
 ]
 
 pub returns : goal.returns
-returns c = first_told _ _ c.loop-key.key c.loop-key.next (λ k x there. grind (arith, nat_tests, within c.args.entries.now.slots k x there, c.capacity-key-end.ensures.value, c.capacity-key-end.ensures.slots, c.loop-key-test.false)) c.loop-key.invariant
+returns c = first_correct _ _ c.loop-key.key c.loop-key.next (λ k x there. grind (arith, nat_tests, within c.args.entries.now.slots k x there, c.capacity-key-end.ensures.value, c.capacity-key-end.ensures.slots, c.loop-key-test.false)) c.loop-key.invariant

@@ -23,6 +23,6 @@ returns-clause-field c =
     let some = some_text text (sym c.is_empty.ensures ∙ c.if-is_empty.false) in
     let same = c.skip_blanks-text.ensures.words in
     let start = c.skip_blanks-text.ensures.start in
-    let behind = c.second_word.ensures.rest in
+    let trailing = c.second_word.ensures.rest in
     let end = end_of_end line rest text c.second_word.ensures.end c.skip_blanks-text.ensures.end in
-    (op, field_at line rest text end behind same start, line_operands line rest text c.in-Some.operation other op behind same start some)
+    (op, field_at line rest text end trailing same start, line_operands line rest text c.in-Some.operation other op trailing same start some)

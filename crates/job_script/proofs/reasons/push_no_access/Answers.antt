@@ -1,10 +1,10 @@
 use Rattle.std.proofs.Common.{◌++◌, codes}
 use Rattle.mvs_model.specs.Texts.{hex}
 use Rattle.job_script.specs.ReasonTexts.{holder_text}
-use Rattle.job_script.proofs.Appending.{behind}
+use Rattle.job_script.proofs.Appending.{trailing}
 use Rattle.job_script.proofs.reasons.push_no_access.Goals as goal
 
 pub returns-clause-text : goal.returns-clause-text
 returns-clause-text c =
-    behind c.args.text.now c.push_holder.new.text c.push_str.new.self (hex 8 c.args.addr ++ holder_text c.args.holder.now) (codes "; only obtained storage and allocated cells can be accessed. (rule 38)")
-    (behind c.args.text.now c.push_word.new.self c.push_holder.new.text (hex 8 c.args.addr) (holder_text c.args.holder.now) (rw (c.get.ensures.value) at c.push_word.ensures.text) c.push_holder.ensures.text) c.push_str.ensures.text
+    trailing c.args.text.now c.push_holder.new.text c.push_str.new.self (hex 8 c.args.addr ++ holder_text c.args.holder.now) (codes "; only obtained storage and allocated cells can be accessed. (rule 38)")
+    (trailing c.args.text.now c.push_word.new.self c.push_holder.new.text (hex 8 c.args.addr) (holder_text c.args.holder.now) (rw (c.get.ensures.value) at c.push_word.ensures.text) c.push_holder.ensures.text) c.push_str.ensures.text

@@ -1,6 +1,6 @@
 use Rattle.std.proofs.Common.{◌≡◌, ◌⊎◌, inl, inr, ◌++◌, ◌||◌, ℕ, List, [], append-nil, Bool, true, false, refl, sym, ap, ◌∙◌, cond, codes}
 use Rattle.mvs_model.specs.Name.{trimmed}
-use Rattle.job_script.proofs.Appending.{behind}
+use Rattle.job_script.proofs.Appending.{trailing}
 use Rattle.job_script.proofs.reasons.push_sharing.Goals as goal
 use Rattle.job_script.proofs.reasons.push_sharing.Goals.{then-is_same_name-via-then-is_same_name, then-is_same_name-via-else-is_same_name+then-is_step_number}
 
@@ -23,6 +23,6 @@ returns-then-is_same_name-clause-text c = elim c.then-is_same_name.branch [
 
 pub returns-clause-text : goal.returns-clause-text
 returns-clause-text c =
-    behind c.args.text.now c.push_name.new.self c.push_str-2.new.self (codes ", which " ++ trimmed c.args.task.now) (codes " shares,")
-    (behind c.args.text.now c.push_str.new.self c.push_name.new.self (codes ", which ") (trimmed c.args.task.now) c.push_str.ensures.text c.push_name.ensures.text) c.push_str-2.ensures.text
+    trailing c.args.text.now c.push_name.new.self c.push_str-2.new.self (codes ", which " ++ trimmed c.args.task.now) (codes " shares,")
+    (trailing c.args.text.now c.push_str.new.self c.push_name.new.self (codes ", which ") (trimmed c.args.task.now) c.push_str.ensures.text c.push_name.ensures.text) c.push_str-2.ensures.text
     ∙ adds_words c.args.text.now _ _ _ (sym c.is_same_name.ensures ∙ c.if-is_same_name.false) (sym c.is_step_number.ensures ∙ c.if-is_step_number.false)

@@ -3,7 +3,7 @@ use Rattle.std.specs.Prelude.{IfOk}
 use Rattle.request_forms.specs.Taking.{TakesArea}
 use Rattle.mvs_model.specs.declared.request.Reply.TheVariants.{Attached, Cell, Done, Ended, Obtained, Rc0}
 use Rattle.request_forms.specs.Machine.{task_name}
-use Rattle.job_step.proofs.Telling.{area_told, cell_told, plan_tried, pool_told, replied}
+use Rattle.job_step.proofs.StepCases.{area_step, cell_step, plan_tried, pool_step, replied}
 use Rattle.job_step.proofs.step.act.Goals as goal
 
 pub returns-in-Obtain-clause-answer : goal.returns-in-Obtain-clause-answer
@@ -49,13 +49,13 @@ pub returns-in-Abend-clause-answer : goal.returns-in-Abend-clause-answer
 returns-in-Abend-clause-answer c = rw (c.in-Abend.is, c.get-in-Abend.ensures.value) (inl (refl, refl), refl)
 
 pub returns-in-Obtain-clause-hints : goal.returns-in-Obtain-clause-hints
-returns-in-Obtain-clause-hints c = rw c.in-Obtain.is (area_told c.args.hints.now c.args.machine.now.state (task_name c.args.machine.now c.args.t) c.in-Obtain.form c.in-Obtain.number c.in-Obtain.ask c.obtain.result c.reply_area.new.reply c.reply_area.result c.obtain.new.self.state c.reply_area.ensures.replies (subst (λ first. IfOk c.obtain.result (TakesArea c.args.machine.now.state (task_name c.args.machine.now c.args.t) c.in-Obtain.form c.in-Obtain.number c.in-Obtain.ask first)) c.first_hint.ensures c.obtain.ensures.hints))
+returns-in-Obtain-clause-hints c = rw c.in-Obtain.is (area_step c.args.hints.now c.args.machine.now.state (task_name c.args.machine.now c.args.t) c.in-Obtain.form c.in-Obtain.number c.in-Obtain.ask c.obtain.result c.reply_area.new.reply c.reply_area.result c.obtain.new.self.state c.reply_area.ensures.replies (subst (λ first. IfOk c.obtain.result (TakesArea c.args.machine.now.state (task_name c.args.machine.now c.args.t) c.in-Obtain.form c.in-Obtain.number c.in-Obtain.ask first)) c.first_hint.ensures c.obtain.ensures.hints))
 
 pub returns-in-Build-clause-hints : goal.returns-in-Build-clause-hints
 returns-in-Build-clause-hints c = rw c.in-Build.is
-    (pool_told c.args.hints.now c.args.machine.now.state (task_name c.args.machine.now c.args.t) c.in-Build.pool c.in-Build.number c.in-Build.size c.in-Build.primary c.in-Build.secondary c.in-Build.loc c.build.result c.reply_zero-in-Build.new.reply c.reply_zero-in-Build.result c.build.new.self.state c.reply_zero-in-Build.ensures.replies
+    (pool_step c.args.hints.now c.args.machine.now.state (task_name c.args.machine.now c.args.t) c.in-Build.pool c.in-Build.number c.in-Build.size c.in-Build.primary c.in-Build.secondary c.in-Build.loc c.build.result c.reply_zero-in-Build.new.reply c.reply_zero-in-Build.result c.build.new.self.state c.reply_zero-in-Build.ensures.replies
     (rw (c.plan-plan.ensures, c.first_hint-in-Build.ensures) at c.build.ensures.hints))
 
 pub returns-in-Get-clause-hints : goal.returns-in-Get-clause-hints
 returns-in-Get-clause-hints c = rw c.in-Get.is
-    (cell_told c.args.hints.now c.args.machine.now.state (task_name c.args.machine.now c.args.t) c.in-Get.pool c.in-Get.conditional c.get.result c.reply_cell.new.reply c.reply_cell.result c.get.new.self.state c.reply_cell.ensures.replies c.get.ensures.hints)
+    (cell_step c.args.hints.now c.args.machine.now.state (task_name c.args.machine.now c.args.t) c.in-Get.pool c.in-Get.conditional c.get.result c.reply_cell.new.reply c.reply_cell.result c.get.new.self.state c.reply_cell.ensures.replies c.get.ensures.hints)

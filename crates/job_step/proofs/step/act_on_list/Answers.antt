@@ -1,6 +1,6 @@
 use Rattle.mvs_model.specs.declared.request.Reply.TheVariants.{Listed}
 use Rattle.request_forms.specs.Machine.{task_name}
-use Rattle.job_step.proofs.Telling.{areas_left, area_values, replied}
+use Rattle.job_step.proofs.StepCases.{areas_left, area_values, replied}
 use Rattle.job_step.proofs.step.act_on_list.Goals as goal
 
 pub returns-clause-answer : goal.returns-clause-answer

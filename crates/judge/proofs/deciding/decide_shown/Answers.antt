@@ -7,8 +7,8 @@ use Rattle.judge.proofs.deciding.decide_shown.Goals as goal
 pub returns-clause-decided : goal.returns-clause-decided
 returns-clause-decided c =
     let l = take c.args.end c.args.script.now in
-    let behind = c.text_after-rest.result.now in
-    let q = take c.in-Some.second behind in
+    let trailing = c.text_after-rest.result.now in
+    let q = take c.in-Some.second trailing in
     let s = c.in_ok-served.served in
     let e = c.in_ok-served.ensures in (
       l ∷ q ∷ [],

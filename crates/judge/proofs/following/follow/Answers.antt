@@ -27,10 +27,10 @@ returns-then-not-follows c =
     let p = c.in_ok-followed.ensures in
     let f = c.in_ok-followed.followed in
     let at : c.lines.at + c.in-Some.decided.taken ≤ length c.args.script.now + 1 = let t = n.1 in omega (arith, t, c.lines-test.true) in
-    let behind = c.within-rest.ensures.least at in
+    let trailing = c.within-rest.ensures.least at in
     followed_same c.args.script.now c.args.output.now c.decide.new.walk _ f.at _ f.text.items _ f.passes _ f.ended _ f.open_line p.0 p.1 p.2 p.3 (p.4 ∙ c.number-line_number.ensures)
     (follows_no_more c.args.script.now c.args.output.now _ _ c.in-Some.decided.served.text.items c.lines.at c.lines.done c.in-Some.decided.taken c.lines.walk c.decide.new.walk (take_rest c.args.script.now c.lines.at) (take_rest c.args.output.now c.lines.done) c.lines.invariant.follows
-    c.within-rest.result c.within-rest.ensures.rest c.within-rest.ensures.most (let t = n.2 in omega (arith, t, behind, c.lines.invariant.number))
+    c.within-rest.result c.within-rest.ensures.rest c.within-rest.ensures.most (let t = n.2 in omega (arith, t, trailing, c.lines.invariant.number))
     c.in-Some.decided.served.continues c.in-Some.decided.served.passes c.in-Some.decided.is_open (sym c.follows-follows.ensures ∙ c.if-not-follows.true) d)
 
 pub lines-preserved : goal.lines-preserved

@@ -1,7 +1,7 @@
 use Rattle.std.proofs.Common.{inl, inr, Err, Ok, subst, sym}
 use Rattle.request_forms.specs.Taking.{Takes}
 use Rattle.mvs_job.proofs.Accepting.{accepted_at, entry_stopped}
-use Rattle.mvs_job.proofs.Serving.{told_by}
+use Rattle.mvs_job.proofs.Serving.{serves_unconditionally}
 use Rattle.mvs_job.proofs.Entries.{entry_any, entry_executed, entry_exhausted, entry_faulty}
 use Rattle.mvs_job.proofs.driver.run_entry.Goals as goal
 use Rattle.mvs_job.proofs.driver.run_entry.Goals.{in-Faulted, in_default}
@@ -13,7 +13,7 @@ returns-after-matches-clause-ran g c first history known =
     let line = c.args.line.now in
     let n = c.number-line_number.result in
     let mid = c.look.new.self in
-    let executed = told_by (Takes c.args.hints.now) w w' line c.in-Ok.line_event c.in-Ok.ensures.executed in
+    let executed = serves_unconditionally (Takes c.args.hints.now) w w' line c.in-Ok.line_event c.in-Ok.ensures.executed in
     let accepts = accepted_at g.C.Consumer.piece g.C.Observer.heard g.C.Consumer.sees (g.C.Consumer.knows first) _ _ c.observed_line.new.observer c.entry.new.self mid w w' line n c.in-Ok.line_event history {X = Unit {0}} (Ok tt) in
     let mine = c.look.ensures.knows first history known in
     elim c.match-matches.branch [
@@ -27,7 +27,7 @@ returns-in-Err-entry-clause-ran g c first history known =
     let w' = c.observed_line.new.self in
     let line = c.args.line.now in
     let n = c.number-line_number.result in
-    let executed = told_by (Takes c.args.hints.now) w w' line c.in-Ok.line_event c.in-Ok.ensures.executed in
+    let executed = serves_unconditionally (Takes c.args.hints.now) w w' line c.in-Ok.line_event c.in-Ok.ensures.executed in
     let r = entry_any w w' line n c.in-Ok.line_event c.number-line_number.ensures executed in
     let q = accepted_at g.C.Consumer.piece g.C.Observer.heard g.C.Consumer.sees (g.C.Consumer.knows first) _ _ c.observed_line.new.observer c.entry.new.self c.look.new.self w w' line n c.in-Ok.line_event history {X = Unit {0}} (Err c.in-Err-entry.stop) r.0 (c.in-Err-entry.ensures.accepted first) r.1 r.2 c.look.ensures.sees c.in-Ok.ensures.observed
     (c.look.ensures.knows first history known) in

@@ -3,7 +3,7 @@ use Rattle.mvs_model.specs.Place.{PlaceValue}
 use Rattle.subpool_store.specs.PageWalk.{looked_at}
 use Rattle.subpool_store.specs.Search.{may_take, CandidatesAfterBest, Beats, IsCandidate}
 use Rattle.subpool_store.proofs.Begun.{counted_some, counted_within, least_length}
-use Rattle.subpool_store.proofs.Scan.{best_anywhere, best_behind, best_found, best_of_all}
+use Rattle.subpool_store.proofs.Scan.{best_anywhere, best_after, best_found, best_of_all}
 use Rattle.subpool_store.proofs.search.find.Goals as goal
 
 pub runs-init : goal.runs-init
@@ -11,7 +11,7 @@ runs-init c =
     let test = may_take c.args.memory.now.held c.args.pages.now c.args.subpool in record {
       walk = c.new-walk.ensures.walk;
       found = tt;
-      behind = subst (CandidatesAfterBest test c.args.first c.args.want.now None) (sym c.new-walk.ensures.start) (best_anywhere test c.args.first c.args.want.now c.only_length-only.ensures.wanted.some);
+      trailing = subst (CandidatesAfterBest test c.args.first c.args.want.now None) (sym c.new-walk.ensures.start) (best_anywhere test c.args.first c.args.want.now c.only_length-only.ensures.wanted.some);
     }
 
 pub runs-preserved : goal.runs-preserved
@@ -21,14 +21,14 @@ runs-preserved c =
     let e = c.preferred-best.ensures in record {
       walk = c.next_run.ensures.walk;
       found = best_found test c.args.first c.least_doublewords-least.result c.args.want.now _ _ _ _ c.run_place.result c.runs.best c.preferred-best.result c.best_in.result k c.run_place.ensures.addr c.run_place.ensures.len c.best_in.ensures e.either c.runs.invariant.found;
-      behind = best_behind test c.args.first c.least_doublewords-least.result c.args.want.now _ _ _ _ c.run_place.result c.runs.best c.preferred-best.result c.best_in.result k c.only_length-only.ensures.wanted.some c.least_doublewords-least.ensures.least c.run_place.ensures.addr c.run_place.ensures.len c.best_in.ensures e.one e.other c.runs.invariant.behind;
+      trailing = best_after test c.args.first c.least_doublewords-least.result c.args.want.now _ _ _ _ c.run_place.result c.runs.best c.preferred-best.result c.best_in.result k c.only_length-only.ensures.wanted.some c.least_doublewords-least.ensures.least c.run_place.ensures.addr c.run_place.ensures.len c.best_in.ensures e.one e.other c.runs.invariant.trailing;
     }
 
 pub returns-clause-longest : goal.returns-clause-longest
 returns-clause-longest c =
     let test = may_take c.args.memory.now.held c.args.pages.now c.args.subpool in
     subst (λ b. (q : PlaceValue) → IsCandidate test c.args.first c.args.want.now q → Beats b q.len) (sym c.new-2.ensures.place)
-    (best_of_all test c.args.first c.least_doublewords-least.result c.args.want.now c.runs.best _ c.least_doublewords-least.ensures.least c.in_default.ensures.run c.runs.invariant.behind)
+    (best_of_all test c.args.first c.least_doublewords-least.result c.args.want.now c.runs.best _ c.least_doublewords-least.ensures.least c.in_default.ensures.run c.runs.invariant.trailing)
 
 pub returns-then-is_final-clause-counted : goal.returns-then-is_final-clause-counted
 returns-then-is_final-clause-counted c =

@@ -7,7 +7,7 @@ abbrev pub invariant-runs : goal.invariant-runs
 invariant-runs l = record {
   walk : IsWalk l.memory l.pages l.subpool l.walk;
   found : IfSome l.best (IsCandidate (may_take l.memory.held l.pages l.subpool) l.first l.want);
-  behind : CandidatesAfterBest (may_take l.memory.held l.pages l.subpool) l.first l.want l.best l.walk.start;
+  trailing : CandidatesAfterBest (may_take l.memory.held l.pages l.subpool) l.first l.want l.best l.walk.start;
 }
 
 abbrev pub decreases-runs : goal.decreases-runs

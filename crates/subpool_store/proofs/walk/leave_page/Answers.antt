@@ -9,7 +9,7 @@ returns c =
     let e = c.pass_full-page.ensures in let to = c.pass_full-page.result.0 in let from = c.args.from in let sizes = c.requires.exact.sizes in
     let held : (i : ℕ) → from ≤ i → i < 512 * to → get_or c.args.memory.now.held i false ≡ true = λ i low high. elim (cases_lt i (512 * (from / 512) + 512)) [
       | inl here ↦ c.requires.rest i low here
-      | inr behind ↦ (e.passed (i / 512) (omega (arith, behind)) (omega (arith, high))).1 i refl
+      | inr trailing ↦ (e.passed (i / 512) (omega (arith, trailing)) (omega (arith, high))).1 i refl
     ] in record {
       after = omega (arith, e.after);
       ordered = omega arith;

@@ -9,7 +9,7 @@ returns c =
     let e = c.pass_others-page.ensures in let to = c.pass_others-page.result.0 in let from = c.args.from in let sizes = c.requires.exact.sizes in
     let other : (p : ℕ) → from / 512 ≤ p → p < to → is_usable c.args.subpool (owner_of c.args.pages.now p) ≡ false = λ p low high. elim (cases_eq p (from / 512)) [
       | inl is ↦ ap (λ q. is_usable c.args.subpool (owner_of c.args.pages.now q)) is ∙ c.requires.other
-      | inr behind ↦ e.passed p (omega (arith, low, behind)) high
+      | inr trailing ↦ e.passed p (omega (arith, low, trailing)) high
     ] in record {
       after = omega (arith, c.requires.page, e.after);
       ordered = omega arith;

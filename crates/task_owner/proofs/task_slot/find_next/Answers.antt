@@ -1,5 +1,5 @@
 use Rattle.std.proofs.Common.{◌∙◌}
-use Rattle.task_owner.proofs.NextTasks.{seen_all, seen_rest, first_told}
+use Rattle.task_owner.proofs.NextTasks.{seen_all, seen_rest, first_correct}
 use Rattle.task_owner.proofs.task_slot.find_next.Goals as goal
 
 pub loop-seat-init : goal.loop-seat-init
@@ -9,4 +9,4 @@ pub loop-seat-preserved : goal.loop-seat-preserved
 loop-seat-preserved c = seen_rest _ _ _ _ _ _ _ _ c.in-Some.ensures.steps c.loop-seat.invariant c.first_of-next.ensures
 
 pub returns : goal.returns
-returns c = first_told _ _ _ _ c.in-None.ensures.steps.0 c.loop-seat.invariant
+returns c = first_correct _ _ _ _ c.in-None.ensures.steps.0 c.loop-seat.invariant

@@ -13,7 +13,7 @@ use Rattle.mvs_model.proofs.PoolPut.{put_here}
 use Rattle.cell_pool.specs.Layout.{head_length}
 use Rattle.cell_pool.specs.Roots.{pools_of}
 use Rattle.cell_pool.proofs.Only.{nobody}
-use Rattle.cell_pool.proofs.Telling.{is_first_after}
+use Rattle.cell_pool.proofs.Outcomes.{is_first_after}
 use Rattle.mvs_model.specs.declared.want.Side.{Side}
 use Rattle.cell_pool.proofs.Pooled.{is_fresh, has_room, in_use, too_many, no_room}
 use Rattle.cell_pool.proofs.Built.{built, built_agrees, built_counted, fill_is, lays_is, no_root}

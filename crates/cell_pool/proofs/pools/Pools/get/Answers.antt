@@ -13,7 +13,7 @@ use Rattle.cell_pool.specs.Walk.{IsFreeAt, Fills}
 use Rattle.cell_pool.proofs.Walking.{chain_of}
 use Rattle.cell_pool.proofs.Opening.{all_taken}
 use Rattle.cell_pool.proofs.Getting.{fresh, last_count, no_pool, got, got_free, no_cell, none_free, short, got_more}
-use Rattle.cell_pool.proofs.Telling.{takes_free, takes_further}
+use Rattle.cell_pool.proofs.Outcomes.{takes_free, takes_further}
 use Rattle.cell_pool.proofs.pools.Pools.get.Goals as goal
 
 pub returns-in_default-clause-answer : goal.returns-in_default-clause-answer

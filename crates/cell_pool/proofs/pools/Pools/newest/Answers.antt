@@ -1,5 +1,5 @@
 use Rattle.std.proofs.Common.{sym}
-use Rattle.cell_pool.proofs.PoolFacts.{last_is, newest_told, no_pool}
+use Rattle.cell_pool.proofs.PoolFacts.{last_is, newest_correct, no_pool}
 use Rattle.cell_pool.proofs.Walking.{chain_of}
 use Rattle.cell_pool.proofs.pools.Pools.newest.Goals as goal
 
@@ -15,4 +15,4 @@ newest_of-requires-clause-last c =
     last_is c.args.self.now c.args.store.now.storage c.requires.parts c.args.name.now root (sym c.in_ok-root.ensures) (c.requires.counted c.args.name.now root (sym c.in_ok-root.ensures))
 
 pub returns : goal.returns
-returns c = newest_told c.args.self.now c.args.store.now.storage c.requires.parts c.args.name.now c.in_ok-root.root (sym c.in_ok-root.ensures) c.newest_of.result c.newest_of.ensures.parts c.newest_of.ensures.part c.newest_of.ensures.size
+returns c = newest_correct c.args.self.now c.args.store.now.storage c.requires.parts c.args.name.now c.in_ok-root.root (sym c.in_ok-root.ensures) c.newest_of.result c.newest_of.ensures.parts c.newest_of.ensures.part c.newest_of.ensures.size

@@ -1,5 +1,5 @@
 use Rattle.std.proofs.Common.{◌≡◌, Some, None, sym, ◌∙◌}
-use Rattle.cell_pool.proofs.PoolFacts.{no_pool, spot_told, untaken}
+use Rattle.cell_pool.proofs.PoolFacts.{no_pool, spot_correct, untaken}
 use Rattle.cell_pool.proofs.Walking.{chain_of}
 use Rattle.cell_pool.proofs.pools.Pools.spot.Goals as goal
 
@@ -14,4 +14,4 @@ pub spot_of-requires-clause-untaken : goal.spot_of-requires-clause-untaken
 spot_of-requires-clause-untaken c = untaken c.args.self.now c.args.store.now.storage c.requires.agree.parts c.args.name.now c.in-Some.root (sym c.in-Some.ensures) c.args.cell c.requires.untaken
 
 pub returns : goal.returns
-returns c = spot_told c.args.self.now c.args.store.now.storage c.requires.agree.parts c.args.name.now c.in-Some.root (sym c.in-Some.ensures) c.args.cell c.spot_of.result c.spot_of.ensures
+returns c = spot_correct c.args.self.now c.args.store.now.storage c.requires.agree.parts c.args.name.now c.in-Some.root (sym c.in-Some.ensures) c.args.cell c.spot_of.result c.spot_of.ensures

@@ -4,7 +4,7 @@ use Rattle.mvs_model.specs.declared.line.Line.TheVariants as line
 use Rattle.job_script.specs.LineMeaning.{filled}
 use Rattle.mvs_job.specs.LineEvents.{WalkValue}
 use Rattle.request_forms.specs.Taking.{Takes}
-use Rattle.mvs_job.proofs.Serving.{first_is, said_so, told_answered, stops_at_request}
+use Rattle.mvs_job.proofs.Serving.{first_is, said_so, event_answered, stops_at_request}
 use Rattle.mvs_job.proofs.walk.Walk.observed_line.Goals as goal
 
 pub returns-in_default-served-clause-executed : goal.returns-in_default-served-clause-executed
@@ -18,7 +18,7 @@ pub returns-clause-executed : goal.returns-clause-executed
 returns-clause-executed g c =
     let old : WalkValue = record { step = c.self.inside.job; number = c.self.inside.number; reply = c.self.inside.reply } in
     let new : WalkValue = record { step = Some c.serve-served.new.self; number = c.self.inside.number; reply = c.serve-served.new.reply } in
-    rw (← c.self.view_is) (told_answered (Takes c.args.hints.now) old new c.args.line.now c.is_none.result (filled c.read_line.new.read c.read_line.result) (first_is c.self.inside.job c.is_none.result c.is_none.ensures) c.read_line.ensures.reading
+    rw (← c.self.view_is) (event_answered (Takes c.args.hints.now) old new c.args.line.now c.is_none.result (filled c.read_line.new.read c.read_line.result) (first_is c.self.inside.job c.is_none.result c.is_none.ensures) c.read_line.ensures.reading
     c.read_line.new.read c.in-Statement.task c.in-Statement.statement c.in-Some-job.job c.serve-served.new.self c.in-Ok-served.answer (ap (filled c.read_line.new.read) c.in-Ok.is) c.in-Statement.is (sym c.card_of.ensures.card ∙ c.in_default-card_of.is) c.in-Some-job.is refl c.in-Ok-served.ensures.served)
 
 pub returns-clause-reply : goal.returns-clause-reply

@@ -1,5 +1,5 @@
 use Rattle.std.proofs.Common.{◌/◌, false, ◌∙◌, arith}
-use Rattle.subpool_store.proofs.Marked.{behind_mark, keeps_more, keeps_none, marked_more, marked_none, was_set}
+use Rattle.subpool_store.proofs.Marked.{after_mark, keeps_more, keeps_none, marked_more, marked_none, was_set}
 use Rattle.subpool_store.proofs.memory.Memory.give.Goals as goal
 
 pub pages-init : goal.pages-init
@@ -11,7 +11,7 @@ give_in-requires-clause-there c = let now = c.pages.invariant in now.keeps.pages
 pub give_in-requires-clause-held : goal.give_in-requires-clause-held
 give_in-requires-clause-held c =
     let now = c.pages.invariant in
-    λ i low high. behind_mark c.args.self.now.held c.pages.self.held c.args.run.start c.pages.at false now.marked i low ∙ c.requires.held i (omega (arith, low, now.from)) (omega (arith, high))
+    λ i low high. after_mark c.args.self.now.held c.pages.self.held c.args.run.start c.pages.at false now.marked i low ∙ c.requires.held i (omega (arith, low, now.from)) (omega (arith, high))
 
 pub pages-preserved : goal.pages-preserved
 pages-preserved c =

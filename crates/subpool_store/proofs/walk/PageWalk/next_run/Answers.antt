@@ -1,7 +1,7 @@
 use Rattle.std.proofs.Common.{◌≡◌, ◌<◌, ◌≤◌, ◌+◌, ℕ, false, length, inl, inr, arith}
 use Rattle.std.proofs.lemmas.Bool.{both_ways, cases_lt}
 use Rattle.subpool_store.specs.Search.{may_take}
-use Rattle.subpool_store.proofs.Short.{begins_behind, fits_join, fits_none, fits_short, fits_skip, past_fails}
+use Rattle.subpool_store.proofs.Short.{begins_after, fits_join, fits_none, fits_short, fits_skip, past_fails}
 use Rattle.subpool_store.proofs.walk.PageWalk.next_run.Goals as goal
 
 pub returns-then-least-run-clause-run : goal.returns-then-least-run-clause-run
@@ -14,7 +14,7 @@ returns-then-least-run-clause-run c =
       before = c.examine-part.ensures.part.after;
       skipped = fits_join test c.args.least c.args.self.now.start c.parts.self.start self.start c.parts.invariant.none c.examine-part.ensures.none;
       passes = c.examine-part.ensures.walk.passes;
-      stops = skipped self.end (omega arith) (begins_behind part.start self.end (λ is. both_ways _ c.if-not-continues.true (c.continues.ensures.1 (omega (arith, is)))) c.examine-part.ensures.part.after);
+      stops = skipped self.end (omega arith) (begins_after part.start self.end (λ is. both_ways _ c.if-not-continues.true (c.continues.ensures.1 (omega (arith, is)))) c.examine-part.ensures.part.after);
       rest = fits_skip test c.args.least self.end self.end part.start c.requires.least (fits_none test c.args.least self.end) skipped;
     }
 
@@ -22,7 +22,7 @@ pub parts-preserved-else-least-run : goal.parts-preserved-else-least-run
 parts-preserved-else-least-run c =
     let test = may_take c.args.memory.now.held c.args.pages.now c.args.subpool in let self = c.examine-part.new.self in let part = c.examine-part.result in
     let skipped = c.examine-part.ensures.part.skipped in
-    let past : self.end < part.start = begins_behind part.start self.end (λ is. both_ways _ c.if-not-continues.true (c.continues.ensures.1 (omega (arith, is)))) c.examine-part.ensures.part.after in
+    let past : self.end < part.start = begins_after part.start self.end (λ is. both_ways _ c.if-not-continues.true (c.continues.ensures.1 (omega (arith, is)))) c.examine-part.ensures.part.after in
     let before = fits_join test c.args.least c.args.self.now.start c.parts.self.start self.start c.parts.invariant.none c.examine-part.ensures.none in
     let short : self.end < self.start + c.args.least = omega (arith, c.if-least-run.false, c.examine-part.ensures.walk.ordered) in record {
       walk = record {
@@ -46,7 +46,7 @@ parts-preserved c =
         within = next.within;
         passes = λ i low high. elim (cases_lt i self.end) [
           | inl before ↦ c.examine-part.ensures.walk.passes i low before
-          | inr behind ↦ next.passes i (omega (arith, on, behind)) high
+          | inr trailing ↦ next.passes i (omega (arith, on, trailing)) high
         ];
         stands = next.stands;
         counted = let now = c.examine-part.ensures.walk.counted in let more = next.counted in omega (arith, now, more);

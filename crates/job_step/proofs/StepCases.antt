@@ -36,10 +36,10 @@ module _ {A : Type 0} (reply_of : A → Reply) (old : State) (t : Name) (request
     at (Err refusal) h is = subst (λ r. Tries (λ _. reply) old t request r new) (sym is) h
 
 -- an area that takes the hinted address
-pub area_told : (hints : List ℕ) (old : State) (t : Name) (form : Form) (number : ℕ) (ask : AskValue) (answer : Result PlaceValue Refusal) (reply : Reply) (result : Result (Unit {0}) Refusal) (new : State) → RepliesWith Obtained answer reply result
+pub area_step : (hints : List ℕ) (old : State) (t : Name) (form : Form) (number : ℕ) (ask : AskValue) (answer : Result PlaceValue Refusal) (reply : Reply) (result : Result (Unit {0}) Refusal) (new : State) → RepliesWith Obtained answer reply result
     → IfOk answer (TakesArea old t form number ask (first_of hints)) → OnOk result (Takes hints old t (Obtain form number ask) reply new)
-area_told hints old t form number ask (Ok p) reply result new is takes = subst (λ r. OnOk r (Takes hints old t (Obtain form number ask) reply new)) (sym is.1) (subst (λ x. Takes hints old t (Obtain form number ask) x new) (sym is.0) takes)
-area_told hints old t form number ask (Err refusal) reply result new is takes = subst (λ r. OnOk r (Takes hints old t (Obtain form number ask) reply new)) (sym is) tt
+area_step hints old t form number ask (Ok p) reply result new is takes = subst (λ r. OnOk r (Takes hints old t (Obtain form number ask) reply new)) (sym is.1) (subst (λ x. Takes hints old t (Obtain form number ask) x new) (sym is.0) takes)
+area_step hints old t form number ask (Err refusal) reply result new is takes = subst (λ r. OnOk r (Takes hints old t (Obtain form number ask) reply new)) (sym is) tt
 
 -- and areas of a list that take theirs
 pub area_values : (hints : List ℕ) (old : State) (t : Name) (form : Form) (number : ℕ) (lengths : List ℕ) (start : ℕ) (answer : Result (List PlaceValue) Refusal) (reply : Reply) (result : Result (Unit {0}) Refusal) (new : State) → RepliesWith Listed answer reply result
@@ -48,16 +48,16 @@ area_values hints old t form number lengths start (Ok ps) reply result new is ta
 area_values hints old t form number lengths start (Err refusal) reply result new is takes = subst (λ r. OnOk r (Takes hints old t (ObtainList form number lengths start) reply new)) (sym is) tt
 
 -- a cell that takes the hinted address
-pub cell_told : (hints : List ℕ) (old : State) (t name : Name) (conditional : Bool) (answer : Result PlaceValue Refusal) (reply : Reply) (result : Result (Unit {0}) Refusal) (new : State) → RepliesWith Cell answer reply result
+pub cell_step : (hints : List ℕ) (old : State) (t name : Name) (conditional : Bool) (answer : Result PlaceValue Refusal) (reply : Reply) (result : Result (Unit {0}) Refusal) (new : State) → RepliesWith Cell answer reply result
     → IfOk answer (TakesCell old name hints) → OnOk result (Takes hints old t (Get name conditional) reply new)
-cell_told hints old t name conditional (Ok p) reply result new is takes = subst (λ r. OnOk r (Takes hints old t (Get name conditional) reply new)) (sym is.1) (subst (λ x. Takes hints old t (Get name conditional) x new) (sym is.0) takes)
-cell_told hints old t name conditional (Err refusal) reply result new is takes = subst (λ r. OnOk r (Takes hints old t (Get name conditional) reply new)) (sym is) tt
+cell_step hints old t name conditional (Ok p) reply result new is takes = subst (λ r. OnOk r (Takes hints old t (Get name conditional) reply new)) (sym is.1) (subst (λ x. Takes hints old t (Get name conditional) x new) (sym is.0) takes)
+cell_step hints old t name conditional (Err refusal) reply result new is takes = subst (λ r. OnOk r (Takes hints old t (Get name conditional) reply new)) (sym is) tt
 
 -- and a pool whose first cell takes it
-pub pool_told : (hints : List ℕ) (old : State) (t name : Name) (number size primary secondary : ℕ) (loc : Loc) (answer : Result (Unit {0}) Refusal) (reply : Reply) (result : Result (Unit {0}) Refusal) (new : State) → RepliesWith (λ _. Rc0) answer reply result
+pub pool_step : (hints : List ℕ) (old : State) (t name : Name) (number size primary secondary : ℕ) (loc : Loc) (answer : Result (Unit {0}) Refusal) (reply : Reply) (result : Result (Unit {0}) Refusal) (new : State) → RepliesWith (λ _. Rc0) answer reply result
     → OnOk answer (TakesPool old t number name (record { cell_size = size; primary = primary; secondary = secondary; side = side_of loc (residence_of old.owners t) }) (first_of hints) new) → OnOk result (Takes hints old t (Build name number size primary secondary loc) reply new)
-pool_told hints old t name number size primary secondary loc (Ok _) reply result new is takes = subst (λ r. OnOk r (Takes hints old t (Build name number size primary secondary loc) reply new)) (sym is.1) (subst (λ x. Takes hints old t (Build name number size primary secondary loc) x new) (sym is.0) takes)
-pool_told hints old t name number size primary secondary loc (Err refusal) reply result new is takes = subst (λ r. OnOk r (Takes hints old t (Build name number size primary secondary loc) reply new)) (sym is) tt
+pool_step hints old t name number size primary secondary loc (Ok _) reply result new is takes = subst (λ r. OnOk r (Takes hints old t (Build name number size primary secondary loc) reply new)) (sym is.1) (subst (λ x. Takes hints old t (Build name number size primary secondary loc) x new) (sym is.0) takes)
+pool_step hints old t name number size primary secondary loc (Err refusal) reply result new is takes = subst (λ r. OnOk r (Takes hints old t (Build name number size primary secondary loc) reply new)) (sym is) tt
 
 -- a pool that is planned
 pub plan_tried : (old new : State) (t name : Name) (number size primary secondary : ℕ) (loc : Loc) (plan : Plan) (result : Result (Unit {0}) Refusal) → plan ≡ record { cell_size = size; primary = primary; secondary = secondary; side = side_of loc (residence_of old.owners t) }
