@@ -185,7 +185,7 @@ def planted_fault(folder):
     copied(folder)
     text = (folder / LIB).read_text()
     (folder / LIB).write_text(text.replace(*WRONG_CODE))
-    status, printed = called(folder / "tools/ci", "boundary_loc")
+    status, printed = called(folder / "tools/ci")
     yield "a wrong body in a crate", text.count(WRONG_CODE[0]) == 1 and status == 1 and "boundary_loc NOT PROVED" in printed
 
 
