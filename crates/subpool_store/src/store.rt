@@ -47,9 +47,6 @@ use std::alloc::Global;
 use std::marker::Model;
 use thiserror::Error;
 
-#[cfg(test)]
-mod tests;
-
 /// The subpool does not hold each doubleword of the place.
 #[derive(Clone, Copy, Debug, PartialEq, Eq, Error)]
 #[error("storage is not held by the subpool")]

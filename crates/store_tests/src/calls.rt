@@ -4,12 +4,12 @@ ghost use Rattle.std.specs.Prelude.{◌≡◌, length};
 ghost use Rattle.mvs_model.specs.Storage.{AllHeld};
 ghost use Rattle.subpool_store.specs.WrittenBytes.{Puts};
 
-use crate::Store;
 use mvs_model::bounded::{Exponent, Length};
 use mvs_model::place::{Addr, Place};
 use mvs_model::subpool::SubpoolId;
 use mvs_model::want::{Placement, Side, Want};
 use std::test::Fail;
+use subpool_store::Store;
 
 // Writes bytes over those of a place.
 fn put(store: &mut Store, place: Place, bytes: &[u8])
