@@ -518,7 +518,7 @@ def policy(program, folder, view):
     yield "another script does not run", view.tell("window.taken===undefined")
     made = subprocess.run([TOP / "tools/page_frame", "--check"], capture_output=True, text=True)
     yield "the page's script is that of its file", made.returncode == 0
-    lines = (TOP / "crates/page/frame/page.js").read_text().split("\n")
+    lines = [line for path in sorted((TOP / "crates/page/frame").glob("*.js")) for line in path.read_text().split("\n")]
     yield "the lines of the script", all(len(line) <= 150 and line == line.rstrip() and "\t" not in line for line in lines)
     yield "the script has no name that it does not use", unused(lines) == []
 
