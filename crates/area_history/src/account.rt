@@ -74,7 +74,7 @@ pub struct Leftovers {
 }
 
 impl Leftovers {
-    /// Makes those of a step in which nothing is left.
+    /// Returns the leftovers of a step in which nothing is left.
     pub(crate) fn none() -> Leftovers {
         Leftovers {
             areas: Leaks::none(),
@@ -177,7 +177,7 @@ fn may_end(root: &Option<Name>, read: &Line) -> bool
     }
 }
 
-/// Reads the next line: nothing, if no step runs or the line has a fault.
+/// Parses the next line. It is `Line::Nothing` if no step runs or the line has a fault.
 pub(crate) fn read_in(walk: &Walk, line: &[u8], read: &mut Line)
     ensures { IsReadIn walk.now.step line.now read.new }
 {
@@ -267,7 +267,7 @@ impl Account {
         self.is_over = false;
     }
 
-    /// Keeps what becomes of a line: the areas that it was granted, the pool that it built, and whether it ends the job step task or
+    /// Records what a line did: the areas that it was granted, the pool that it built, and whether it ends the job step task or
     /// begins a step.
     pub(crate) fn keep(
         &mut self,

@@ -96,7 +96,7 @@ fn pool_fits_anywhere(job: &Job, task: &Name, request: &Request, left: &Shortfal
     fitting(part_len(size, primary), room.longest)
 }
 
-/// Returns this length, if a request is refused for this reason.
+/// Returns the greatest length that fits with LOC=ANY, if a request is refused for this reason.
 pub(crate) fn anywhere(
     job: &Job,
     task: &Name,

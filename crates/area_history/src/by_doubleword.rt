@@ -106,7 +106,7 @@ fn end_below(first: u32, end: u32) -> u32
 }
 
 impl<T: Copy> ByDoubleword<T> {
-    /// Makes values for no doubleword. It allocates no memory.
+    /// Makes an empty map. It allocates no memory.
     pub(crate) fn new(alloc: Global) -> ByDoubleword<T>
         ensures below { result.below ≡ [] }
         ensures above { result.above ≡ [] }

@@ -55,7 +55,7 @@ struct LineOf<'a> {
     job: &'a Job,
 }
 
-/// What a line led to.
+/// The result of a line.
 #[derive(Clone, Copy)]
 struct Outcome<'a> {
     walk: &'a Walk,
@@ -353,7 +353,7 @@ impl Chronicle {
         self.find(job, request, &reason, any);
     }
 
-    /// Finds what stays after a line of what the tasks that ended with it obtained.
+    /// Finds which areas of the tasks that a line ended are still held after it.
     pub(crate) fn settle(&mut self, walk: &Walk, line_event: &LineEvent)
         requires { IsAvailable walk.now line_event.now }
         ensures stays { (number : ℕ) → self.new.found.stays

@@ -240,7 +240,7 @@ fn fate_among(
 }
 
 impl StorageEvents {
-    /// Makes those of a step without changes. It allocates no memory.
+    /// Makes an empty list of changes. It allocates no memory.
     pub(crate) fn new(alloc: Global) -> StorageEvents
         ensures { result ≡ [] }
     {

@@ -184,7 +184,7 @@ pub(crate) fn sought(request: &Request) -> Selection
 }
 
 impl Findings {
-    /// Makes the findings of a line about which the history is silent.
+    /// Makes empty findings: the history shows nothing about the line.
     pub(crate) fn none() -> Findings
         ensures found { found_in result ≡ nothing_found }
         ensures stays { result.stays ≡ summary [] }

@@ -20,7 +20,7 @@ use crate::texts::print_leftovers;
 use mvs_model::watched::{Failed, Watched};
 use std::io::Write;
 
-/// How a report of leaks is written, and what the history says of a line.
+/// The format of a report of leaks, and of what the history shows about a line.
 pub trait ReportFormat {
     // The text of a report.
     ghost report: { TheLeftovers → List ℕ };

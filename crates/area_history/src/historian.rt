@@ -1,4 +1,4 @@
-//! A run with what the history of its storage says of each line.
+//! A run, and what the history of its storage shows about each line.
 
 ghost use Rattle.std.specs.Prelude.{◌≡◌, List, ℕ};
 ghost use Rattle.job_script.specs.Writing.{Prints};
@@ -16,7 +16,7 @@ use mvs_model::watched::{Failed, Watched};
 use std::alloc::Global;
 use std::io::Write;
 
-/// A consumer, and after what it writes for a line, what the history of the storage says of that line: who freed an address that is no
+/// Wraps a consumer. After the consumer's text for a line, it writes what the history shows about the line: who freed an address that is no
 /// longer held, and who holds it now; who has the storage that is short; and what stays of
 /// the areas of the tasks that ended. The format says how that is written.
 #[derive(Drop)]

@@ -27,7 +27,7 @@ pub fn histories_are_printings()
     no_line_is_starred();
 }
 
-/// An area for which a length is found with LOC=ANY is not refused so.
+/// If a length is found for an area with LOC=ANY, the request is not refused with LOC=ANY.
 pub fn loc_any_serves()
     ensures { LocAnyServes }
 {}

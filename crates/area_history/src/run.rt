@@ -63,7 +63,7 @@ pub fn run_with_report<W: Write, C: Consumer, F: ReportFormat + Drop>(
     })
 }
 
-/// Runs a script in this way, and returns whether each line was executed. The observer in `strict` is called for each line that was not.
+/// Runs a script as `run_with_report` does, and returns whether each line was executed. The observer in `strict` is called for each other line.
 pub fn run_strictly_with_report<W: Write, C: Consumer, H: SkipObserver, F: ReportFormat + Drop>(
     alloc: Global,
     script: &[u8],

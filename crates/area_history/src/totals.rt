@@ -77,7 +77,7 @@ fn grown(total: &Total, bytes: u32) -> Total
     }
 }
 
-/// Makes no totals.
+/// Makes an empty list of totals.
 pub(crate) fn no_totals() -> Totals
     ensures { result ≡ [] }
 {

@@ -119,7 +119,7 @@ impl VisibleAreas {
         self.limit = LEAST_ADDED;
     }
 
-    /// Returns them.
+    /// Returns the areas.
     pub(crate) fn as_slice(&self) -> &[AreaGrant]
         ensures { result.now ≡ self.now }
     {

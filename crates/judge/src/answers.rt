@@ -13,7 +13,7 @@ pub enum PrintedAnswer {
     At(u32),
 }
 
-/// The first answer to each line, of those that are of use here.
+/// The first answer to each line that shows a grant or an address.
 #[derive(Drop)]
 pub struct OutputAnswers {
     lines: HashMap<u32, PrintedAnswer>,

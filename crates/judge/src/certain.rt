@@ -67,7 +67,7 @@ fn request_settled(written: &SourceRequest, answer: &Answer) -> bool
     }
 }
 
-/// Returns whether places do not decide that a statement has an answer.
+/// Returns whether it does not depend on places that a statement has an answer.
 pub fn is_settled(statement: &Statement, answer: &Answer) -> bool
     ensures { (st : State) (fallen : List TaskName) (task : TaskName)
         → result ≡ is_settled statement.now (full_answer st fallen task answer.now) }

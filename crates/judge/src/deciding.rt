@@ -462,7 +462,7 @@ fn decide_areas(
     }))
 }
 
-/// Decides at the first line of a script, or at the first two; nothing where the first is open.
+/// Decides at the first line of a script, or at the first two. Returns None if the first is open.
 pub fn decide(
     alloc: Global,
     walk: &mut Walk,

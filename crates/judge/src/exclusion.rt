@@ -224,7 +224,7 @@ fn ruling_if(is_same: bool, outcome: Outcome) -> Ruling
     }
 }
 
-/// Compares an output with a run of its script that uses these hints, up to the first line at which they part.
+/// Compares an output with a run of its script that uses these hints, up to the first line at which they differ.
 pub fn rule(
     alloc: Global,
     script: &[u8],

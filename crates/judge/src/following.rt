@@ -19,7 +19,7 @@ pub struct Followed {
     pub at: usize,
     /// What is printed of them.
     pub text: Vec<u8>,
-    /// Whether a run may print the output. Where the job has ended, it is just this text.
+    /// Whether a run may print the output. If the job has ended, the output is exactly this text.
     pub passes: bool,
     /// How the job has ended, if it has.
     pub ended: Option<Outcome>,

@@ -1,4 +1,4 @@
-//! What lines of a script can be granted, and which ask for that.
+//! What the lines of a script can be granted, and which WHERE statements show it.
 
 ghost use Rattle.std.specs.Prelude.{◌≡◌, ◌≢◌, ◌≤◌, ◌↔◌, ◌+◌, ◌∷◌, IsTrue, length, drop, take, true, MatchOption};
 ghost use Rattle.std.specs.List.{AllByRecursion};

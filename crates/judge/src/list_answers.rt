@@ -74,7 +74,7 @@ fn begins_answered(
 }
 
 /// Returns whether a list is open, whose line has this number and at which a run may print the text or not: none prints the answer of this run,
-/// and yet it begins with what a list may be answered.
+/// and yet it begins with an answer that a list can have.
 pub fn opens_list(
     alloc: Global,
     line_number: u32,

@@ -142,7 +142,7 @@ impl PoolParts {
         }
     }
 
-    // Puts a part, and answers its place in the list.
+    // Adds a part, and returns its place in the list.
     fn put(&mut self, part: PoolPart) -> Result<usize, OutOfMemory> {
         let place = self.parts.len();
         match self.parts.push(part) {

@@ -1,4 +1,4 @@
--- The statement that asks for what a struct of C asks for.
+-- The statement that makes the request of a struct of C.
 use Rattle.std.specs.Prelude.{◌≡◌, ◌≢◌, ℕ, zero, suc, ◌-◌, ◌<◌, ◌≤◌, ◌==◌, Bool, true, false, Result, MatchResult, List, [], ◌∷◌, ◌++◌, length, Option, Some, None, codes, decimal, if◌then◌else◌}
 use Rattle.std.specs.FinMap.{FinMap}
 use Rattle.mvs_model.specs.declared.code.Form.{Form}

@@ -19,8 +19,8 @@ use std::alloc::Global;
 use std::io::Write;
 use std::marker::Model;
 
-/// Room for what is looked at before a line, which is long, and the names that were set in the step, each with the number of the
-/// line that set it last. It serves the lines of one job, from its first line on.
+/// Buffers for the facts before a line, which are large, and the names that were set in the step, each with the number of the
+/// line that set it last. It explains the lines of one job, from the first line on.
 #[derive(Drop)]
 pub struct Explainer {
     explained: Explained,
@@ -49,7 +49,7 @@ impl Explainer {
         }
     }
 
-    /// Executes one line, and returns its events, and why it was not executed as it asks: a line with a fault has no such reason,
+    /// Executes one line, and returns its events, and the reason why it was refused. A line with a fault has no such reason,
     /// and neither has one before the first step.
     pub fn line(
         &mut self,

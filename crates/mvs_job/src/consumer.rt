@@ -1,4 +1,4 @@
-//! Consumers: what is given the entries of a run, and writes of it.
+//! Consumers, which receive the entries of a run and write an output.
 
 ghost use Rattle.std.specs.Prelude.{◌≡◌, List, Option, ℕ, true, OnOk, OnErr, IsErrOf};
 ghost use Rattle.mvs_model.specs.Job.{JobValue};
@@ -21,7 +21,7 @@ pub enum End {
     Exhausted(Option<bool>),
 }
 
-/// Writes of a run, entry by entry. For each line it is called three times: it looks at the line before that is executed, it observes
+/// Writes an output of a run, entry by entry. It has three calls for each line: it looks at the line before the execution, it observes
 /// the refusal of the line's request, if there is one, and it accepts the entry.
 pub trait Consumer: Observer {
     // What it writes for an entry, by the entries before it.

@@ -37,7 +37,7 @@ pub(crate) fn no_subpools() -> OwnedSubpools
     })
 }
 
-/// Puts all subpools that tasks own in the place of others, and whether a task has them.
+/// Replaces a list by all subpools that tasks own, each with whether a task has it.
 pub(crate) fn collect_owned_subpools(job: &Job, task: &Name, subpools: &mut OwnedSubpools)
     ensures { subpools.new ≡ owned_subpools job.now.state task.now }
 {
@@ -70,7 +70,7 @@ pub struct EndedTasks<'a> {
     pub others: &'a [Name],
 }
 
-// Returns whether a task ended, with one that did and those that ended with it.
+// Returns whether a task is among one that ended and those that ended with it.
 fn is_among_ended(task: &Name, fallen: &[Name], other: &Name) -> bool
     ensures { result ≡ is_among_ended task.now fallen.now other.now }
 {

@@ -33,8 +33,8 @@ use request_forms::OwnedSubpool;
 use std::alloc::Global;
 use std::io::Write;
 
-/// Prints a run with explanations: after the events of a line come lines that begin with `*`. It keeps what it has looked at of a
-/// line, in room that is long, and which lines have set the names of the step.
+/// Prints a run with explanations: after the events of a line come lines that begin with `*`. It keeps what it has seen of a line,
+/// in large buffers, and which lines have set the names of the step.
 #[derive(Drop)]
 pub struct Explained {
     pub(crate) why: Why,
@@ -49,7 +49,7 @@ pub struct Explained {
 pub struct Explanation<'a> {
     /// Why the line was not executed as it asks.
     pub reason: Option<LineReason>,
-    /// The address that this is about.
+    /// The address in that reason.
     pub address: Option<Addr>,
     /// The name that has this address.
     pub named: Option<NamedAddress>,
@@ -128,7 +128,7 @@ impl Consumer for Explained {
 }
 
 impl Explained {
-    /// Makes one that has looked at no line. It allocates no memory.
+    /// Makes a printer that has seen no line. It allocates no memory.
     pub fn new(alloc: Global) -> Explained
         ensures { result.lines ≡ no_lines }
     {
@@ -150,7 +150,7 @@ impl Explained {
         self.lines.naming(job, addr)
     }
 
-    /// Looks at what is reported of the next line after it, before it is executed.
+    /// Looks at the next line before it is executed, for the explanations after it.
     pub fn look_at(&mut self, walk: &Walk, line: &[u8])
         ensures looking { IsLooking walk.now.step self.old.lines line.now self.new }
         ensures lines { self.new.lines ≡ self.old.lines }
@@ -213,7 +213,7 @@ impl Explained {
         }
     }
 
-    /// Looks at a line, executes it, and keeps why it was not executed as it asks.
+    /// Looks at a line, executes it, and keeps why it was refused.
     pub(crate) fn serve(&mut self, walk: &mut Walk, line: &[u8]) -> Result<LineEvent, OutOfMemoryAt>
         requires { walk.old.number + 1 < 2 ^ 32 }
         ensures executed { MatchResult result (λ line_event. ServesAs walk.old line.now line_event walk.new)

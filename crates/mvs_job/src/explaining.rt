@@ -44,7 +44,7 @@ pub fn explain_from<S: Source, W: Write>(
         (λ outcome. Exchanges (S.left reader.old) (S.left reader.new)
         (W.contents writer.old.inner) (W.contents writer.new.inner)
         (λ consumed script written. IsPrinting script (without_starred written) outcome)) }
-    // Else it is a front of such a text; if memory is exhausted, all up to the answer for which there was none.
+    // Otherwise it is the beginning of such a text; if memory is exhausted, all of it up to the answer that needed memory.
     ensures fault { IfErr result
         (λ fault. Exchanges (S.left reader.old) (S.left reader.new)
         (W.contents writer.old.inner) (W.contents writer.new.inner)

@@ -168,7 +168,7 @@ fn subpool_fact(before: &Baseline, job: &Job, task: &Name, number: u8) -> Option
     Some(Fact::NewSubpool { number, owner })
 }
 
-// Returns how many pages of both regions there are, of those that hold nothing.
+// Returns the number of free pages in both regions.
 fn sum(below: u16, above: u16) -> u32
     ensures { result ≡ below + above }
 {
@@ -183,14 +183,14 @@ fn free_in(job: &Job) -> u32
     sum(free.below, free.above)
 }
 
-// Returns the pages that were taken.
+// Returns the pages that were assigned.
 fn taken_fact(before: &Baseline, job: &Job) -> Fact
     ensures { result ≡ taken_fact before.now job.now }
 {
     Fact::PagesTaken(sum(before.below, before.above).saturating_sub(free_in(job)))
 }
 
-// Returns the pages that hold nothing any more.
+// Returns the pages that became free.
 fn freed_fact(before: &Baseline, job: &Job) -> Option<Fact>
     ensures { result ≡ freed_fact before.now job.now }
 {
@@ -209,7 +209,7 @@ fn emptied_fact(job: &Job, task: &Name, number: u8) -> Option<Fact>
     Some(Fact::Emptied { number, owner })
 }
 
-// Returns the last part of a pool that has another number of parts than before.
+// Returns the last part of a pool, if its number of parts has changed.
 fn part_fact(before: &Baseline, job: &Job, pool: &Name) -> Option<Fact>
     ensures { result ≡ part_fact before.now job.now pool.now }
 {
@@ -333,7 +333,7 @@ fn put_subtask(facts: &mut Facts, before: &Baseline, job: &Job, attaching: &Name
     }
 }
 
-/// Puts what a task's request did that was granted in the place of other facts.
+/// Replaces the facts by what a granted request of a task did.
 pub(crate) fn put_facts(
     facts: &mut Facts,
     before: &Baseline,

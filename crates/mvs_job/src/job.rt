@@ -211,7 +211,7 @@ impl Job {
         self.names.get(name)
     }
 
-    /// Returns whether each name that a request looks up is set: then `request` is what is asked for, written over another.
+    /// Returns whether each name that a request looks up is set. If so, it writes the request of the machine over `request`.
     pub fn request_of(&self, written: &SourceRequest, request: &mut Request) -> Option<()>
         ensures { MatchOption result (resolved self.now.names written.now ≡ None)
             (λ _. resolved self.now.names written.now ≡ Some request.new) }
@@ -219,7 +219,7 @@ impl Job {
         resolve(&self.names, written, request)
     }
 
-    /// Returns the first name that a request looks up and that is not set, from the left.
+    /// Returns the leftmost name in a request that is not set.
     pub fn unset(&self, written: &SourceRequest) -> Option<Name>
         ensures { result ≡ first_unset self.now.names (looked_up written.now) }
     {
@@ -242,7 +242,7 @@ impl Job {
         self.settle_or_do(task, request, &[], reply, observer);
     }
 
-    /// Writes bytes over those of a place, and answers whether it did: where one of them may not be written, all stay.
+    /// Overwrites the bytes of a place, and returns whether it did. If one of them may not be written, none changes.
     pub fn write(&mut self, place: Place, bytes: &[u8]) -> bool
         requires { length bytes.now ≡ place.len }
         ensures { MayWrite self.old place bytes.now result self.new }

@@ -18,7 +18,7 @@ pub trait Observer {
     ghost heard: { Hearing Self };
 
     /// Is called when a task's request is refused, before that is settled: the job is as before the request. `left` is what a member
-    /// of a list lacks, where one has no place.
+    /// of a list lacks, if one has no place.
     fn refused(
         &mut self,
         job: &Job,

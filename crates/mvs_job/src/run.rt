@@ -30,16 +30,16 @@ use thiserror::Error;
 pub enum RunFault {
     /// A read failed.
     Read,
-    /// A write failed, or took no byte.
+    /// A write failed, or accepted no byte.
     Write,
-    /// A growth was refused.
+    /// Memory was exhausted.
     Memory,
     /// The script has more than 16,777,215 bytes.
     ReadTooLong,
 }
 
 impl RunFault {
-    /// Returns the text that is printed of it, in lower case and without a full stop. This project's choice.
+    /// Returns its message, in lower case and without a full stop. This project's choice.
     pub fn text(self) -> &'static str
         ensures { result.now ≡ fault_text self }
     {
@@ -52,7 +52,7 @@ impl RunFault {
     }
 }
 
-/// How many bytes a read asks for at most.
+/// The most bytes that one read requests.
 const CHUNK: usize = 65_536;
 
 /// Runs a script as it comes from any source, as `run_job` does from a reader, and gives each entry of the run to a consumer.
@@ -71,7 +71,7 @@ pub fn run_source<S: Source, W: Write, C: Consumer>(
     ensures ok { IfOk result
         (HasEnded C.piece (C.knows consumer.old) (S.left reader.old) (S.left reader.new)
         (W.contents writer.old.inner) (W.contents writer.new.inner) most_script_bytes consumer.new) }
-    // Else it is a front of that; if memory is exhausted, all up to the answer for which there was none.
+    // Otherwise it is the beginning of that; if memory is exhausted, all of it up to the answer that needed memory.
     ensures fault { IfErr result
         (HasGivenUp C.piece (C.knows consumer.old) (S.left reader.old) (S.left reader.new)
         (W.contents writer.old.inner) (W.contents writer.new.inner) most_script_bytes consumer.new) }
@@ -149,8 +149,8 @@ pub fn run_from<S: Source, W: Write>(
     run_source(alloc, reader, writer, placement, hints, &mut Printer)
 }
 
-/// Runs a script as it comes: 16,777,215 bytes at most, and a byte more to see that there are too many. It keeps no more of it than a
-/// line, passes on what it printed before each read, and reads no further after a fault of the script. It tries the addresses of
+/// Runs a script as it arrives. It reads at most 16,777,215 bytes, and one more to see that there are too many. It keeps at most a
+/// line of it, flushes its output before each read, and reads nothing after a fault of the script. It tries the addresses of
 /// `hints` first for what their lines are granted, and else those of the placement; no clause depends on either.
 pub fn run_job<R: Read, W: Write>(
     alloc: Global,

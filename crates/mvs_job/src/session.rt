@@ -166,8 +166,8 @@ impl Session {
         self.walk.request(task, request, observer)
     }
 
-    /// Writes bytes over those of a place, and answers whether it did: not where no step runs, nor where one of them may not be
-    /// written, and then all stay.
+    /// Overwrites the bytes of a place, and returns whether it did. None changes if no step runs, or if one of them may not be
+    /// written.
     pub fn write(&mut self, place: Place, bytes: &[u8]) -> bool
         requires continues { self.old.continues ≡ true }
         requires len { length bytes.now ≡ place.len }
@@ -177,7 +177,7 @@ impl Session {
         self.walk.write(place, bytes)
     }
 
-    /// Ends a job that has no more lines, and answers how it ends.
+    /// Ends a job that has no more lines, and returns how it ends.
     pub fn close(&mut self) -> JobEnd
         requires { self.old.continues ≡ true }
         ensures closed { Closes machine self.old.walk.number self.old.walk.step

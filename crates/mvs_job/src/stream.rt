@@ -1,4 +1,4 @@
-//! A job that takes its script as it comes, and keeps no more of it than a line.
+//! A job that reads its script as it arrives, and keeps at most a line of it.
 
 ghost use Rattle.std.specs.Prelude.{◌≡◌, ◌≢◌, ◌<◌, ◌≤◌, ◌+◌, ◌^◌, ◌++◌, ◌∷◌, [], List, ℕ, Option, length, take, slice_index, true, IfOk, IfSome, OnOk, IsErrOf, MatchResult};
 ghost use Rattle.std.specs.Io.KnownBytes.{Consumes, IsAtEnd, Keeps};
@@ -30,7 +30,7 @@ pub enum Progress {
     Ended(Outcome),
 }
 
-/// A job in the midst of its script.
+/// A job between two reads of its script.
 #[derive(Drop)]
 pub struct Stream {
     walk: Walk,
@@ -150,7 +150,7 @@ impl Stream {
         }
     }
 
-    // Takes the first line of some bytes, and answers how many bytes it took, or none where the job has ended.
+    // Consumes the first line of some bytes. Returns the number of bytes consumed, or None if the job has ended.
     fn feed_whole<W: Write, C: Consumer>(
         &mut self,
         bytes: &[u8],
@@ -205,7 +205,7 @@ impl Stream {
         }
     }
 
-    // Takes the first line of some bytes, or the first byte, and answers how many bytes it took, or none where the job has ended.
+    // Consumes the first line of some bytes, or the first byte. Returns the number of bytes consumed, or None if the job has ended.
     fn feed_some<W: Write, C: Consumer>(
         &mut self,
         bytes: &[u8],

@@ -26,7 +26,7 @@ use mvs_model::watched::{Failed, Watched};
 use std::alloc::Global;
 use std::io::Write;
 
-/// Why a line was not served.
+/// Why a line was not executed.
 #[derive(Clone, Copy, Debug, PartialEq, Eq)]
 pub enum SkipReason {
     /// Its task was not active.
@@ -46,7 +46,7 @@ pub trait SkipObserver {
             (record { number = line_number; line = line.now; why = why } ∷ []) };
 }
 
-/// How a job ended, and whether each line was served.
+/// How a job ended, and whether each line was executed.
 #[derive(Clone, Copy, Debug, PartialEq, Eq)]
 pub struct StrictOutcome {
     pub outcome: Outcome,
@@ -202,7 +202,7 @@ pub fn run_observed<W: Write, H: SkipObserver, C: Consumer>(
     ensures run { IfOk result
         (λ end. RunsObserved C.piece (W.contents writer.old.inner) (W.contents writer.new.inner)
         (H.heard hearer.old) (H.heard hearer.new) script.now end.outcome end.all_served) }
-    // Else it is what a run writes that stops so, and what is reported is each of the lines before that was not executed.
+    // Otherwise it is what a run writes that stops so. Each line before the stop that was not executed is reported.
     ensures stop { IfErr result
         (λ stop. LeavesText C.piece (W.contents writer.old.inner) (W.contents writer.new.inner)
         script.now (Err stop)) }
@@ -233,7 +233,7 @@ pub fn run_strictly<W: Write, H: SkipObserver>(
     ensures run { IfOk result
         (λ end. PrintsStrictly (W.contents writer.old.inner) (W.contents writer.new.inner)
         (H.heard hearer.old) (H.heard hearer.new) script.now end.outcome end.all_served) }
-    // Else it is a front of such a printing; for want of memory the whole printing before the reply to a statement that takes some.
+    // Otherwise it is the beginning of such a printing; if memory is exhausted, all of it before the reply to a statement that needs memory.
     ensures stop { IfErr result
         (λ stop. PrintedUpTo stop (W.contents writer.old.inner) (W.contents writer.new.inner)
         script.now) }

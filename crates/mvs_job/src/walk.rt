@@ -86,7 +86,7 @@ impl Model for Walk {
     ghost view = { λ w. record { step = w.job; number = w.number; reply = w.reply } };
 }
 
-// Returns the card of a REGION statement of a task; the other statements have none.
+// Returns the card of a REGION statement of a task, or None for another statement.
 fn card_of(task: &Name, statement: &Statement) -> Option<Card>
     requires { (first : Bool) × IsStatement first task.now statement.now }
     ensures card { result ≡ region_card task.now statement.now }
@@ -174,7 +174,7 @@ impl Walk {
         self.job.as_ref()
     }
 
-    /// Returns the tasks that ended with the one that abended, where the last request that was made abended.
+    /// Returns the tasks that ended with the one that abended, if the last request abended.
     pub fn fallen(&self) -> &[Name]
         ensures { result.now ≡ ended_with_in self.now.reply }
     {
@@ -216,8 +216,8 @@ impl Walk {
         }
     }
 
-    /// Writes bytes over those of a place, and answers whether it did: not where no step runs, nor where one of them may not be
-    /// written, and then all stay.
+    /// Overwrites the bytes of a place, and returns whether it did. None changes if no step runs, or if one of them may not be
+    /// written.
     pub fn write(&mut self, place: Place, bytes: &[u8]) -> bool
         requires { length bytes.now ≡ place.len }
         ensures { WritesOf self.old place bytes.now result self.new }
@@ -235,7 +235,7 @@ impl Walk {
         ensures executed { MatchResult result (λ answered. ServesAsUnder (Takes hints.now) self.old line.now answered self.new)
             (λ stopped. StopsForMemory self.old.number self.old.step (line.now ∷ [])
             (ended stopped.ended)) }
-        // Where the line makes a request, the reply that is kept is the one to that, and else the one before.
+        // The kept reply is that to the line's request; if the line makes none, it is the one before.
         ensures reply { IfOk result (λ answered. KeepsReplyOf self.old line.now answered self.new) }
         ensures full_answer { IfOk result (IsAvailable self.new) }
         ensures number { self.new.number ≡ self.old.number + 1 }

@@ -81,8 +81,8 @@ fn resolve(job: &Job, read: &Line, request: &mut Request)
     }
 }
 
-/// Finds why a line is not executed as it asks. It looks at the line before that is executed, and observes the refusal of its request.
-/// It has room for what a line says, for its request, and for what that did, which are long.
+/// Finds why a line is refused. It looks at the line before it is executed, and observes the refusal of its request.
+/// It has buffers for the meaning of a line, its request and its effects, which are large.
 #[derive(Drop)]
 pub struct Why {
     pub(crate) read: Line,
@@ -116,7 +116,7 @@ impl Observer for Why {
 }
 
 impl Why {
-    /// Makes one that has looked at no line.
+    /// Makes an explainer that has seen no line.
     pub fn new() -> Why {
         Why {
             read: Line::Nothing,
@@ -128,7 +128,7 @@ impl Why {
         }
     }
 
-    /// Looks at what is reported of the next line after it, before it is executed.
+    /// Looks at the next line before it is executed, for the explanations after it.
     pub fn look(&mut self, walk: &Walk, line: &[u8])
         ensures read { IsReadIn walk.now.step line.now self.new.read }
         ensures before { self.new.before ≡ before_line walk.now.step self.new.read }
