@@ -1,4 +1,4 @@
--- The steps of the machine: a request is refused or executed, with a reply and the next state.
+-- The steps of the machine: a request is refused or done, what it is answered, and which state it leaves.
 use Rattle.std.specs.Prelude.{◌≡◌, ◌⊎◌, ℕ, List, [], ◌∷◌, length, map, Option, Some, None, Result, MatchResult}
 use Rattle.std.specs.FinMap.{get}
 use Rattle.mvs_model.specs.declared.name.Name.{Name}

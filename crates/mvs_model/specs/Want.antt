@@ -1,4 +1,4 @@
--- What an obtain requests, and which places satisfy it.
+-- What an obtaining request asks for and what its place has to meet.
 use Rattle.std.specs.Prelude.{◌≡◌, ℕ, ◌%◌, ◌^◌, ◌<◌, ◌≤◌, Option, None, IfSome}
 use Rattle.mvs_model.specs.Place.{round8}
 use Rattle.mvs_model.specs.declared.want.Side.{Side}
