@@ -14,7 +14,7 @@ ODD = re.compile(
     re.I,
 )
 WORD = re.compile(r"[A-Za-z']+")
-MOST = {"documents": 15, "printed text": 10, "comments": 25, "tests and tools": 20}  # in 10,000 words
+MOST = {"documents": 5, "printed text": 10, "comments": 20, "tests and tools": 20}  # in 10,000 words
 
 
 def documents():
