@@ -507,11 +507,23 @@ NEOVIM = {
 EMACS = {"the mode": "mode mvsjob-mode", "diagnostics": "diagnostics 6", "a keyword right again": "mended 4"}
 
 
+LOADS_EGLOT = """(progn (dolist (folder (file-expand-wildcards "/usr/share/emacs/site-lisp/elpa/*")) (add-to-list 'load-path folder)) (require 'eglot))"""
+
+
+def lacks_eglot():
+    """Whether Emacs is there without its client of language servers: before version 29 that is a package of its own."""
+    return shutil.which("emacs") is not None and subprocess.run(["emacs", "--batch", "--eval", LOADS_EGLOT], capture_output=True).returncode != 0
+
+
+def of_emacs():
+    emacs = ["--batch", "-L", f"{TOP}/editors/emacs", "-l", str(TOP / "tests/lsp.el")]
+    return {name: Lacking("elpa-eglot") for name in EMACS} if lacks_eglot() else typed("emacs", emacs, EMACS)
+
+
 def editors():
     nvim = ["--headless", "-u", "NORC", "--cmd", f"set rtp^={TOP}/editors/vim,{TOP}/editors/nvim", "-S", str(TOP / "tests/lsp.lua")]
     yield from ((f"Neovim: {name}", well) for name, well in typed("nvim", nvim, NEOVIM).items())
-    emacs = ["--batch", "-L", f"{TOP}/editors/emacs", "-l", str(TOP / "tests/lsp.el")]
-    yield from ((f"Emacs: {name}", well) for name, well in typed("emacs", emacs, EMACS).items())
+    yield from ((f"Emacs: {name}", well) for name, well in of_emacs().items())
 
 
 def groups(program):
