@@ -12,6 +12,7 @@ from views import options
 
 GROWS = 4  # how many times as large a dimension becomes
 REGION = "J REGION BELOW=256"
+END = ["J ATTACH TASK=Z", "Z GETMAIN RC,LV=64,A=Z,SP=1", "Z RETURN"]
 
 
 def lines(count):
@@ -37,24 +38,24 @@ def tasks(count):
     for task in range(count):
         yield f"J ATTACH TASK=T{task}"
         yield f"T{task} GETMAIN RC,LV=64,A=A{task},SP=1"
-    for task in [*range(count)] * 3:
+    for task in [*range(count)] * 2:
+        yield f"T{task} WHERE A{task}"
+        yield f"T{task} PUT A{task},X'C1'"
         yield f"T{task} GETMAIN RC,LV=64,A=X,SP=1"
         yield f"T{task} FREEMAIN RC,LV=64,A=X,SP=1"
-        yield f"T{task} ATTACH TASK=Z"
-        yield "Z GETMAIN RC,LV=64,A=Y,SP=2"
-        yield "Z RETURN"
+
+
+def areas(count):
+    return (f"J GETMAIN RC,LV=64,A=A{number},SP={number}" for number in range(1, count + 1))
 
 
 def subpools(count):
-    """Subpools of one task."""
+    """Subpools of one task, with an area each."""
     yield REGION
-    for number in range(1, count + 1):
-        yield f"J GETMAIN RC,LV=64,A=A{number},SP={number}"
-    for number in range(1, count + 1):
+    yield from areas(count)
+    for number in [*range(1, count + 1)] * 2:
         yield f"J GETMAIN RC,LV=64,A=X,SP={number}"
         yield f"J FREEMAIN RC,LV=64,A=X,SP={number}"
-        yield "J ATTACH TASK=Z"
-        yield "Z RETURN"
 
 
 def pages(count):
@@ -64,23 +65,52 @@ def pages(count):
         yield "J GETMAIN RC,LV=8192,A=X,SP=1,LOC=ANY"
         yield "J PUT X,X'C1'"
         yield "J FREEMAIN RC,LV=8192,A=X,SP=1"
-        yield "J ATTACH TASK=Z"
-        yield "Z GETMAIN RC,LV=64,A=Y,SP=1,LOC=ANY"
-        yield "Z RETURN"
 
 
-def names(count):
-    """Names of areas, which are obtained by lists of 16."""
-    yield REGION
+def lists(count):
+    """Obtains that many names, by lists of 16."""
     for first in range(0, count, 16):
         members = ",".join(f"N{number}" for number in range(first, first + 16))
         yield f"J GETMAIN LC,LA=({','.join(['8'] * 16)}),A=({members}),SP=1"
+
+
+def names(count):
+    """Names of areas."""
+    yield REGION
+    yield from lists(count)
     for number in range(0, count, 16):
         yield f"J WHERE N{number}"
         yield f"J PUT N{number},X'C1'"
         yield "J GETMAIN RC,LV=64,A=X,SP=2"
         yield "J FREEMAIN RC,LV=64,A=X,SP=2"
-        yield "J FREEMAIN RC,LV=64,A=X,SP=2"
+
+
+def refusals(count):
+    """Names of areas, and requests that are refused for an address."""
+    yield REGION
+    yield from lists(count)
+    yield "J GETMAIN RC,LV=64,A=X,SP=2"
+    yield from ["J FREEMAIN RC,LV=64,A=X,SP=2"] * (count // 2)
+
+
+def shortages(count):
+    """Areas that are held, and requests that fit nowhere."""
+    yield REGION
+    yield from lists(count)
+    yield from ["J GETMAIN RC,LV=2000000,A=X"] * (count // 16)
+
+
+def ends(count):
+    """Subpools of the job step task, and ends of subtasks that have one of their own."""
+    yield REGION
+    yield from areas(count)
+    yield from END * count
+
+
+def ends_among_pages(count):
+    """Pages of a region, few of which are used, and ends of subtasks."""
+    yield f"J REGION BELOW=256,ABOVE={count - 256}"
+    yield from END * (count // 64)
 
 
 def pools(count):
@@ -123,7 +153,14 @@ DIMENSIONS = {
     "names": Dimension(names, 256),
     "pools": Dimension(pools, 15),
     "parts": Dimension(parts, 50),
+    "names, at refusals": Dimension(refusals, 256),
+    "areas, at shortages": Dimension(shortages, 256),
+    "subpools, at ends": Dimension(ends, 30),
+    "pages, at ends": Dimension(ends_among_pages, 2000),
 }
+
+# Those whose scripts have mostly one kind of line.
+EXTRA = ("names, at refusals", "areas, at shortages", "subpools, at ends", "pages, at ends")
 
 
 @cache
