@@ -223,7 +223,7 @@ def planted_wrong_bodies(folder):
 
 def tests_fail(folder):
     """tests/run over a copy, with scripts and programs missing."""
-    for name in ("tests", "examples", "docs", "lessons", "tools"):
+    for name in ("tests", "bench", "examples", "docs", "lessons", "tools"):
         shutil.copytree(TOP / name, folder / name)
     made = folder / "crates/mvsjob/out"
     made.mkdir(parents=True)

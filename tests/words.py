@@ -45,7 +45,7 @@ def comments():
 
 def of_tests():
     """The comments of what is written in Python."""
-    for path in [*TOP.glob("tests/*"), *TOP.glob("tools/*"), *TOP.glob("conformance/**/*")]:
+    for path in [*TOP.glob("tests/*"), *TOP.glob("tools/*"), *TOP.glob("bench/*"), *TOP.glob("conformance/**/*")]:
         if path.suffix == ".py" or path.is_file() and path.read_bytes().startswith(b"#!/usr/bin/env python3"):
             with tokenize.open(path) as file:
                 for token in tokenize.generate_tokens(file.readline):
