@@ -23,7 +23,7 @@ use Rattle.language_server.specs.Syntax.{all_forms}
 use Rattle.language_server.specs.Words.{run_length}
 use Rattle.language_server.specs.declared.span.Span.{Span}
 use Rattle.language_server.specs.declared.subject.Spot.{Spot}
-use Rattle.language_server.specs.declared.subject.Subject.TheVariants as subject
+use Rattle.language_server.specs.declared.subject.LinePart.TheVariants as subject
 
 -- what is found passes
 pub found_passes : {X : Type 0} (p : X → Bool) (xs : List X) (x : X) → find p xs ≡ Some x → p x ≡ true

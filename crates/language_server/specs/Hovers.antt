@@ -24,8 +24,8 @@ use Rattle.language_server.specs.declared.names.NameKind.TheVariants as kind
 use Rattle.language_server.specs.declared.names.Occurrence.{Occurrence}
 use Rattle.language_server.specs.declared.span.Span.{Span}
 use Rattle.language_server.specs.declared.subject.Spot.{Spot}
-use Rattle.language_server.specs.declared.subject.Subject.{Subject}
-use Rattle.language_server.specs.declared.subject.Subject.TheVariants as subject
+use Rattle.language_server.specs.declared.subject.LinePart.{LinePart}
+use Rattle.language_server.specs.declared.subject.LinePart.TheVariants as subject
 
 -- what is shown at a place: the bytes that it is about, and a text
 pub record HoverValue : Type 0 where
@@ -219,7 +219,7 @@ is_subpool_operand None = false
 is_subpool_operand (Some p) = is_subpool (key_in p.bytes)
 
 -- whether a place is in an operand that is the number of a subpool
-abbrev pub is_at_subpool : DocumentValue → Spot → Subject → Bool
+abbrev pub is_at_subpool : DocumentValue → Spot → LinePart → Bool
 is_at_subpool d spot (subject.Task s) = false
 is_at_subpool d spot (subject.Operation s) = false
 is_at_subpool d spot (subject.Field s) = is_subpool_operand (operand_at (spot_field d spot) spot.column)
@@ -228,14 +228,14 @@ is_at_subpool d spot (subject.Remark s) = false
 -- ---- hover
 
 -- what is known of what a place is in
-abbrev pub subject_paragraphs : DocumentValue → Spot → List ℕ → Subject → List (List ℕ)
+abbrev pub subject_paragraphs : DocumentValue → Spot → List ℕ → LinePart → List (List ℕ)
 subject_paragraphs d spot report (subject.Task s) = name_paragraphs d spot.line kind.Task (bytes_of (spot_line d spot) s)
 subject_paragraphs d spot report (subject.Operation s) = syntax_blocks (bytes_of (spot_line d spot) s)
 subject_paragraphs d spot report (subject.Field s) = field_paragraphs d spot report
 subject_paragraphs d spot report (subject.Remark s) = []
 
 -- the answer of the line of a place, or what the reference has about a remark
-abbrev pub rest_paragraphs : DocumentValue → ℕ → Option (List ℕ) → Option (List ℕ) → Subject → List (List ℕ)
+abbrev pub rest_paragraphs : DocumentValue → ℕ → Option (List ℕ) → Option (List ℕ) → LinePart → List (List ℕ)
 rest_paragraphs d n about rule (subject.Task s) = answer_paragraphs d n about rule
 rest_paragraphs d n about rule (subject.Operation s) = answer_paragraphs d n about rule
 rest_paragraphs d n about rule (subject.Field s) = answer_paragraphs d n about rule

@@ -8,26 +8,26 @@ use Rattle.language_server.specs.Words.{line_piece, parts_of, remark_code, remar
 use Rattle.language_server.specs.declared.parts.Parts.{Parts}
 use Rattle.language_server.specs.declared.span.Span.{Span}
 use Rattle.language_server.specs.declared.subject.Spot.{Spot}
-use Rattle.language_server.specs.declared.subject.Subject.{Subject}
-use Rattle.language_server.specs.declared.subject.Subject.TheVariants as subject
+use Rattle.language_server.specs.declared.subject.LinePart.{LinePart}
+use Rattle.language_server.specs.declared.subject.LinePart.TheVariants as subject
 
-abbrev pub subject_in : Parts → Span → ℕ → Subject
+abbrev pub subject_in : Parts → Span → ℕ → LinePart
 subject_in p word column =
     if touches p.task column then subject.Task p.task
     else if touches p.operation column then subject.Operation p.operation
     else if touches p.field column && not (nat_le p.field.end p.field.start) then subject.Field word
     else subject.Remark word
 
-abbrev pub subject_by : Option Parts → Span → ℕ → Subject
+abbrev pub subject_by : Option Parts → Span → ℕ → LinePart
 subject_by None word column = subject.Remark word
 subject_by (Some p) word column = subject_in p word column
 
 -- what a column of a line is in
-abbrev pub subject_of : List ℕ → ℕ → Subject
+abbrev pub subject_of : List ℕ → ℕ → LinePart
 subject_of line column = subject_by (parts_of line) (word_at line column) column
 
 -- the bytes that a hover is about
-abbrev pub subject_span : Subject → Span
+abbrev pub subject_span : LinePart → Span
 subject_span (subject.Task s) = s
 subject_span (subject.Operation s) = s
 subject_span (subject.Field s) = s
@@ -43,14 +43,14 @@ spot_at text place = spot_in text place (line_at text place)
 -- ---- codes and rules
 
 -- the word of a line that may be a code: the one of a remark, or the code of the line's answer
-abbrev pub code_word : DocumentValue → ℕ → Subject → List ℕ
+abbrev pub code_word : DocumentValue → ℕ → LinePart → List ℕ
 code_word d n (subject.Remark s) = remark_code (line_bytes d.text n) s
 code_word d n (subject.Task s) = unwrap_or (abend_code (answer_at d n)) []
 code_word d n (subject.Operation s) = unwrap_or (abend_code (answer_at d n)) []
 code_word d n (subject.Field s) = unwrap_or (abend_code (answer_at d n)) []
 
 -- the number of a rule: that in a remark, or the first that the explanation of the line's answer names
-abbrev pub rule_number : DocumentValue → ℕ → Subject → Option ℕ
+abbrev pub rule_number : DocumentValue → ℕ → LinePart → Option ℕ
 rule_number d n (subject.Remark s) = remark_rule (line_bytes d.text n) s
 rule_number d n (subject.Task s) = first_rule (explanation_of (others_at d n))
 rule_number d n (subject.Operation s) = first_rule (explanation_of (others_at d n))

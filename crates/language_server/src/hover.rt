@@ -27,7 +27,7 @@ use crate::reference_texts::{code_text, rule_text};
 use crate::references::name_at;
 use crate::span::Span;
 use crate::state::without_blank;
-use crate::subject::{Spot, Subject, field_form, form_span, line_field, operand_at};
+use crate::subject::{LinePart, Spot, field_form, form_span, line_field, operand_at};
 use crate::syntax::{keyword_text, operands_text, statement_text};
 use job_script::operations::{Operation, read_operation};
 use job_script::rows::{Keyword, Row};
@@ -532,12 +532,12 @@ impl Document {
     {
         let line = self.line(spot.line);
         match spot.subject {
-            Subject::Task(span) => {
+            LinePart::Task(span) => {
                 self.push_name(alloc, found, spot.line, NameKind::Task, span.of(line))
             }
-            Subject::Operation(span) => push_word_syntax(alloc, found, span.of(line)),
-            Subject::Field(_) => self.push_field(alloc, found, spot, report),
-            Subject::Remark(_) => Ok(()),
+            LinePart::Operation(span) => push_word_syntax(alloc, found, span.of(line)),
+            LinePart::Field(_) => self.push_field(alloc, found, spot, report),
+            LinePart::Remark(_) => Ok(()),
         }
     }
 
@@ -554,11 +554,11 @@ impl Document {
             ++ rest_paragraphs self.now spot.line (option_map (λ t. t.now) about.entry) (option_map (λ t. t.now) rule.entry) spot.subject) }
     {
         match spot.subject {
-            Subject::Remark(_) => {
+            LinePart::Remark(_) => {
                 push_reference(alloc, found, about)?;
                 push_reference(alloc, found, rule)
             }
-            Subject::Task(_) | Subject::Operation(_) | Subject::Field(_) => {
+            LinePart::Task(_) | LinePart::Operation(_) | LinePart::Field(_) => {
                 self.push_answer(alloc, found, spot.line, about, rule)
             }
         }
@@ -569,10 +569,10 @@ impl Document {
         ensures { result ≡ is_at_subpool self.now spot spot.subject }
     {
         match spot.subject {
-            Subject::Field(_) => {
+            LinePart::Field(_) => {
                 is_subpool_operand(&operand_at(&self.spot_field(spot), spot.column))
             }
-            Subject::Task(_) | Subject::Operation(_) | Subject::Remark(_) => false,
+            LinePart::Task(_) | LinePart::Operation(_) | LinePart::Remark(_) => false,
         }
     }
 

@@ -13,7 +13,7 @@ use crate::words::{remark_code, remark_rule, word_at};
 
 /// What a column of a line is in. The span is what a hover is about.
 #[derive(Clone, Copy, Debug)]
-pub enum Subject {
+pub enum LinePart {
     Task(Span),
     Operation(Span),
     /// A word of the operands.
@@ -29,47 +29,47 @@ pub struct Spot {
     /// The number of the lines before its line.
     pub line: usize,
     pub column: usize,
-    pub subject: Subject,
+    pub subject: LinePart,
 }
 
-impl Subject {
+impl LinePart {
     /// Returns the bytes of the line that a hover is about.
     pub fn span(self) -> Span
         ensures { result ≡ subject_span self }
     {
         match self {
-            Subject::Task(span)
-            | Subject::Operation(span)
-            | Subject::Field(span)
-            | Subject::Remark(span) => span,
+            LinePart::Task(span)
+            | LinePart::Operation(span)
+            | LinePart::Field(span)
+            | LinePart::Remark(span) => span,
         }
     }
 }
 
 // Returns what a column of a statement is in.
-fn subject_in(parts: Parts, word: Span, column: usize) -> Subject
+fn subject_in(parts: Parts, word: Span, column: usize) -> LinePart
     ensures { result ≡ subject_in parts word column }
 {
     if parts.task.touches(column) {
-        Subject::Task(parts.task)
+        LinePart::Task(parts.task)
     } else if parts.operation.touches(column) {
-        Subject::Operation(parts.operation)
+        LinePart::Operation(parts.operation)
     } else if parts.field.touches(column) && !parts.field.is_empty() {
-        Subject::Field(word)
+        LinePart::Field(word)
     } else {
-        Subject::Remark(word)
+        LinePart::Remark(word)
     }
 }
 
 // Returns what a column of a line is in.
-fn subject_of(line: &[u8], column: usize) -> Subject
+fn subject_of(line: &[u8], column: usize) -> LinePart
     requires { length line.now ≤ 1048576 }
     ensures { result ≡ subject_of line.now column }
 {
     let word = word_at(line, column);
     match parts_of(line) {
         Some(parts) => subject_in(parts, word, column),
-        None => Subject::Remark(word),
+        None => LinePart::Remark(word),
     }
 }
 
@@ -161,24 +161,24 @@ impl Document {
     }
 
     /// Returns the word that may be a code: the one of a remark, or the code of the answer of a line.
-    pub(crate) fn code_word(&self, line: usize, subject: Subject) -> &[u8]
+    pub(crate) fn code_word(&self, line: usize, subject: LinePart) -> &[u8]
         ensures { result.now ≡ code_word self.now line subject }
     {
         match subject {
-            Subject::Remark(word) => remark_code(self.line(line), word),
-            Subject::Task(_) | Subject::Operation(_) | Subject::Field(_) => {
+            LinePart::Remark(word) => remark_code(self.line(line), word),
+            LinePart::Task(_) | LinePart::Operation(_) | LinePart::Field(_) => {
                 abend_code(self.answer(line)).unwrap_or(&[])
             }
         }
     }
 
     /// Returns the number of a rule: that in a remark, or the first that the explanation of the answer of a line names.
-    pub(crate) fn rule_number(&self, line: usize, subject: Subject) -> Option<u64>
+    pub(crate) fn rule_number(&self, line: usize, subject: LinePart) -> Option<u64>
         ensures { result ≡ rule_number self.now line subject }
     {
         match subject {
-            Subject::Remark(word) => remark_rule(self.line(line), word),
-            Subject::Task(_) | Subject::Operation(_) | Subject::Field(_) => {
+            LinePart::Remark(word) => remark_rule(self.line(line), word),
+            LinePart::Task(_) | LinePart::Operation(_) | LinePart::Field(_) => {
                 explained_rule(self.others(line))
             }
         }
