@@ -93,6 +93,14 @@ def refusals(count):
     yield from ["J FREEMAIN RC,LV=64,A=X,SP=2"] * (count // 2)
 
 
+def refusals_after_ends(count):
+    """Ends of subtasks while an area is held, and requests that are refused for its address, since another subpool holds it."""
+    yield REGION
+    yield from ["J GETMAIN RC,LV=64,A=X,SP=1", "J GETMAIN RC,LV=64,A=Y,SP=2"]
+    yield from ["J ATTACH TASK=Z", "Z RETURN"] * count
+    yield from ["J FREEMAIN RC,LV=64,A=X,SP=2"] * count
+
+
 def shortages(count):
     """Areas that are held, and requests that fit nowhere."""
     yield REGION
@@ -154,13 +162,14 @@ DIMENSIONS = {
     "pools": Dimension(pools, 15),
     "parts": Dimension(parts, 50),
     "names, at refusals": Dimension(refusals, 256),
+    "ends, at refusals": Dimension(refusals_after_ends, 500),
     "areas, at shortages": Dimension(shortages, 256),
     "subpools, at ends": Dimension(ends, 30),
     "pages, at ends": Dimension(ends_among_pages, 2000),
 }
 
 # Those whose scripts have mostly one kind of line.
-EXTRA = ("names, at refusals", "areas, at shortages", "subpools, at ends", "pages, at ends")
+EXTRA = ("names, at refusals", "ends, at refusals", "areas, at shortages", "subpools, at ends", "pages, at ends")
 
 
 @cache

@@ -13,7 +13,7 @@ from scripts import MOST_BYTES
 REGION = "J REGION BELOW=2048,ABOVE=8192\n"
 RUNS = {
     "16 MB of comments": f"{'*' * 254}\n" * (MOST_BYTES // 255),
-    "10,000 steps of 10,240 pages, one of which is used": f"{REGION}J GETMAIN RU,LV=8,A=X\n" * 10_000,
+    "10,000 steps that each use one page of 10,240": f"{REGION}J GETMAIN RU,LV=8,A=X\n" * 10_000,
     "a step that uses 10,240 pages": f"{REGION}J GETMAIN RU,LV=8388608,A=X\nJ GETMAIN RU,LV=33554432,A=Y,LOC=ANY\n",
 }
 

@@ -29,7 +29,7 @@
 #include <string.h>
 
 /* The version of these calls. A program runs with a library if the thousands agree and the library's version is not less. */
-#define MVS_VERSION 2003
+#define MVS_VERSION 2006
 
 /* What comes before each declaration of a function of the library. In libmvs.a these are hidden: a plugin that contains it does not
  * export them. */
@@ -52,7 +52,7 @@ typedef enum mvs_status {
     MVS_STATUS_TOO_SMALL = 32,    /* the buffer is too small and does not change; the size that is needed is returned */
     MVS_STATUS_NO_ACCESS = 36,    /* no step runs, no byte is named, or one of them cannot be accessed (0C4) */
     MVS_STATUS_NO_MORE = 40,      /* there is none, or no further one */
-    MVS_STATUS_TOO_LONG = 44,     /* mvs_run: the script has more than 16,777,215 bytes; mvs_statement: the line is too long */
+    MVS_STATUS_TOO_LONG = 44,     /* mvs_run: the script has more than 16,777,215 bytes; mvs_statement, mvs_list_statement: the line is too long */
     MVS_STATUS_NO_TASK = 48,      /* mvs_subpool: no task of this name is active */
     MVS_STATUS_NO_REQUEST = 52,   /* mvs_request, mvs_list: a field is out of range; event.code is its offset */
     MVS_STATUS_NO_STEP = 56,      /* mvs_request, mvs_list: no step runs; nothing changes */
@@ -220,6 +220,12 @@ typedef struct mvs_held_run {
 
 #define MVS_HELD_RUN_INIT { sizeof(mvs_held_run), 0, 0, false, 0, {0}, {0} }
 
+/* Bytes in the memory of a session. */
+typedef struct mvs_bytes {
+    const uint8_t *bytes;
+    size_t length;
+} mvs_bytes;
+
 /* An active task, and the task that attached it: both padded with blanks. Nothing attached the job step task, so that is blank. */
 typedef struct mvs_task_line {
     uint32_t size;
@@ -312,6 +318,44 @@ typedef struct mvs_reason {
 
 #define MVS_REASON_INIT { sizeof(mvs_reason), 0, 0, 0, 0, 0, 0, 0, 0, 0, 0, 0, 0, 0, 0, 0, 0, 0, 0, {0}, {0}, {0} }
 
+/* What a request changed, and which fields of mvs_effect_line each effect has beside size, kind and rule. They are those that
+ * mvsjob --explain prints of a line, in its order. */
+typedef enum mvs_effect_kind {
+    MVS_EFFECT_OBTAINED = 1,       /* an area was obtained: address, length, least, most, number, owner */
+    MVS_EFFECT_NO_GREATER = 2,     /* no greater length had a place: pages, pages_above: the free pages before */
+    MVS_EFFECT_NEW_SUBPOOL = 3,    /* a subpool was made: number, owner */
+    MVS_EFFECT_PAGES_ASSIGNED = 4, /* free pages were assigned: pages, which may be 0 */
+    MVS_EFFECT_PAGES_FREED = 5,    /* pages became free: pages */
+    MVS_EFFECT_EMPTIED = 6,        /* all of a subpool was released: number, owner */
+    MVS_EFFECT_CELL = 7,           /* a cell was allocated: address, length, pool */
+    MVS_EFFECT_PART = 8,           /* a cell pool has a new part: address, length, cells, cell_size, pool */
+    MVS_EFFECT_GIVEN = 9,          /* a subtask now owns a subpool: task; number, and who gave it: owner */
+    MVS_EFFECT_SHARED = 10,        /* a subtask shares a subpool: task; number, owner */
+    MVS_EFFECT_FREED = 11,         /* a subpool was freed with its owner: number, owner, its bytes: length, pages */
+    MVS_EFFECT_REMAINS = 12        /* a subpool remains that the task shared, which ended: number, owner, task */
+} mvs_effect_kind;
+
+/* An effect. The fields that the kind does not name are 0, and the names are blank. */
+typedef struct mvs_effect_line {
+    uint32_t size;
+    uint32_t kind;        /* mvs_effect_kind */
+    uint32_t rule;        /* a rule of RULES.md */
+    uint32_t address;     /* of an area, a cell or a part of a cell pool */
+    uint32_t length;
+    uint32_t least;       /* the least and the greatest length that were requested */
+    uint32_t most;
+    uint32_t pages;       /* of MVS_EFFECT_NO_GREATER those below 16 megabytes */
+    uint32_t pages_above;
+    uint32_t cells;       /* the cells of a part, and the bytes of each */
+    uint32_t cell_size;
+    uint32_t number;      /* the number that the owner has for a subpool */
+    uint8_t owner[8];     /* names are padded with blanks */
+    uint8_t task[8];
+    uint8_t pool[8];
+} mvs_effect_line;
+
+#define MVS_EFFECT_LINE_INIT { sizeof(mvs_effect_line), 0, 0, 0, 0, 0, 0, 0, 0, 0, 0, 0, {0}, {0}, {0} }
+
 /* What REGION begins: the pages of a step, and its job step task. */
 typedef struct mvs_region {
     uint32_t size;
@@ -339,6 +383,11 @@ MVS_API uint32_t mvs_version(void);
 /* Begins a session, and frees the one that was there. MVS_STATUS_OK; MVS_STATUS_NO_PLACE or MVS_STATUS_NO_MEMORY, and then the
  * session stays. */
 MVS_API uint32_t mvs_new(mvs_session *session, uint32_t place);
+
+/* Makes a copy of a session, and frees the session that was in *to. The copy continues as the original would. What one of them does
+ * later does not change the other. MVS_STATUS_OK; MVS_STATUS_NO_SESSION if *from has none, or MVS_STATUS_NO_MEMORY, and then *to
+ * stays. *from does not change. */
+MVS_API uint32_t mvs_clone(mvs_session *from, mvs_session *to);
 
 /* Executes a line of length bytes, given without its newline. *event is the reply. MVS_STATUS_OK, MVS_STATUS_SCRIPT_FAULT or
  * MVS_STATUS_NO_MEMORY; MVS_STATUS_WRONG_SIZE, MVS_STATUS_NO_SESSION or MVS_STATUS_OVER, and then *event does not change. */
@@ -386,6 +435,17 @@ MVS_API uint32_t mvs_why_into(mvs_session *session, char *out, size_t room, size
  * MVS_STATUS_NO_SESSION, and then *reason does not change. The session does not change. */
 MVS_API uint32_t mvs_why_fields(mvs_session *session, mvs_reason *reason);
 
+/* From now on the session records each request, so that mvs_effect returns its effects. That costs time: before each request it looks
+ * at the subpools of all tasks. It allocates memory once. MVS_STATUS_OK, also if it records already; MVS_STATUS_NO_MEMORY or
+ * MVS_STATUS_NO_SESSION, and then nothing changes. */
+MVS_API uint32_t mvs_record(mvs_session *session);
+
+/* Returns one of the effects of the last event, by its index from 0 on: what a granted request changed, of a line or by values, and
+ * which subpools a task's end freed. MVS_STATUS_OK; MVS_STATUS_NO_MORE if there is none, as after a refusal that ended no task, after a
+ * line that made no request, after mvs_write and mvs_end, and if the session does not record; MVS_STATUS_WRONG_SIZE or
+ * MVS_STATUS_NO_SESSION; and then *effect does not change. The session does not change. */
+MVS_API uint32_t mvs_effect(mvs_session *session, size_t index, mvs_effect_line *effect);
+
 /* Copies length bytes, at least one, from an address on. MVS_STATUS_OK; MVS_STATUS_NO_ACCESS or MVS_STATUS_NO_SESSION, and then the
  * buffer does not change. */
 MVS_API uint32_t mvs_read(mvs_session *session, uint32_t address, uint8_t *out, size_t length);
@@ -393,6 +453,14 @@ MVS_API uint32_t mvs_read(mvs_session *session, uint32_t address, uint8_t *out, 
 /* Writes length bytes, at least one, from an address on. MVS_STATUS_OK; MVS_STATUS_NO_ACCESS, MVS_STATUS_NO_SESSION or MVS_STATUS_OVER,
  * and then nothing changes. The text of the last line is lost. */
 MVS_API uint32_t mvs_write(mvs_session *session, uint32_t address, const uint8_t *bytes, size_t length);
+
+/* Returns where the bytes from an address on are in the memory of the session, and how many of them can be read without a break. They are
+ * borrowed: they stay there, as they are, until the next call for this session. (A call that only returns what the session has, as mvs_read
+ * and mvs_map, leaves them too: tests show that, not a proof.) Do not write them: mvs_write does. MVS_STATUS_OK; MVS_STATUS_NO_ACCESS if
+ * the byte at the address cannot be accessed, or MVS_STATUS_NO_SESSION, and then *lent does not change. The session does not change.
+ * Before the call, *lent is some bytes of yours, or none at a pointer that is not null; mvs_lend, which calls this function, has no such
+ * rule. The call looks at each doubleword a few times. */
+MVS_API uint32_t mvs_lend_bytes(mvs_session *session, uint32_t address, mvs_bytes *lent);
 
 /* Returns the name, padded with blanks, of one of the tasks that ended with the one that abended, by its index from 0 on. These are
  * those of the last request, of a line or by values; a line that makes no request changes nothing here. MVS_STATUS_OK;
@@ -434,6 +502,13 @@ MVS_API uint32_t mvs_next_pool(mvs_session *session, const uint8_t after[8], uin
  * session is needed. The buffer of mvs_statement may be null if room is 0; that of mvs_statement_into may not. */
 MVS_API uint32_t mvs_statement_into(const mvs_ask *ask, const uint8_t area[8], char *out, size_t room, size_t *wanted);
 
+/* Writes the statement that makes the same list request, of count areas, to the front of a buffer of room bytes, as mvs_statement_into
+ * does. The areas of an obtain get the name `base` with the letters A to P appended: it has at most 7 bytes. MVS_STATUS_OK;
+ * MVS_STATUS_TOO_SMALL; MVS_STATUS_NO_REQUEST if a field of *ask or an area is out of range or `base` is no such name,
+ * MVS_STATUS_TOO_LONG if the areas take about 200 bytes of the statement or more, and then *wanted does not change. The buffer of
+ * mvs_list_statement may be null if room is 0; that of mvs_list_statement_into may not. */
+MVS_API uint32_t mvs_list_statement_into(const mvs_ask *ask, const mvs_area *areas, size_t count, const uint8_t base[8], char *out, size_t room, size_t *wanted);
+
 /* Frees a session, if there is one; then there is none. The pointer of mvs_free may be null; that of mvs_free_session, the function of
  * the library that it calls, may not. */
 MVS_API void mvs_free_session(mvs_session *session);
@@ -454,6 +529,21 @@ static inline uint32_t mvs_why(mvs_session *session, char *out, size_t room, siz
     return mvs_why_into(session, out ? out : &none, out ? room : 0, wanted);
 }
 
+/* Returns where the bytes from an address on are, as mvs_lend_bytes does. If it does not return MVS_STATUS_OK, *bytes and *length do not change. */
+static inline uint32_t mvs_lend(mvs_session *session, uint32_t address, const uint8_t **bytes, size_t *length) {
+    uint8_t none = 0;
+    mvs_bytes lent;
+    uint32_t status;
+    lent.bytes = &none;
+    lent.length = 0;
+    status = mvs_lend_bytes(session, address, &lent);
+    if (status == MVS_STATUS_OK) {
+        *bytes = lent.bytes;
+        *length = lent.length;
+    }
+    return status;
+}
+
 /* Writes the statement of a request that was served, as mvs_statement_into does. An area or a cell gets a name of its address, as
  * A0006000. */
 static inline uint32_t mvs_statement(const mvs_ask *ask, const mvs_event *event, char *out, size_t room, size_t *wanted) {
@@ -462,6 +552,16 @@ static inline uint32_t mvs_statement(const mvs_ask *ask, const mvs_event *event,
     unsigned i;
     for (i = 1; i < 8; i++) area[i] = (uint8_t)"0123456789ABCDEF"[event->address >> 4 * (7 - i) & 15];
     return mvs_statement_into(ask, area, out ? out : &none, out ? room : 0, wanted);
+}
+
+/* Writes the statement of a list request that was served, as mvs_list_statement_into does. The areas get names of the place of the first
+ * one, which begin with L. */
+static inline uint32_t mvs_list_statement(const mvs_ask *ask, const mvs_area *areas, size_t count, char *out, size_t room, size_t *wanted) {
+    uint8_t base[8] = {'L'};
+    char none = 0;
+    unsigned i;
+    for (i = 1; i < 7; i++) base[i] = (uint8_t)"0123456789ABCDEF"[(count ? areas[0].address : 0) / 8 >> 4 * (6 - i) & 15];
+    return mvs_list_statement_into(ask, areas, count, base, out ? out : &none, out ? room : 0, wanted);
 }
 
 static inline uint32_t mvs_run(uint32_t place, const char *script, size_t length, char *out, size_t room, size_t *wanted) {
@@ -559,6 +659,25 @@ static inline const char *mvs_reason_name(uint32_t kind) {
     case MVS_REASON_ACTIVE_SUBTASK: return "ACTIVE_SUBTASK";
     case MVS_REASON_ASKED: return "ASKED";
     case MVS_REASON_NO_ACCESS: return "NO_ACCESS";
+    default: return "?";
+    }
+}
+
+/* Returns the name of the kind of an effect, as "NEW_SUBPOOL", or "?". */
+static inline const char *mvs_effect_name(uint32_t kind) {
+    switch (kind) {
+    case MVS_EFFECT_OBTAINED: return "OBTAINED";
+    case MVS_EFFECT_NO_GREATER: return "NO_GREATER";
+    case MVS_EFFECT_NEW_SUBPOOL: return "NEW_SUBPOOL";
+    case MVS_EFFECT_PAGES_ASSIGNED: return "PAGES_ASSIGNED";
+    case MVS_EFFECT_PAGES_FREED: return "PAGES_FREED";
+    case MVS_EFFECT_EMPTIED: return "EMPTIED";
+    case MVS_EFFECT_CELL: return "CELL";
+    case MVS_EFFECT_PART: return "PART";
+    case MVS_EFFECT_GIVEN: return "GIVEN";
+    case MVS_EFFECT_SHARED: return "SHARED";
+    case MVS_EFFECT_FREED: return "FREED";
+    case MVS_EFFECT_REMAINS: return "REMAINS";
     default: return "?";
     }
 }

@@ -71,6 +71,13 @@ public:
 
     ~Session() { mvs_free(&held); }
 
+    /* Returns a copy, which continues as this session would: mvs_clone. */
+    Session clone() {
+        mvs_session copy = MVS_SESSION_INIT;
+        if (mvs_clone(&held, &copy) == MVS_STATUS_NO_MEMORY) throw std::bad_alloc();
+        return Session(copy);
+    }
+
     /* Executes a statement. One with a fault changes nothing: mvs_try. */
     Reply line(std::string_view text) {
         return reply([&](mvs_event *event) { return mvs_try(&held, text.empty() ? "" : text.data(), text.size(), event); });
@@ -129,11 +136,32 @@ public:
         return found;
     }
 
+    /* Records each request from now on, so that effects returns what it changed: mvs_record. */
+    void record() {
+        if (mvs_record(&held) == MVS_STATUS_NO_MEMORY) throw std::bad_alloc();
+    }
+
+    /* Returns what the last request changed, and what the end of its task freed; nothing if the session does not record. */
+    std::vector<mvs_effect_line> effects() {
+        std::vector<mvs_effect_line> found;
+        mvs_effect_line effect = MVS_EFFECT_LINE_INIT;
+        while (mvs_effect(&held, found.size(), &effect) == MVS_STATUS_OK) found.push_back(effect);
+        return found;
+    }
+
     /* Returns bytes from an address on, or nothing if one of them cannot be accessed. */
     std::optional<std::vector<uint8_t>> read(uint32_t address, size_t length) {
         std::vector<uint8_t> out(length ? length : 1);
         if (mvs_read(&held, address, out.data(), length) != MVS_STATUS_OK) return std::nullopt;
         return out;
+    }
+
+    /* Returns where the bytes from an address on are in the memory of the session, and how many can be read from there without a break; a
+     * null pointer and 0 if the first one cannot be accessed. They stay there until the next call for this session: mvs_lend. */
+    mvs_bytes lend(uint32_t address) {
+        mvs_bytes lent{nullptr, 0};
+        mvs_lend(&held, address, &lent.bytes, &lent.length);
+        return lent;
     }
 
     /* Writes bytes from an address on; false if one of them cannot be accessed. */
@@ -206,6 +234,8 @@ public:
     mvs_session *get() { return &held; }
 
 private:
+    explicit Session(mvs_session owned) : held(owned) {}
+
     template <typename Call> Reply reply(Call call) {
         mvs_event event = MVS_EVENT_INIT;
         auto status = static_cast<mvs_status>(call(&event));

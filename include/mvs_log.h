@@ -1,7 +1,8 @@
 /* mvs_log.h: requests by values as statements, so that the log of an emulator is a script: mvsjob explains, draws and judges it.
  *
- * Of one area the library writes the statement: mvs_statement. What this header adds, which is not proved, is the statement of a list.
- * Tests compare the replies to such statements with those to the requests.
+ * The library writes the statement: mvs_statement, and mvs_list_statement of a list. What this header adds, which is not proved, is a
+ * shorter statement of a list for which the library has no room: its addresses have no leading zeros, and what is as without an operand
+ * is left out. Tests compare the replies to such statements with those to the requests.
  *
  *     mvs_request(&session, &ask, &event);
  *     if (mvs_log(&ask, NULL, 0, &event, line, sizeof line)) fprintf(log, "%s\n", line);
@@ -53,8 +54,9 @@ static inline void mvs_log_name(mvs_log_text *text, const uint8_t name[8]) {
     mvs_log_put(text, "%.*s", length, (const char *)name);
 }
 
-/* GETMAIN and FREEMAIN LC and LU. The areas are those after the request. Where they were not granted, each gets another name. */
-static inline void mvs_log_list(mvs_log_text *text, const mvs_ask *ask, const mvs_area *areas, size_t count, const mvs_event *event) {
+/* GETMAIN and FREEMAIN LC and LU, in fewer bytes. The areas are those after the request. Where they were not granted, each gets another
+ * name. */
+static inline void mvs_log_long_list(mvs_log_text *text, const mvs_ask *ask, const mvs_area *areas, size_t count, const mvs_event *event) {
     bool obtains = ask->kind == MVS_ASK_OBTAIN;
     size_t i;
     mvs_log_name(text, ask->task);
@@ -80,7 +82,12 @@ static inline size_t mvs_log(const mvs_ask *ask, const mvs_area *areas, size_t c
         out[text.used] = 0;
         return text.used;
     }
-    mvs_log_list(&text, ask, areas, count, event);
+    if (mvs_list_statement(ask, areas, count, out, text.room - 1, &text.used) == MVS_STATUS_OK) {
+        out[text.used] = 0;
+        return text.used;
+    }
+    text.used = 0;
+    mvs_log_long_list(&text, ask, areas, count, event);
     return text.is_full ? 0 : text.used;
 }
 

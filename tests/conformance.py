@@ -1,9 +1,9 @@
 """The judge, on what the plain machine prints with places and cells of its own.
 
 What it prints for a script of conformance/scripts or a random one, with a WHERE after each request for areas or a cell, is accepted with each of
-its placements, and never refused; so is what it prints for a random script of cell pools, where it takes the cells of each part upwards
-or its parts are where the judge would put them; what a wrong variant prints is refused, on some script; and where a byte
-is changed outside of an address, it is refused, or not decided where that is possible: at a list, or after a line whose places no answer shows.
+its placements, and never refused; so is what it prints for a random script of cell pools, wherever its parts are and in whatever order it takes
+their cells; of random scripts with all forms, at random places, most are accepted and none is refused; what a wrong variant prints is refused, on
+some script; and where a byte is changed outside of an address, it is refused, or not decided where that is possible: at a list, or after a line whose places no answer shows.
 What no run prints wherever places are is refused after a CPOOL BUILD too: another end of the step, an answer that is missing or doubled, and one
 that its line cannot have.
 A random script has the same bytes for ever.
@@ -20,7 +20,7 @@ from pathlib import Path
 
 import plain_emulator
 import pool_scripts
-from cases import each, seeds
+from cases import each, seeds, whole
 
 HERE = Path(__file__).resolve().parent
 SCRIPTS = sorted((HERE.parent / "conformance/scripts").glob("*.job"))
@@ -32,6 +32,7 @@ ACCEPTED, REFUSED, UNDECIDED = ("ACCEPTED", 0), ("REFUSED", 1), ("UNDECIDED", 2)
 RANDOM = 400
 POOLS = 120
 CHANGED = 200
+ALL_FORMS = 800
 
 
 def asked(program, script):
@@ -100,17 +101,29 @@ def nonsense(printed):
 def of_cells(program, seed):
     """Whether the plain machine's printings of a random script of pools are accepted, with its placements and orders of cells.
 
-    A printing is accepted if its answers show where each part begins, or if its parts are where the judge puts them. None is refused.
-    What is changed in it to what no run prints is refused.
+    What is changed in one to what no run prints is refused.
     """
     script = asked(program, pool_scripts.pool_script(seed))
     for placement in PLACEMENTS:
         for order in ORDERS:
-            verdict = judged(program, script, plain_emulator.run(script, placement, None, seed, order))
-            if verdict != ACCEPTED and (verdict != UNDECIDED or placement == "low" or order == "first"):
+            if judged(program, script, plain_emulator.run(script, placement, None, seed, order)) != ACCEPTED:
                 return False
     printed = plain_emulator.run(script, "high", None, seed, "first")
     return all(judged(program, script, other) == REFUSED for other in nonsense(printed))
+
+
+def of_all_forms(program, seed):
+    """What the judge says of the plain machine's printing of a random script with all forms, at random places."""
+    words = ("--random", str(seed), "--lines", "60", "--profile", "all")
+    script = asked(program, subprocess.run([program, *words], capture_output=True, text=True).stdout)
+    return judged(program, script, plain_emulator.run(script, "random", None, seed, "random"))
+
+
+def most_are_accepted(program, count):
+    """Whether no such printing is refused, and how many are accepted: seven of eight or more."""
+    verdicts = [of_all_forms(program, seed) for seed in seeds(count)]
+    yield "of all forms: none is refused", all(verdict in (ACCEPTED, UNDECIDED) for verdict in verdicts)
+    yield "of all forms: most are accepted", verdicts.count(ACCEPTED) * 8 >= len(verdicts) * 7
 
 
 def changed(printed, dice):
@@ -176,6 +189,7 @@ def groups(program):
     name = lambda case: f"{case[0].stem}, {case[1]}"  # noqa: E731
     yield "judged corpus", each(partial(of_corpus, program), cases, name, chunksize=20)
     yield "judged random scripts", each(partial(of_seed, program), seeds(RANDOM), str, chunksize=10)
+    yield "judged scripts of all forms", whole(most_are_accepted, program, ALL_FORMS)
     yield "judged cells", each(partial(of_cells, program), seeds(POOLS), str, chunksize=5)
     yield "judged changes", each(partial(of_change, program), seeds(CHANGED), str, chunksize=10)
     yield "judged wrong variants", each(partial(of_wrong, program), sorted(plain_emulator.WRONG), str)

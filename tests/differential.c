@@ -37,7 +37,7 @@ static mvs_session by_values = MVS_SESSION_INIT, by_lines = MVS_SESSION_INIT, by
 static held areas[MOST_HELD];
 static size_t held_count, pools_built;
 static const char *last_pool;
-static unsigned long seed, served, refused, kinds[32];
+static unsigned long seed, served, refused, kinds[32], effects[16];
 static char lines_so_far[1 << 16];
 
 /* ---- random numbers */
@@ -314,6 +314,10 @@ static void compare_bytes(const request *r) {
     uint32_t address = area ? area->address : any_address(), length = 1 + below(256);
     if (mvs_read(&by_values, address, one, length) != mvs_read(&by_lines, address, other, length)) fail("access", r);
     if (memcmp(one, other, sizeof one) != 0) fail("bytes", r);
+    const uint8_t *first = NULL, *second = NULL;
+    size_t first_length = 0, second_length = 0;
+    if (mvs_lend(&by_values, address, &first, &first_length) != mvs_lend(&by_lines, address, &second, &second_length)) fail("lent access", r);
+    if (first_length != second_length || (first && memcmp(first, second, first_length) != 0)) fail("lent bytes", r);
 }
 
 static void compare_fallen(const request *r) {
@@ -380,6 +384,17 @@ static void compare_log(const request *r, const mvs_event *event) {
     if (mvs_execute(&by_log, where, &logged) != MVS_STATUS_OK || logged.address != event->address) fail(where, r);
 }
 
+/* The effects of the same request in both sessions. */
+static void compare_effects(const request *r) {
+    mvs_effect_line one = MVS_EFFECT_LINE_INIT, other = MVS_EFFECT_LINE_INIT;
+    for (size_t i = 0;; i++) {
+        uint32_t status = mvs_effect(&by_values, i, &one);
+        if (status != mvs_effect(&by_lines, i, &other) || memcmp(&one, &other, sizeof one) != 0) fail("effects", r);
+        if (status != MVS_STATUS_OK) return;
+        effects[one.kind & 15]++;
+    }
+}
+
 static void serve(request *r) {
     mvs_event event = MVS_EVENT_INIT, line = MVS_EVENT_INIT;
     mvs_area before[MOST_AREAS];
@@ -397,6 +412,7 @@ static void serve(request *r) {
     served++, kinds[event.kind]++;
     if (event.kind != kind_of_line(r, &line) || event.code != line.code || memcmp(event.task, line.task, 8) != 0) fail("event", r);
     if (line.kind == MVS_EVENT_GRANTED && event.length != line.length) fail("length", r);
+    compare_effects(r);
     compare_granted(r, before, &event);
     compare_log(r, &event);
     if (r->ask.kind == MVS_ASK_POOL_BUILD && event.kind == MVS_EVENT_RC_0) pools_built++, last_pool = pool_of(r);
@@ -434,6 +450,7 @@ static void sequence(void) {
     request r;
     uint32_t place = one_in(2) ? MVS_PLACE_LOW : MVS_PLACE_HIGH;
     if (mvs_new(&by_values, place) != MVS_STATUS_OK || mvs_new(&by_lines, place) != MVS_STATUS_OK || mvs_new(&by_log, place) != MVS_STATUS_OK) fail("memory", NULL);
+    if (mvs_record(&by_values) != MVS_STATUS_OK || mvs_record(&by_lines) != MVS_STATUS_OK) fail("memory", NULL);
     begin_step();
     for (int i = 0; i < REQUESTS; i++) {
         makers[below(sizeof makers / sizeof makers[0])](&r);
@@ -459,5 +476,7 @@ int main(int count, char **words) {
     printf("%lu sequences, %lu requests served, %lu refused\n", number, served, refused);
     for (uint32_t kind = 0; kind < 32; kind++)
         if (kinds[kind]) printf("%s %lu\n", mvs_event_name(kind), kinds[kind]);
+    for (uint32_t kind = 0; kind < 16; kind++)
+        if (effects[kind]) printf("effect %s %lu\n", mvs_effect_name(kind), effects[kind]);
     return 0;
 }

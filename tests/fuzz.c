@@ -223,6 +223,20 @@ static void bytes(player *p) {
     free(at);
 }
 
+/* mvs_lend returns as many bytes as can be read, and they are the same. */
+static void lent(player *p) {
+    const uint8_t *bytes = NULL;
+    size_t length = 0;
+    uint32_t address = number(), status = mvs_lend(&p->session, address, &bytes, &length);
+    MUST((status == MVS_STATUS_NO_SESSION) == !p->is_there);
+    MUST((status == MVS_STATUS_OK) == (bytes != NULL) && (status == MVS_STATUS_OK) == (length > 0));
+    if (status != MVS_STATUS_OK) return;
+    uint8_t *copy = block(length + 1, 3);
+    MUST(mvs_read(&p->session, address, copy, length) == MVS_STATUS_OK && memcmp(copy, bytes, length) == 0);
+    MUST(mvs_read(&p->session, address, copy, length + 1) == MVS_STATUS_NO_ACCESS);
+    free(copy);
+}
+
 static void reports(player *p) {
     mvs_subpool_line line = MVS_SUBPOOL_LINE_INIT;
     mvs_map_run run = MVS_MAP_RUN_INIT;
@@ -270,6 +284,30 @@ static void end(player *p) {
     p->is_there = false;
 }
 
+/* A copy prints what the original prints, and replaces it. */
+static void copies(player *p) {
+    mvs_session copy = MVS_SESSION_INIT;
+    char one[512], other[512];
+    size_t one_length = 0, other_length = 0;
+    uint32_t status = mvs_clone(&p->session, &copy);
+    MUST(status == (p->is_there ? MVS_STATUS_OK : MVS_STATUS_NO_SESSION) || status == MVS_STATUS_NO_MEMORY);
+    if (status != MVS_STATUS_OK) return;
+    MUST(mvs_text(&p->session, one, sizeof one, &one_length) == mvs_text(&copy, other, sizeof other, &other_length));
+    MUST(one_length == other_length && (one_length > sizeof one || memcmp(one, other, one_length) == 0));
+    mvs_free(&p->session);
+    p->session = copy;
+}
+
+/* The effects end, and each has a kind. */
+static void effects(player *p) {
+    mvs_effect_line effect = MVS_EFFECT_LINE_INIT;
+    uint32_t status = byte() < 40 ? mvs_record(&p->session) : (uint32_t)MVS_STATUS_OK;
+    size_t i;
+    MUST(status == MVS_STATUS_OK || (status == MVS_STATUS_NO_SESSION && !p->is_there));
+    for (i = 0; (status = mvs_effect(&p->session, i, &effect)) == MVS_STATUS_OK; i++) MUST(strcmp(mvs_effect_name(effect.kind), "?") != 0 && effect.rule != 0 && i < 5000);
+    MUST(status == (p->is_there ? MVS_STATUS_NO_MORE : MVS_STATUS_NO_SESSION));
+}
+
 static void run(player *p) {
     static const char script[] = "JOB REGION BELOW=1\nJOB GETMAIN R,LV=8,A=X\nJOB REPORT MAP\nJOB NO\n";
     size_t length = byte() % sizeof script, room = byte(), wanted = 5;
@@ -285,7 +323,7 @@ static void run(player *p) {
 }
 
 int LLVMFuzzerTestOneInput(const uint8_t *data, size_t size) {
-    static void (*const calls[])(player *) = {say, say, say, request, request, request, request, list, region, text, why, bytes, reports, end, run};
+    static void (*const calls[])(player *) = {say, say, say, request, request, request, request, list, region, text, why, bytes, lent, reports, end, run, copies, effects};
     player players[2] = {{MVS_SESSION_INIT, false}, {MVS_SESSION_INIT, false}};
     input = data, left = size;
     while (left) {

@@ -19,19 +19,10 @@ from views import PLAIN, PRINTING  # noqa: E402
 
 # How many times as much a line may cost in a dimension that is four times as large: at most a sixth of its cost may be in proportion to it.
 MOST = 1.5
-WITH_REASONS = ("--explain", "--json --explain", "--page")
 # The views in which a line costs more than that, and why.
 KNOWN = {
     # CPOOL GET and FREE look at the parts of the pool one by one, up to the one that has the cell.
     "parts": (PLAIN,),
-    # For the subpool of an area that is granted, the runs of pages are passed from the first one to that of the area.
-    "subpools": ("--json",),
-    # The end of a task looks at each subpool that has an owner, and counts its pages among all pages of both regions. What grows in
-    # `--json` is the cost of the obtain before the end, as above.
-    "subpools, at ends": (*WITH_REASONS, "--json"),
-    "pages, at ends": WITH_REASONS,
-    # A request that is refused for an address looks at all names of the step.
-    "names, at refusals": WITH_REASONS,
     # A shortage looks at all areas of the step, for those who have the storage.
     "areas, at shortages": ("--explain", "--json --explain"),
 }

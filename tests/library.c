@@ -681,6 +681,121 @@ static int tasks_and_pools(void) {
     return 0;
 }
 
+/* The event of a line, or none. */
+static uint32_t replied(mvs_session *to, const char *text) {
+    return mvs_line(to, text, strlen(text), &event) == MVS_STATUS_OK ? event.kind : 0xFFFFFFFFu;
+}
+
+/* Whether two sessions print the same. */
+static bool prints_alike(mvs_session *one, mvs_session *other) {
+    char first[512], second[512];
+    size_t length = 0, other_length = 1;
+    if (mvs_text(one, first, sizeof first, &length) != MVS_STATUS_OK || mvs_text(other, second, sizeof second, &other_length) != MVS_STATUS_OK) return false;
+    return length == other_length && memcmp(first, second, length) == 0;
+}
+
+/* A copy of a session that has none, has no line yet, and has names, bytes, tasks, pools and a refusal. */
+static int copies(void) {
+    mvs_session copy = MVS_SESSION_INIT;
+    uint8_t bytes[4] = {0}, name[8] = {0};
+    char why[512], other_why[512];
+    size_t length = 0, other_length = 1;
+    uint32_t area, cell, other;
+    if (mvs_clone(&session, &copy) != MVS_STATUS_NO_SESSION || copy.held) return 360;
+    if (mvs_new(&session, MVS_PLACE_HIGH) != MVS_STATUS_OK || mvs_clone(&session, &copy) != MVS_STATUS_OK) return 361;
+    if (answered("JOB REGION BELOW=4,ABOVE=2") != MVS_EVENT_STEP_BEGAN || replied(&copy, "JOB REGION BELOW=1") != MVS_EVENT_STEP_BEGAN) return 362;
+    if (replied(&copy, "JOB GETMAIN R,LV=8,A=Z") != MVS_EVENT_RC_0 || replied(&copy, "JOB WHERE Z") != MVS_EVENT_AT || event.address != 0x6FF8) return 363;
+    if (answered("JOB GETMAIN RC,LV=16,SP=2,A=X") != MVS_EVENT_RC_0 || answered("JOB WHERE X") != MVS_EVENT_AT) return 364;
+    area = event.address;
+    if (answered("JOB PUT X,X'C1C2C3C4'") != MVS_EVENT_DONE) return 365;
+    if (answered("JOB CPOOL BUILD,CPID=P,CSIZE=16,PCELLCT=2") != MVS_EVENT_RC_0 || answered("JOB CPOOL GET,CPID=P,CELL=C") != MVS_EVENT_CELL) return 366;
+    if (answered("JOB WHERE C") != MVS_EVENT_AT) return 367;
+    cell = event.address;
+    if (answered("JOB ATTACH TASK=A") != MVS_EVENT_ATTACHED || answered("A ATTACH TASK=B") != MVS_EVENT_ATTACHED) return 368;
+    if (answered("JOB ATTACH TASK=D") != MVS_EVENT_ATTACHED || answered("A ABEND 7") != MVS_EVENT_ABENDED) return 369;
+    if (mvs_clone(&session, &copy) != MVS_STATUS_OK || !prints_alike(&session, &copy)) return 370;
+    if (mvs_fallen(&copy, 0, name) != MVS_STATUS_OK || !is_named(name, "B") || mvs_fallen(&copy, 1, name) != MVS_STATUS_NO_MORE) return 371;
+    if (mvs_why(&session, why, sizeof why, &length) != MVS_STATUS_OK || mvs_why(&copy, other_why, sizeof other_why, &other_length) != MVS_STATUS_OK) return 372;
+    if (length == 0 || length != other_length || memcmp(why, other_why, length) != 0) return 373;
+    if (replied(&copy, "JOB WHERE X") != MVS_EVENT_AT || event.address != area || replied(&copy, "JOB WHERE C") != MVS_EVENT_AT || event.address != cell) return 374;
+    if (mvs_read(&copy, area, bytes, 4) != MVS_STATUS_OK || memcmp(bytes, "\xC1\xC2\xC3\xC4", 4) != 0) return 375;
+    if (answered("JOB GETMAIN RC,LV=24,SP=9,A=Y") != MVS_EVENT_RC_0 || replied(&copy, "JOB GETMAIN RC,LV=24,SP=9,A=Y") != MVS_EVENT_RC_0) return 376;
+    if (answered("JOB WHERE Y") != MVS_EVENT_AT) return 377;
+    other = event.address;
+    if (replied(&copy, "JOB WHERE Y") != MVS_EVENT_AT || event.address != other) return 378;
+    if (replied(&copy, "JOB PUT X,X'00000000'") != MVS_EVENT_DONE || mvs_read(&session, area, bytes, 4) != MVS_STATUS_OK || bytes[0] != 0xC1) return 379;
+    if (answered("JOB FREEMAIN RC,LV=16,SP=2,A=X") != MVS_EVENT_RC_0 || mvs_read(&session, area, bytes, 4) != MVS_STATUS_NO_ACCESS) return 380;
+    if (mvs_read(&copy, area, bytes, 4) != MVS_STATUS_OK || bytes[0] != 0) return 381;
+    if (answered("D RETURN") != MVS_EVENT_ENDED || answered("D RETURN") != MVS_EVENT_NOT_RUN || replied(&copy, "D RETURN") != MVS_EVENT_ENDED) return 382;
+    if (replied(&copy, "JOB CPOOL GET,C,CPID=P,CELL=E") != MVS_EVENT_CELL || answered("JOB CPOOL GET,C,CPID=P,CELL=E") != MVS_EVENT_CELL) return 383;
+    if (replied(&copy, "JOB WHERE E") != MVS_EVENT_AT || event.address == cell) return 384;
+    cell = event.address;
+    if (answered("JOB WHERE E") != MVS_EVENT_AT || event.address != cell) return 385;
+    mvs_free(&session);
+    if (replied(&copy, "JOB WHERE Y") != MVS_EVENT_AT || event.address != other || mvs_end(&copy, &event) != MVS_STATUS_SOME_ABEND) return 386;
+    if (mvs_clone(&copy, &session) != MVS_STATUS_OK || mvs_end(&session, &event) != MVS_STATUS_OVER) return 387;
+    mvs_free(&copy);
+    mvs_free(&session);
+    return 0;
+}
+
+/* The bytes that mvs_lend returns are those, and as many, as can be read. */
+static bool is_lent(uint32_t address, size_t wanted) {
+    const uint8_t *bytes = NULL;
+    uint8_t read[8192];
+    size_t length = 0;
+    if (mvs_lend(&session, address, &bytes, &length) != MVS_STATUS_OK || length != wanted) return false;
+    if (mvs_read(&session, address, read, length) != MVS_STATUS_OK || memcmp(bytes, read, length) != 0) return false;
+    return mvs_read(&session, address, read, length + 1) == MVS_STATUS_NO_ACCESS;
+}
+
+/* A call that returns none leaves what it is passed. */
+static bool lends_nothing(uint32_t address, uint32_t status) {
+    uint8_t own[2] = {1, 2};
+    const uint8_t *bytes = own;
+    size_t length = 2;
+    mvs_bytes lent = {own, 2};
+    if (mvs_lend(&session, address, &bytes, &length) != status || bytes != own || length != 2) return false;
+    return mvs_lend_bytes(&session, address, &lent) == status && lent.bytes == own && lent.length == 2;
+}
+
+static int lent(void) {
+    const uint8_t *bytes = NULL;
+    size_t length = 0;
+    uint8_t written[3] = {1, 2, 3};
+    uint32_t cell;
+    mvs_map_run run = MVS_MAP_RUN_INIT;
+    mvs_held_run held = MVS_HELD_RUN_INIT;
+    mvs_reason reason = MVS_REASON_INIT;
+    mvs_task_line task = MVS_TASK_LINE_INIT;
+    if (!lends_nothing(0x6000, MVS_STATUS_NO_SESSION)) return 520;
+    if (mvs_new(&session, MVS_PLACE_LOW) != MVS_STATUS_OK || !lends_nothing(0x6000, MVS_STATUS_NO_ACCESS)) return 521;
+    if (answered("JOB REGION BELOW=4,ABOVE=1,FILL=C1") != MVS_EVENT_STEP_BEGAN || !lends_nothing(0x6000, MVS_STATUS_NO_ACCESS)) return 522;
+    if (answered("JOB GETMAIN RC,LV=100,SP=2,A=X") != MVS_EVENT_RC_0 || !is_lent(0x6000, 104) || !is_lent(0x6007, 97) || !is_lent(0x6067, 1)) return 523;
+    if (!lends_nothing(0x6068, MVS_STATUS_NO_ACCESS) || !lends_nothing(0x7FFFFFFF, MVS_STATUS_NO_ACCESS) || !lends_nothing(0xFFFFFFFFu, MVS_STATUS_NO_ACCESS)) return 524;
+    if (answered("JOB GETMAIN RC,LV=4096,SP=3,A=Y") != MVS_EVENT_RC_0 || !is_lent(0x7000, 4096) || !is_lent(0x6000, 104)) return 525;
+    if (answered("JOB GETMAIN RC,LV=3992,SP=2,A=Z") != MVS_EVENT_RC_0 || !is_lent(0x6000, 8192) || !is_lent(0x6800, 6144) || !is_lent(0x7FFF, 1)) return 526;
+    if (answered("JOB CPOOL BUILD,CPID=P,CSIZE=24,PCELLCT=3,SP=4") != MVS_EVENT_RC_0 || !is_lent(0x6000, 8192) || !lends_nothing(0x8000, MVS_STATUS_NO_ACCESS)) return 527;
+    if (answered("JOB CPOOL GET,CPID=P,CELL=C") != MVS_EVENT_CELL || answered("JOB WHERE C") != MVS_EVENT_AT) return 528;
+    cell = event.address;
+    if (!is_lent(cell, 24) || !is_lent(cell + 3, 21) || !lends_nothing(cell + 24, MVS_STATUS_NO_ACCESS)) return 538;
+    if (answered("JOB CPOOL GET,CPID=P,CELL=D") != MVS_EVENT_CELL || answered("JOB CPOOL GET,CPID=P,CELL=E") != MVS_EVENT_CELL) return 539;
+    if (!is_lent(cell, 72) || !is_lent(cell + 3, 69) || !is_lent(0x7FF8, 8)) return 540;
+    if (mvs_write(&session, 0x6003, written, 3) != MVS_STATUS_OK || mvs_lend(&session, 0x6002, &bytes, &length) != MVS_STATUS_OK) return 529;
+    if (memcmp(bytes, "\xC1\1\2\3\xC1", 5) != 0) return 530;
+    if (mvs_map(&session, 0, &run) != MVS_STATUS_OK || mvs_held(&session, 0, &held) != MVS_STATUS_OK || mvs_why_fields(&session, &reason) != MVS_STATUS_NO_MORE) return 536;
+    if (mvs_next_task(&session, named(""), &task) != MVS_STATUS_OK || memcmp(bytes, "\xC1\1\2\3\xC1", 5) != 0) return 537;
+    if (answered("JOB FREEMAIN RC,LV=8,SP=2,A=X+16") != MVS_EVENT_RC_0 || !is_lent(0x6000, 16) || !lends_nothing(0x6010, MVS_STATUS_NO_ACCESS)) return 531;
+    if (answered("JOB REGION BELOW=2048,ABOVE=8192") != MVS_EVENT_STEP_BEGAN || answered("JOB GETMAIN RC,LV=33550336,LOC=ANY,A=X") != MVS_EVENT_RC_0) return 532;
+    if (mvs_lend(&session, 0x1000000, &bytes, &length) != MVS_STATUS_OK || length != 33550336 || bytes[length - 1] != 0) return 533;
+    if (mvs_lend(&session, 0x2FFEFFE, &bytes, &length) != MVS_STATUS_OK || length != 2) return 534;
+    if (mvs_end(&session, &event) != MVS_STATUS_OK || mvs_lend(&session, 0x1000000, &bytes, &length) != MVS_STATUS_OK || length != 33550336) return 535;
+    mvs_free(&session);
+    return 0;
+}
+
+#include "recording.h"
+
 int main(void) {
     int failed = without_session();
     if (!failed) failed = events();
@@ -698,6 +813,10 @@ int main(void) {
     if (!failed) failed = reason_fields();
     if (!failed) failed = reasons_of_names();
     if (!failed) failed = tasks_and_pools();
+    if (!failed) failed = copies();
+    if (!failed) failed = lent();
+    if (!failed) failed = effects();
+    if (!failed) failed = list_statements();
     if (!failed) failed = statements();
     if (failed) fprintf(stderr, "library.c: check %d failed\n", failed);
     return failed != 0;

@@ -40,6 +40,7 @@ SUB has 7: 104 bytes
 2 tasks, 0 pools
 abend: OK, ABENDED 00000000 0
 SUB ended too
+0 tasks, in the copy 2
 """
 
 
@@ -92,6 +93,31 @@ def by_compiler(name, words, archive, folder):
     handler = compiled(words, TOP / "examples/c/handler.c", archive, folder / f"{name} handler")
     ran = subprocess.run([handler], capture_output=True, text=True, timeout=600)
     yield f"{name}, handler", (ran.returncode, ran.stdout, ran.stderr) == (0, HANDLED, "")
+
+
+# A line of an explanation that describes an effect.
+EFFECT = re.compile(
+    r"\* (?:(\S+) is (?:\d+ bytes at|a cell of pool)|No greater length fits|SP \d+ of \S+ (?:is new|is now empty|is freed|remains)|(?:No|\d+) pages? (?:was|were|became)"
+    r"|Pool \S+ has a new part|\S+ (?:now owns|shares) SP \d+)")
+
+
+def effects_explained(path):
+    """The lines of an example's explanation that describe effects, without the names of areas and cells."""
+    for line in path.with_suffix(".why").read_text().splitlines(keepends=True):
+        found = EFFECT.match(line)
+        if found and "obtained in line" not in line:
+            yield line.replace(found[1], "?", 1) if found[1] else line
+
+
+def has_effects(archive, folder):
+    """Whether the effects of the lines of each example are those that its explanation describes."""
+    if not shutil.which("gcc"):
+        yield from lacking("gcc", [f"effects, {path.name}" for path in EXAMPLES])
+        return
+    program = compiled(["gcc", "-std=c99", *SANITIZED], TOP / "tests/effects.c", archive, folder / "effects")
+    for path in EXAMPLES:
+        ran = subprocess.run([program], stdin=path.open(), capture_output=True, text=True, timeout=600)
+        yield f"effects, {path.name}", (ran.returncode, ran.stdout, ran.stderr) == (0, "".join(effects_explained(path)), "")
 
 
 def by_valgrind(program):
@@ -227,6 +253,7 @@ def results():
             found += by_compiler(compiler, words, archive, folder)
         found += in_cplusplus(archive, folder)
         found.append(("valgrind", by_valgrind(folder / "gcc library")))
+        found += has_effects(archive, folder)
         found.append(("values and lines", agrees(archive, folder)))
         found.append(("random calls", keeps_promises(archive, folder)))
         found.append(("hidden in a plugin", is_hidden(archive, folder)))

@@ -53,6 +53,8 @@ static int serving(void) {
     ask.size = sizeof ask, ask.kind = MVS_ASK_OBTAIN, ask.form = MVS_FORM_R;
     granted = 1000;
     if (mvs_new(&session, MVS_PLACE_LOW) != MVS_STATUS_OK || line("JOB REGION BELOW=4,ABOVE=4") != MVS_STATUS_OK) return 10;
+    granted = 1;
+    if (mvs_record(&session) != MVS_STATUS_OK) return 18;
     granted = 0;
     ask.length = 16;
     if (mvs_request(&session, &ask, &event) != MVS_STATUS_OK || event.kind != MVS_EVENT_GRANTED) return 11;
@@ -63,6 +65,34 @@ static int serving(void) {
     if (line("JOB REPORT SP") != MVS_STATUS_OK) return 15;
     if (mvs_text(&session, out, 64, &wanted) != MVS_STATUS_NO_MEMORY || wanted != 7 || out[0] != 7) return 16;
     if (mvs_new(&session, MVS_PLACE_HIGH) != MVS_STATUS_NO_MEMORY || mvs_end(&session, &event) != MVS_STATUS_OK) return 17;
+    return 0;
+}
+
+/* A copy that is refused leaves both sessions, whichever call is refused. */
+static int copying(void) {
+    mvs_session copy = MVS_SESSION_INIT;
+    uint32_t status, first;
+    long calls;
+    granted = 1000;
+    if (mvs_new(&session, MVS_PLACE_LOW) != MVS_STATUS_OK || line("JOB REGION BELOW=4,ABOVE=4") != MVS_STATUS_OK) return 30;
+    if (line("JOB GETMAIN R,LV=16,A=X") != MVS_STATUS_OK || mvs_new(&copy, MVS_PLACE_LOW) != MVS_STATUS_OK) return 31;
+    for (calls = 0; calls < 40; calls++) {
+        granted = calls;
+        status = mvs_clone(&session, &copy);
+        if (status == MVS_STATUS_OK) break;
+        if (status != MVS_STATUS_NO_MEMORY || mvs_line(&copy, "JOB WHERE X", 11, &event) != MVS_STATUS_SCRIPT_FAULT) return 32;
+        granted = 1;
+        if (mvs_new(&copy, MVS_PLACE_LOW) != MVS_STATUS_OK) return 33;
+    }
+    if (calls == 0 || calls == 40) return 34;
+    if (mvs_record(&session) != MVS_STATUS_NO_MEMORY) return 37;
+    granted = 1;
+    if (mvs_record(&session) != MVS_STATUS_OK || mvs_record(&session) != MVS_STATUS_OK) return 38;
+    granted = 0;
+    if (line("JOB WHERE X") != MVS_STATUS_OK || event.kind != MVS_EVENT_AT) return 35;
+    first = event.address;
+    if (mvs_line(&copy, "JOB WHERE X", 11, &event) != MVS_STATUS_OK || event.address != first) return 36;
+    mvs_free(&copy);
     return 0;
 }
 
@@ -89,6 +119,8 @@ int main(void) {
         mvs_free(&session);
     }
     if (!failed) failed = serving();
+    mvs_free(&session);
+    if (!failed) failed = copying();
     mvs_free(&session);
     return failed ? failed : whole();
 }

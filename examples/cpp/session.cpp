@@ -25,8 +25,10 @@ int main() {
     mvs::Session moved = std::move(session);
     for (const mvs_subpool_line &line : moved.subpools("SUB")) std::printf("SUB has %u: %u bytes\n", unsigned(line.number), unsigned(line.plain));
     std::printf("%zu tasks, %zu pools\n", moved.tasks().size(), moved.pools().size());
+    mvs::Session copy = moved.clone();
     mvs_ask abend = mvs::ask(MVS_ASK_ABEND, "JOB");
     print("abend", moved.request(abend));
     for (const std::string &name : moved.fallen()) std::printf("%s ended too\n", name.c_str());
+    std::printf("%zu tasks, in the copy %zu\n", moved.tasks().size(), copy.tasks().size());
     return session.line("JOB RETURN").status == MVS_STATUS_NO_SESSION ? 0 : 1;
 }

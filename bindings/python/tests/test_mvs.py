@@ -46,6 +46,21 @@ class SessionTest(unittest.TestCase):
         with self.assertRaises(mvs.ScriptError):
             self.session.line("JOB \u20ac")
 
+    def test_clone(self):
+        self.begin()
+        address = self.session.obtain("JOB", 8).address
+        self.session.write(address, b"abc")
+        copy = self.session.clone()
+        self.addCleanup(copy.close)
+        self.assertEqual((copy.read(address, 3), copy.script), (b"abc", self.session.script))
+        copy.write(address, b"xyz")
+        self.assertEqual((self.session.read(address, 3), copy.read(address, 3)), (b"abc", b"xyz"))
+        self.session.close()
+        self.assertEqual(copy.obtain("JOB", 8).address, address + 8)
+        with self.assertRaises(mvs.Error) as no_session:
+            self.session.clone()
+        self.assertEqual(no_session.exception.status, mvs.Status.NO_SESSION)
+
     def test_why(self):
         self.begin()
         self.assertEqual(self.session.why(), "")
@@ -67,6 +82,27 @@ class SessionTest(unittest.TestCase):
         self.session.line("JOB GETMAIN RC,LV=32768,A=X,SP=3")
         room = {"longest": 12288, "pages_below": 3, "pages_above": 2}
         self.assertEqual(self.session.reason(), mvs.Reason(mvs.ReasonKind.SHORTAGE, 12, number=3, length=32768, **room))
+
+    def test_effects(self):
+        kind = mvs.EffectKind
+        self.begin()
+        self.session.obtain("JOB", 8)
+        self.assertEqual(self.session.effects(), [])
+        self.session.record()
+        self.assertEqual(self.session.effects(), [])
+        area = self.session.obtain("JOB", 20, subpool=3)
+        wanted = [
+            mvs.Effect(kind.OBTAINED, 3, address=area.address, length=24, least=20, most=20, number=3, owner="JOB"),
+            mvs.Effect(kind.NEW_SUBPOOL, 42, number=3, owner="JOB"),
+            mvs.Effect(kind.PAGES_ASSIGNED, 5, pages=1),
+        ]
+        self.assertEqual(self.session.effects(), wanted)
+        copy = self.session.clone()
+        self.addCleanup(copy.close)
+        self.session.write(area.address, b"x")
+        self.assertEqual((self.session.effects(), copy.effects()), ([], wanted))
+        self.session.line("JOB RETURN")
+        self.assertEqual([(found.kind, found.number, found.length) for found in self.session.effects()], [(kind.FREED, 0, 8), (kind.FREED, 3, 24)])
 
     def test_system_abend(self):
         self.begin()
@@ -105,6 +141,10 @@ class SessionTest(unittest.TestCase):
         self.assertEqual(self.session.read(area.address, 4), b"abc\0")
         self.session.move("JOB", area.address + 8, area.address, 3)
         self.assertEqual(self.session.read(area.address + 8, 3), b"abc")
+        self.assertEqual(self.session.readable(area.address + 6), b"\0\0abc" + bytes(93))
+        for call in (lambda: self.session.readable(area.address + 104), lambda: self.session.readable(-1)):
+            with self.assertRaises(mvs.StorageError):
+                call()
         for call in (lambda: self.session.read(area.address + 100, 8), lambda: self.session.write(0, b"x"), lambda: self.session.read(-1, 4)):
             with self.assertRaises(mvs.StorageError):
                 call()

@@ -10,7 +10,6 @@ pub mod Dating
 pub mod Recording
 pub mod Elsewhere
 pub mod PlainPlaces
-pub mod SameLeaks
 pub mod Indexing
 pub mod Releasing
 pub mod Visibly

@@ -11,7 +11,7 @@ use Rattle.mvs_model.specs.Runs.{IsPrinting}
 use Rattle.mvs_model.specs.Texts.{printing, text_of}
 use Rattle.std.proofs.Math.Seq.{take-length, drop-length}
 use Rattle.std.specs.Prelude.{Result}
-use Rattle.job_script.specs.Writing.{Prints}
+use Rattle.line_text.specs.Writing.{Prints}
 use Rattle.mvs_model.specs.Watched.{WatchedValue}
 use Rattle.std.proofs.lemmas.List.{length-drop}
 use Rattle.mvs_job.specs.Consuming.{Piece, WritesText}

@@ -56,21 +56,6 @@ kept_all n list more none h = sym (take_short n list h) ∙ ap (take n) (sym (ap
 pub push_then : {A : Type 0} (n : ℕ) (old mid new : List A) (x : A) (rest leaks : List A) → mid ≡ take n (old ++ x ∷ []) → new ≡ take n (mid ++ rest) → leaks ≡ x ∷ rest → new ≡ take n (old ++ leaks)
 push_then n old mid new x rest leaks one more is = push_both n old mid new (x ∷ []) rest leaks one more is
 
-by_order : (x y : Leak) (ys : List Leak) (b : Bool) → nat_le y.bytes x.bytes ≡ b → ahead x (y ∷ ys) ≡ (if b then x ∷ y ∷ ys else y ∷ ahead x ys)
-by_order x y ys b e = ap (λ b. if b then x ∷ y ∷ ys else y ∷ ahead x ys) e
-
-is_le : (a b : ℕ) → a ≤ b → nat_le a b ≡ true
-is_le a b h = grind (arith, common_steps)
-
-not_le : (a b : ℕ) → b < a → nat_le a b ≡ false
-not_le a b h = grind (arith, common_steps)
-
-pub ahead_here : (x y : Leak) (ys leaks : List Leak) → leaks ≡ y ∷ ys → y.bytes ≤ x.bytes → x ∷ leaks ≡ ahead x leaks
-ahead_here x y ys leaks is h = ap (λ l. x ∷ l) is ∙ sym (by_order x y ys true (is_le y.bytes x.bytes h)) ∙ ap (ahead x) (sym is)
-
-pub ahead_later : (x y : Leak) (ys leaks : List Leak) → leaks ≡ y ∷ ys → x.bytes < y.bytes → ahead x leaks ≡ y ∷ ahead x ys
-ahead_later x y ys leaks is h = ap (ahead x) is ∙ by_order x y ys false (not_le y.bytes x.bytes h)
-
 pub full_is : (b : Bool) (n m : ℕ) → IsTrue b ↔ (n ≡ m) → b ≡ true → n ≡ m
 full_is b n m e h = e.0 h
 
@@ -79,15 +64,6 @@ pub ranked_first : (x : Leak) (old others : List Leak) → old ≡ take 10 (rank
 ranked_first x old others is = ap (λ t. take 10 (ahead x t)) is ∙ ahead_first 10 x (ranked others)
 
 -- ---- totals
-
-grown_as : (b : Bool) (group : Group) (bytes : ℕ) (t : Total) (totals : List Total) → same_group group t.group ≡ b → added group bytes (t ∷ totals) ≡ (if b then grown t bytes ∷ totals else t ∷ added group bytes totals)
-grown_as b group bytes t totals e = ap (λ b. if b then grown t bytes ∷ totals else t ∷ added group bytes totals) e
-
-pub added_here : (group : Group) (bytes : ℕ) (t : Total) (totals all : List Total) → all ≡ t ∷ totals → same_group group t.group ≡ true → added group bytes all ≡ grown t bytes ∷ totals
-added_here group bytes t totals all is e = ap (added group bytes) is ∙ grown_as true group bytes t totals e
-
-pub added_later : (group : Group) (bytes : ℕ) (t : Total) (totals all : List Total) → all ≡ t ∷ totals → same_group group t.group ≡ false → added group bytes all ≡ t ∷ added group bytes totals
-added_later group bytes t totals all is e = ap (added group bytes) is ∙ grown_as false group bytes t totals e
 
 added_by : (n : ℕ) (group : Group) (bytes : ℕ) (t : Total) (ts : List Total) (b : Bool) → take n (added group bytes (take n ts)) ≡ take n (added group bytes ts) → take (suc n) (if b then grown t bytes ∷ take n ts else t ∷ added group bytes (take n ts)) ≡ take (suc n) (if b then grown t bytes ∷ ts else t ∷ added group bytes ts)
 added_by n group bytes t ts true same = ap (λ x. grown t bytes ∷ x) (take_less n n ts (omega arith))

@@ -34,7 +34,7 @@ use Rattle.mvs_job.proofs.Hearing.{line_part, line_stays}
 use Rattle.area_history.specs.declared.chronicle.Chronicle.{Chronicle}
 use Rattle.area_history.specs.declared.historian.Historian.{Historian}
 use Rattle.area_history.specs.Chronicles.{HearsHistory, IsHistory, IsKept, SeesLine, history_of}
-use Rattle.job_script.proofs.Appending.{front_longer}
+use Rattle.line_text.proofs.Appending.{front_longer}
 use Rattle.mvs_job.specs.declared.printing.Stop.{Stop}
 use Rattle.mvs_job.specs.declared.printing.Stop.TheVariants as stop
 use Rattle.area_history.specs.declared.findings.Findings.{Findings}

@@ -6,6 +6,7 @@ use Rattle.std.proofs.lemmas.Option.{slice_get-get_or, slice_get_within}
 use Rattle.mvs_model.proofs.Tests.{none_some}
 use Rattle.mvs_model.specs.declared.gifts.Gifts.{Gifts}
 use Rattle.mvs_model.specs.declared.name.Name.{Name}
+use Rattle.mvs_model.specs.Place.{PlaceValue}
 use Rattle.area_history.specs.declared.events.StorageChange.{StorageChange}
 use Rattle.area_history.specs.declared.events.StorageChange.TheVariants as change
 use Rattle.area_history.specs.declared.events.StorageEvent.{StorageEvent}
@@ -14,7 +15,7 @@ use Rattle.area_history.specs.declared.release_index.LastReleases.{LastReleases}
 use Rattle.area_history.specs.declared.release_index.ReleaseIndex.{ReleaseIndex}
 use Rattle.area_history.specs.Histories.{fate, frees_area, frees_by, owner_by, owner_since}
 use Rattle.area_history.proofs.Marking.{is_next, next_here, next_other}
-use Rattle.area_history.specs.ReleaseIndex.{AreEarlier, AreLastReleases, AreOthers, IsAmong, IsAscending, IsFirstFrom, IsReleaseIndex, NoneOther, NoneReleases, is_other, later_releases, releases, releases_at}
+use Rattle.area_history.specs.ReleaseIndex.{AreEarlier, AreLastReleases, HaveCodes, IsAmong, IsAscending, IsReleaseIndex, NoneConcerns, NoneReleases, concerns, concerns_by, first_code, has_code, later_releases, releases, releases_at}
 
 -- ---- items of a list
 
@@ -70,58 +71,56 @@ module _ (events : List StorageEvent) (n : ℕ) (x : StorageEvent) (here : slice
       after_earlier = is.after_earlier;
     }
 
-  release_next : (from : ℕ) (numbers : List ℕ) → is_other x.change ≡ false → AreOthers from numbers n events → AreOthers from numbers (n + 1) events
-  release_next from [] no_other h = λ i y get least to. before_or_here events x y (λ v. is_other v.change ≡ false) i n here get to (λ l. h i y get least l) no_other
-  release_next from (k ∷ numbers) no_other h = (h.0, (let l = h.1 in omega (arith, l)), h.2, release_next (k + 1) numbers no_other h.3)
+  module _ (old new : ReleaseIndex) (at : old.count ≡ n) (is : IsReleaseIndex old events) (less : n < length events) (counted : new.count ≡ old.count + 1) (kept : (code : ℕ) → has_code old.owners code ≡ true → has_code new.owners code ≡ true) where
+    one_more : new.count ≡ n + 1
+    one_more = omega arith
 
-  other_next : (from : ℕ) (numbers : List ℕ) → from ≤ n → AreOthers from numbers n events → AreOthers from (numbers ++ n ∷ []) (n + 1) events
-  other_next from [] least h = (least, omega arith, h, λ i y get l to. absurd (omega (arith, l, to)))
-  other_next from (k ∷ numbers) least h = (h.0, (let l = h.1 in omega (arith, l)), h.2, other_next (k + 1) numbers (let l = h.1 in omega (arith, l)) h.3)
+    more_codes : ((owner : Name) (k : ℕ) → concerns owner k x ≡ true → (has_code new.owners (first_code owner k + n) ≡ true) ⊎ (has_code new.owners (first_code owner 255 + n) ≡ true)) → HaveCodes new.owners new.count events
+    more_codes added i e owner k get to con = by (nat_lt i n) refl where
+      keep : (has_code old.owners (first_code owner k + i) ≡ true) ⊎ (has_code old.owners (first_code owner 255 + i) ≡ true) → (has_code new.owners (first_code owner k + i) ≡ true) ⊎ (has_code new.owners (first_code owner 255 + i) ≡ true)
+      keep (inl h) = inl (kept _ h)
+      keep (inr h) = inr (kept _ h)
 
-  -- the release of a place is added
-  pub release_added : (old new : ReleaseIndex) → old.count ≡ n → IsReleaseIndex old events → n < length events → is_other x.change ≡ false → new.count ≡ old.count + 1 → new.others.items ≡ old.others.items
-      → ((d : ℕ) → releases_at new d ≡ later_releases (releases d x.change) (old.count + 1) (releases_at old d)) → IsReleaseIndex new events
-  release_added old new at is less no_other counted kept last = record {
-    count = omega (arith, counted, at, less);
-    releases = λ d. subst (λ k. AreLastReleases d k (releases_at new d) events) (sym is_next) (subst (λ l. AreLastReleases d (n + 1) l events) (sym (last d ∙ ap (λ k. later_releases (releases d x.change) (k + 1) (releases_at old d)) at)) (last_next d (releases_at old d) (subst (λ k. AreLastReleases d k (releases_at old d) events) at (is.releases d))));
-    others = subst (λ k. AreOthers 0 new.others.items k events) (sym is_next) (subst (λ l. AreOthers 0 l (n + 1) events) (sym kept) (release_next 0 old.others.items no_other (subst (λ k. AreOthers 0 old.others.items k events) at is.others)));
-  } where
-    is_next : new.count ≡ n + 1
-    is_next = omega (arith, counted, at)
+      by : (b : Bool) → nat_lt i n ≡ b → (has_code new.owners (first_code owner k + i) ≡ true) ⊎ (has_code new.owners (first_code owner 255 + i) ≡ true)
+      by true l = keep (is.codes i e owner k get (let l : i < n = grind (arith, common_steps) in omega (arith, at, l)) con)
+      by false l =
+          let s : n ≡ i = (let m : n ≤ i = grind (arith, common_steps) in omega (arith, m, to, one_more)) in
+          let same : x ≡ e = same_item events n x e here (subst (λ j. slice_get events j ≡ Some e) (sym s) get) in
+          subst (λ j. (has_code new.owners (first_code owner k + j) ≡ true) ⊎ (has_code new.owners (first_code owner 255 + j) ≡ true)) s (added owner k (ap (λ v. concerns owner k v) same ∙ con))
 
-  -- another change is added
-  pub other_added : (old new : ReleaseIndex) → old.count ≡ n → IsReleaseIndex old events → n < length events → is_other x.change ≡ true → new.count ≡ old.count + 1 → new.others.items ≡ old.others.items ++ old.count ∷ []
-      → ((d : ℕ) → releases_at new d ≡ releases_at old d) → IsReleaseIndex new events
-  other_added old new at is less other counted kept last = record {
-    count = omega (arith, counted, at, less);
-    releases = λ d. subst (λ k. AreLastReleases d k (releases_at new d) events) (sym is_next) (subst (λ l. AreLastReleases d (n + 1) l events) (sym (last d)) (subst (λ b. AreLastReleases d (n + 1) (later_releases b (n + 1) (releases_at old d)) events) (none_released d x.change other) (last_next d (releases_at old d) (subst (λ k. AreLastReleases d k (releases_at old d) events) at (is.releases d)))));
-    others = subst (λ k. AreOthers 0 new.others.items k events) (sym is_next) (subst (λ l. AreOthers 0 l (n + 1) events) (sym (kept ∙ ap (λ k. old.others.items ++ k ∷ []) at)) (other_next 0 old.others.items (omega arith) (subst (λ k. AreOthers 0 old.others.items k events) at is.others)));
-  } where
-    is_next : new.count ≡ n + 1
-    is_next = omega (arith, counted, at)
-
-    none_released : (d : ℕ) (c : StorageChange) → is_other c ≡ true → releases d c ≡ false
-    none_released d (change.Released p) h = absurd (let e : false ≡ true = h in cc)
-    none_released d (change.Emptied emptied other) h = refl
-    none_released d (change.Ended task) h = refl
-    none_released d (change.Attached name gifts areas) h = refl
+    -- a change is added
+    pub change_added : ((owner : Name) (k : ℕ) → concerns owner k x ≡ true → (has_code new.owners (first_code owner k + n) ≡ true) ⊎ (has_code new.owners (first_code owner 255 + n) ≡ true)) → ((d : ℕ) → releases_at new d ≡ later_releases (releases d x.change) (old.count + 1) (releases_at old d)) → IsReleaseIndex new events
+    change_added added last = record {
+      count = omega (arith, one_more, less);
+      releases = λ d. subst (λ k. AreLastReleases d k (releases_at new d) events) (sym one_more) (subst (λ l. AreLastReleases d (n + 1) l events) (sym (last d ∙ ap (λ k. later_releases (releases d x.change) (k + 1) (releases_at old d)) at)) (last_next d (releases_at old d) (subst (λ k. AreLastReleases d k (releases_at old d) events) at (is.releases d))));
+      codes = more_codes added;
+    }
 
 -- nothing is added
-pub index_kept : (old new : ReleaseIndex) (events : List StorageEvent) → IsReleaseIndex old events → new.count ≡ old.count → new.others.items ≡ old.others.items → ((d : ℕ) → releases_at new d ≡ releases_at old d) → IsReleaseIndex new events
+pub index_kept : (old new : ReleaseIndex) (events : List StorageEvent) → IsReleaseIndex old events → new.count ≡ old.count → ((code : ℕ) → has_code old.owners code ≡ true → has_code new.owners code ≡ true) → ((d : ℕ) → releases_at new d ≡ releases_at old d) → IsReleaseIndex new events
 index_kept old new events is counted kept last = record {
   count = subst (λ k. k ≤ length events) (sym counted) is.count;
   releases = λ d. subst (λ k. AreLastReleases d k (releases_at new d) events) (sym counted) (subst (λ l. AreLastReleases d old.count l events) (sym (last d)) (is.releases d));
-  others = subst (λ k. AreOthers 0 new.others.items k events) (sym counted) (subst (λ l. AreOthers 0 l old.count events) (sym kept) is.others);
-}
+  codes = λ i e owner n get to con. keep owner n i (is.codes i e owner n get (subst (λ k. i < k) counted to) con);
+} where
+  keep : (owner : Name) (n i : ℕ) → (has_code old.owners (first_code owner n + i) ≡ true) ⊎ (has_code old.owners (first_code owner 255 + i) ≡ true) → (has_code new.owners (first_code owner n + i) ≡ true) ⊎ (has_code new.owners (first_code owner 255 + i) ≡ true)
+  keep owner n i (inl h) = inl (kept _ h)
+  keep owner n i (inr h) = inr (kept _ h)
+
+-- the release of a place concerns no subpool
+pub release_concerns : (x : StorageEvent) (p : PlaceValue) (owner : Name) (n : ℕ) (P : Type 0) → x.change ≡ change.Released p → concerns owner n x ≡ true → P
+release_concerns x p owner n P is h = absurd (let e : false ≡ true = sym (ap (concerns_by owner n x.task) is) ∙ h in cc)
+
+-- another change releases no place
+pub none_released : (d : ℕ) (c : StorageChange) → ((number : ℕ) × (t : Name) × (c ≡ change.Emptied number t)) ⊎ (((t : Name) × (c ≡ change.Ended t)) ⊎ ((t : Name) × (gifts : Gifts) × (areas : ℕ) × (c ≡ change.Attached t gifts areas))) → releases d c ≡ false
+none_released d c (inl (number, t, e)) = ap (releases d) e
+none_released d c (inr (inl (t, e))) = ap (releases d) e
+none_released d c (inr (inr (t, gifts, areas, e))) = ap (releases d) e
 
 -- more changes are made
 module _ (events more : List StorageEvent) where
   none_more : (d from to : ℕ) → to ≤ length events → NoneReleases d events from to → NoneReleases d (events ++ more) from to
   none_more d from to within h = λ i e get f t. h i e (get_more events more e i get (omega (arith, t, within))) f t
-
-  others_more : (from : ℕ) (numbers : List ℕ) (to : ℕ) → to ≤ length events → AreOthers from numbers to events → AreOthers from numbers to (events ++ more)
-  others_more from [] to within h = λ i e get f t. h i e (get_more events more e i get (omega (arith, t, within))) f t
-  others_more from (n ∷ numbers) to within h = (h.0, h.1, (λ i e get f t. h.2 i e (get_more events more e i get (let l = h.1 in omega (arith, t, l, within))) f t), others_more (n + 1) numbers to within h.3)
 
   pub events_more : (index : ReleaseIndex) → IsReleaseIndex index events → IsReleaseIndex index (events ++ more)
   events_more index is = record {
@@ -133,7 +132,7 @@ module _ (events more : List StorageEvent) where
       after_previous = none_more d _ _ (omega (arith, a, l)) last.after_previous;
       after_earlier = none_more d _ _ (omega (arith, b, l)) last.after_earlier;
     };
-    others = others_more 0 index.others.items index.count is.count is.others;
+    codes = λ i e owner n get to con. let l = is.count in is.codes i e owner n (get_more events more e i get (omega (arith, to, l))) to con;
   }
 
 -- the lines ascend
@@ -155,29 +154,6 @@ ascends_more events x ascends ends i j y z get_y get_z order = by (get_snoc even
   by (inr a) (inr b) = subst (λ (v : StorageEvent). y.line ≤ v.line) (sym b.1) (subst (λ (v : StorageEvent). v.line ≤ x.line) (sym a.1) (omega arith))
 
 -- ---- where a search begins and ends
-
-others_least : (from : ℕ) (numbers : List ℕ) (to : ℕ) (events : List StorageEvent) (i n : ℕ) → AreOthers from numbers to events → slice_get numbers i ≡ Some n → from ≤ n
-others_least from [] to events i n h get = none_some get
-others_least from (k ∷ numbers) to events zero n h get = let e : k ≡ n = cc in let l = h.0 in omega (arith, e, l)
-others_least from (k ∷ numbers) to events (suc i) n h get = let r = others_least (k + 1) numbers to events i n h.3 get in let l = h.0 in omega (arith, r, l)
-
-pub others_dropped : (from least to k : ℕ) (numbers : List ℕ) (events : List StorageEvent) → from ≤ least → AreOthers from numbers to events → IsFirstFrom numbers least k → AreOthers least (drop k numbers) to events
-others_dropped from least to zero [] events order h first = λ i e get f t. h i e get (omega (arith, f, order)) t
-others_dropped from least to (suc k) [] events order h first = absurd (let l = first.within in omega (arith, l))
-others_dropped from least to zero (n ∷ numbers) events order h first = (first.after n refl, h.1, (λ i e get f t. h.2 i e get (omega (arith, f, order)) t), h.3)
-others_dropped from least to (suc k) (n ∷ numbers) events order h first = others_dropped (n + 1) least to k numbers events (smaller k first) h.3 (record {
-  within = let l = first.within in omega (arith, l);
-  before = λ i m get e. first.before (suc i) m get (omega (arith, e));
-  after = λ m get. first.after m get;
-}) where
-  smaller : (k : ℕ) → IsFirstFrom (n ∷ numbers) least (suc k) → n + 1 ≤ least
-  smaller zero first = let l = first.before 0 n refl (omega arith) in omega (arith, l)
-  smaller (suc j) first =
-      let within = first.within in
-      let at = slice_get-get_or numbers j 0 (omega (arith, within)) in
-      let l = first.before (suc j) (get_or numbers j 0) at (omega arith) in
-      let m = others_least (n + 1) numbers to events j (get_or numbers j 0) h.3 at in
-      omega (arith, l, m)
 
 -- ---- what frees a doubleword
 
@@ -204,17 +180,17 @@ module _ (d : ℕ) (g : AreaGrant) (owner : Name) (events : List StorageEvent) w
       skip_by (to - from) from (omega (arith, order, within)) (λ i y get f t. idle i y get f (omega (arith, t, order)))
       ∙ ap (λ k. fate d g owner (drop k events)) e
 
-  not_freed : (c : StorageChange) → is_other c ≡ false → releases d c ≡ false → frees_by d g.subpool owner c ≡ false
-  not_freed (change.Released p) other none = none
-  not_freed (change.Emptied emptied task) other none = absurd (let e : true ≡ false = other in cc)
-  not_freed (change.Ended task) other none = absurd (let e : true ≡ false = other in cc)
-  not_freed (change.Attached name gifts areas) other none = absurd (let e : true ≡ false = other in cc)
+  not_freed : (t : Name) (c : StorageChange) → releases d c ≡ false → concerns_by owner g.subpool t c ≡ false → frees_by d g.subpool owner c ≡ false
+  not_freed t (change.Released p) none idle = none
+  not_freed t (change.Emptied emptied task) none idle = idle
+  not_freed t (change.Ended task) none idle = idle
+  not_freed t (change.Attached name gifts areas) none idle = refl
 
-  same_owner : (t : Name) (c : StorageChange) → is_other c ≡ false → owner_by t g.subpool owner c ≡ owner
-  same_owner t (change.Released p) other = refl
-  same_owner t (change.Emptied emptied task) other = absurd (let e : true ≡ false = other in cc)
-  same_owner t (change.Ended task) other = absurd (let e : true ≡ false = other in cc)
-  same_owner t (change.Attached name gifts areas) other = absurd (let e : true ≡ false = other in cc)
+  same_owner : (t : Name) (c : StorageChange) → concerns_by owner g.subpool t c ≡ false → owner_by t g.subpool owner c ≡ owner
+  same_owner t (change.Released p) idle = refl
+  same_owner t (change.Emptied emptied task) idle = refl
+  same_owner t (change.Ended task) idle = refl
+  same_owner t (change.Attached name gifts areas) idle = ap (λ b. if b then name else owner) idle
 
   and_false : (a b : Bool) → b ≡ false → (a && b) ≡ false
   and_false true b h = h
@@ -224,8 +200,8 @@ module _ (d : ℕ) (g : AreaGrant) (owner : Name) (events : List StorageEvent) w
   either true o h = h
   either false o h = refl
 
-  idle_release : (e : StorageEvent) → is_other e.change ≡ false → releases d e.change ≡ false → IsIdle e
-  idle_release e other none = (and_false (nat_lt g.line e.line) _ (not_freed e.change other none), either (nat_lt g.line e.line) _ (same_owner e.task e.change other))
+  idle_other : (e : StorageEvent) → concerns owner g.subpool e ≡ false → releases d e.change ≡ false → IsIdle e
+  idle_other e idle none = (and_false (nat_lt g.line e.line) _ (not_freed e.task e.change none idle), either (nat_lt g.line e.line) _ (same_owner e.task e.change idle))
 
   idle_early : (e : StorageEvent) → e.line ≤ g.line → IsIdle e
   idle_early e early = (ap (λ b. b && frees_by d g.subpool owner e.change) not_later, ap (λ b. if b then owner_by e.task g.subpool owner e.change else owner) not_later) where
@@ -236,49 +212,39 @@ module _ (d : ℕ) (g : AreaGrant) (owner : Name) (events : List StorageEvent) w
   pub skip_early : (first : ℕ) → first ≤ length events → AreEarlier g.line events first → fate d g owner (drop first events) ≡ fate d g owner events
   skip_early first within early = sym (skip_to 0 first (omega arith) within (λ i e get f t. idle_early e (early i e get t)))
 
-  -- and the releases of other places up to one of the numbers
-  skip_quiet : (from to : ℕ) → from ≤ to → to ≤ length events → NoneOther events from to → NoneReleases d events from to → fate d g owner (drop from events) ≡ fate d g owner (drop to events)
-  skip_quiet from to order within others quiet = skip_to from to order within (λ i e get f t. idle_release e (others i e get f t) (quiet i e get f t))
+  -- and those that release other places and concern other subpools
+  skip_idle : (from to : ℕ) → from ≤ to → to ≤ length events → NoneConcerns owner g.subpool events from to → NoneReleases d events from to → fate d g owner (drop from events) ≡ fate d g owner (drop to events)
+  skip_idle from to order within idle quiet = skip_to from to order within (λ i e get f t. idle_other e (idle i e get f t) (quiet i e get f t))
 
-  module _ (end : ℕ) where
-    at_number : (n : ℕ) (numbers : List ℕ) (x : StorageEvent) (is : IsAmong d g owner events (n ∷ numbers) end) → n < end → slice_get events n ≡ Some x
-        → (if frees_area d g owner x then Some x else fate d g (owner_since g owner x) (drop (suc n) events)) ≡ fate d g g.owner events
-    at_number n numbers x is before here =
-        let order = is.others.0 in
-        let in_it = is.others.1 in
-        let within = is.within in
-        let now = cut events n (omega (arith, in_it, within)) in
-        let same : now.0 ≡ x = same_item events n now.0 x now.1 here in
-        sym (ap (fate d g owner) (now.2 ∙ ap (λ v. v ∷ drop (suc n) events) same))
-        ∙ sym (skip_quiet is.from n order (omega (arith, in_it, within)) is.others.2 (λ i e get f t. is.quiet i e get f (omega (arith, t, before))))
-        ∙ is.same
+  module _ (from end : ℕ) (is : IsAmong d g owner events from end) where
+    module _ (n : ℕ) (x : StorageEvent) (order : from ≤ n) (before : n < end) (here : slice_get events n ≡ Some x) (idle : NoneConcerns owner g.subpool events from n) where
+      at_number : (if frees_area d g owner x then Some x else fate d g (owner_since g owner x) (drop (suc n) events)) ≡ fate d g g.owner events
+      at_number =
+          let within = slice_get_within events n x here in
+          let now = cut events n within in
+          let same : now.0 ≡ x = same_item events n now.0 x now.1 here in
+          sym (ap (fate d g owner) (now.2 ∙ ap (λ v. v ∷ drop (suc n) events) same))
+          ∙ sym (skip_idle from n order (omega (arith, within)) idle (λ i e get f t. is.quiet i e get f (omega (arith, t, before))))
+          ∙ is.same
 
-    -- the change with the next number frees it
-    pub number_frees : (n : ℕ) (numbers : List ℕ) (x : StorageEvent) → IsAmong d g owner events (n ∷ numbers) end → n < end → slice_get events n ≡ Some x → frees_area d g owner x ≡ true → Some x ≡ fate d g g.owner events
-    number_frees n numbers x is before here frees = sym (ap (λ b. if b then Some x else fate d g (owner_since g owner x) (drop (suc n) events)) frees) ∙ at_number n numbers x is before here
+      -- the next change that concerns the subpool frees it
+      pub number_frees : frees_area d g owner x ≡ true → Some x ≡ fate d g g.owner events
+      number_frees frees = sym (ap (λ b. if b then Some x else fate d g (owner_since g owner x) (drop (suc n) events)) frees) ∙ at_number
 
-    -- or does not
-    pub number_passes : (n : ℕ) (numbers : List ℕ) (x : StorageEvent) → IsAmong d g owner events (n ∷ numbers) end → n < end → slice_get events n ≡ Some x → frees_area d g owner x ≡ false → IsAmong d g (owner_since g owner x) events numbers end
-    number_passes n numbers x is before here frees = record {
-      from = n + 1;
-      to = is.to;
-      order = omega (arith, before);
-      known = λ i f t. let o = is.others.0 in is.known i (omega (arith, f, o)) t;
-      within = is.within;
-      others = is.others.3;
-      quiet = λ i e get f t. let o = is.others.0 in is.quiet i e get (omega (arith, f, o)) t;
-      same =
-          ap (λ k. fate d g (owner_since g owner x) (drop k events)) (let e : n + 1 ≡ suc n = omega arith in e)
-          ∙ sym (ap (λ b. if b then Some x else fate d g (owner_since g owner x) (drop (suc n) events)) frees)
-          ∙ at_number n numbers x is before here;
-    }
+      -- or does not
+      pub number_passes : frees_area d g owner x ≡ false → IsAmong d g (owner_since g owner x) events (n + 1) end
+      number_passes frees = record {
+        order = omega (arith, before);
+        quiet = λ i e get f t. is.quiet i e get (omega (arith, f, order)) t;
+        same =
+            ap (λ k. fate d g (owner_since g owner x) (drop k events)) (let e : n + 1 ≡ suc n = omega arith in e)
+            ∙ sym (ap (λ b. if b then Some x else fate d g (owner_since g owner x) (drop (suc n) events)) frees)
+            ∙ at_number;
+      }
 
-    -- there is no number before the end
-    pub none_before : IsAmong d g owner events [] end → end ≤ length events → fate d g owner (drop end events) ≡ fate d g g.owner events
-    none_before is within = sym (skip_quiet is.from end is.order within (λ i e get f t. is.others i e get f (is.known i f t)) is.quiet) ∙ is.same
-
-    pub number_after : (n : ℕ) (numbers : List ℕ) → IsAmong d g owner events (n ∷ numbers) end → end ≤ n → end ≤ length events → fate d g owner (drop end events) ≡ fate d g g.owner events
-    number_after n numbers is after within = sym (skip_quiet is.from end is.order within (λ i e get f t. is.others.2 i e get f (omega (arith, t, after))) is.quiet) ∙ is.same
+    -- none before the end concerns it
+    pub none_before : end ≤ length events → NoneConcerns owner g.subpool events from end → fate d g owner (drop end events) ≡ fate d g g.owner events
+    none_before within idle = sym (skip_idle from end is.order within idle is.quiet) ∙ is.same
 
 -- ---- the doublewords of a place
 
@@ -294,9 +260,3 @@ releases_next first n d number start before after is here other = at (d == first
 pub of_result : {P : Type 0} (b : Bool) → (b ≡ true → P) → (b ≡ false → P) → P
 of_result true done failed = done refl
 of_result false done failed = failed refl
-
--- a change that is no release
-pub other_change : (c : StorageChange) → ((number : ℕ) × (t : Name) × (c ≡ change.Emptied number t)) ⊎ (((t : Name) × (c ≡ change.Ended t)) ⊎ ((t : Name) × (gifts : Gifts) × (areas : ℕ) × (c ≡ change.Attached t gifts areas))) → is_other c ≡ true
-other_change c (inl (number, t, e)) = ap is_other e
-other_change c (inr (inl (t, e))) = ap is_other e
-other_change c (inr (inr (t, gifts, areas, e))) = ap is_other e

@@ -3,20 +3,37 @@ use Rattle.std.proofs.Common.{◌≡◌, ℕ, ◌+◌, ◌-◌, ◌*◌, ◌/◌
 use Rattle.std.specs.Prelude.{◌⊎◌, nat_lt, slice_get, slice_index_or, if◌then◌else◌}
 use Rattle.std.proofs.lemmas.Grind.{common_steps}
 use Rattle.std.proofs.lemmas.Option.{slice_get-get_or, slice_get_within}
-use Rattle.std.proofs.Math.Seq.{take-length}
+use Rattle.std.proofs.Math.Seq.{drop-length, take-length, take-suc}
 use Rattle.mvs_model.specs.Finite.{count_below}
 use Rattle.mvs_model.specs.Place.{PlaceValue}
-use Rattle.mvs_model.proofs.Below.{count_all, count_same}
-use Rattle.mvs_model.proofs.Tests.{none_some}
+use Rattle.mvs_model.proofs.Below.{count_all, count_none, count_same}
+use Rattle.mvs_model.proofs.Tests.{false_true, none_some}
 use Rattle.area_history.specs.declared.grant.AreaGrant.{AreaGrant}
 use Rattle.area_history.specs.declared.last_areas.LastAreas.{LastAreas}
 use Rattle.area_history.specs.declared.last_areas.LastNumbers.{LastNumbers}
 use Rattle.area_history.specs.declared.largest.Leaks.{Leaks}
 use Rattle.area_history.specs.LastAreas.{AreHidden, AreVisible, IsHidden, IsIndexOf, IsTallied, IsWhole, is_last, is_whole, later_numbers, no_numbers, numbers_after, numbers_at}
-use Rattle.area_history.specs.Leaking.{has_doubleword, is_covered, is_left, leaks}
+use Rattle.area_history.specs.Leaking.{bytes_left, has_doubleword, is_covered, is_left, leak_of, leaks, ranked, total}
+use Rattle.area_history.specs.Totals.{by_subpool, by_task}
 use Rattle.area_history.proofs.Marking.{inside, is_next, next_other, none_next, same_of}
 use Rattle.area_history.proofs.Releasing.{get_more, same_item}
-use Rattle.area_history.proofs.SameLeaks.{same_all, same_hidden}
+
+-- ---- nothing is left of an area of which later ones have each doubleword
+
+no_left : (a b c : Bool) → (b ≡ true → c ≡ true) → b ≡ true → (a && not c) ≡ false
+no_left a b true h e = grind (arith, common_steps)
+no_left a b false h e = false_true (h e)
+
+no_bytes : (plain : ℕ → Bool) (later : List AreaGrant) (g : AreaGrant) → ((d : ℕ) → has_doubleword g.place d ≡ true → is_covered later d ≡ true) → bytes_left plain later g ≡ 0
+no_bytes plain later g hidden =
+    ap (λ n. 8 * n) (count_none (g.place.len / 8) (λ k. is_left plain later (g.place.addr / 8 + k)) (λ k h. no_left (plain (g.place.addr / 8 + k)) (has_doubleword g.place (g.place.addr / 8 + k)) (is_covered later (g.place.addr / 8 + k)) (hidden (g.place.addr / 8 + k)) (inside g.place k h)))
+
+no_leak : (g : AreaGrant) (b : Bool) (n : ℕ) → n ≡ 0 → leak_of g (if b then n else 0) ≡ []
+no_leak g true n e = ap (λ k. leak_of g k) e
+no_leak g false n e = refl
+
+no_leaks : (g : AreaGrant) (later : List AreaGrant) (selected : AreaGrant → Bool) (plain : ℕ → Bool) → ((d : ℕ) → has_doubleword g.place d ≡ true → is_covered later d ≡ true) → leaks selected plain later ≡ leaks selected plain (g ∷ later)
+no_leaks g later selected plain hidden = sym (ap (λ ls. ls ++ leaks selected plain later) (no_leak g (selected g) (bytes_left plain later g) (no_bytes plain later g hidden)))
 
 -- ---- the last area that has a doubleword
 
@@ -215,7 +232,7 @@ module _ (last : LastAreas) (grants : List AreaGrant) (is : IsIndexOf last grant
       let later = drop (suc from) grants in
       let covered : (d : ℕ) → has_doubleword g.place d ≡ true → is_covered later d ≡ true = λ d has. not_false (is_covered later d) (sym (h from g here.1 (omega arith) (omega arith) d has) ∙ last_is_left last grants from d g is all here.1 has) in
       ap (leaks selected plain) here.2
-      ∙ sym ((same_hidden g later later (same_all later) covered).left selected plain)
+      ∙ sym (no_leaks g later selected plain covered)
       ∙ hidden_by m (suc from) (omega (arith, within)) (λ n x get f t. h n x get (omega (arith, f)) (omega (arith, t)))
       ∙ ap (λ k. leaks selected plain (drop k grants)) (let e : suc from + m ≡ from + suc m = omega arith in e)
 
@@ -257,9 +274,41 @@ and_true false b h k = h
 pub count_whole : (n : ℕ) (f g : ℕ → Bool) → ((k : ℕ) → k < n → f k ≡ true) → ((k : ℕ) → k < n → g k ≡ true) → n ≡ count_below n (λ k. f k && g k)
 count_whole n f g h i = sym (count_all n (λ k. f k && g k) (λ k l. and_true (f k) (g k) (h k l) (i k l)))
 
--- all areas are looked at
-pub all_tallied : (last : LastAreas) (grants : List AreaGrant) → IsIndexOf last grants → last.count ≡ length grants → (selected : AreaGrant → Bool) (plain : ℕ → Bool) (numbers : List ℕ) (n : ℕ) (found : Leaks) → n ≡ 0 → (t : IsTallied last grants selected plain (take n numbers) found) → leaks selected plain (drop t.from grants) ≡ leaks selected plain grants
-all_tallied last grants is all selected plain numbers n found none t = sym (hidden_leaks last grants is all selected plain 0 t.from (omega arith) t.within (subst (λ k. AreVisible last grants 0 (take k numbers) t.from) none t.visible))
+-- all areas from one on are looked at
+module _ (last : LastAreas) (grants : List AreaGrant) (is : IsIndexOf last grants) (all : last.count ≡ length grants) (selected : AreaGrant → Bool) (plain : ℕ → Bool) (numbers : List ℕ) (n first : ℕ) (found : Leaks) where
+  pub all_tallied : n ≡ 0 → (t : IsTallied last grants selected plain (take n numbers) found) → first ≤ t.from → leaks selected plain (drop t.from grants) ≡ leaks selected plain (drop first grants)
+  all_tallied none t after = sym (hidden_leaks last grants is all selected plain first t.from after t.within (λ k g get f low. hidden k g get (omega arith) low)) where
+    hidden : AreHidden last grants 0 t.from
+    hidden = subst (λ k. AreVisible last grants 0 (take k numbers) t.from) none t.visible
+
+  pub later_tallied : (t : IsTallied last grants selected plain (take n numbers) found) → 0 < n → n ≤ length numbers → get_or numbers (n - 1) 0 < first → first ≤ t.from → leaks selected plain (drop t.from grants) ≡ leaks selected plain (drop first grants)
+  later_tallied t some within before after = sym (hidden_leaks last grants is all selected plain first t.from after t.within (λ k g get f low. seen.3 k g get (omega (arith, before, f)) low)) where
+    cut : take n numbers ≡ take (n - 1) numbers ++ get_or numbers (n - 1) 0 ∷ []
+    cut = ap (λ k. take k numbers) (let e : n ≡ suc (n - 1) = omega (arith, some) in e) ∙ take-suc numbers (n - 1) 0 (omega (arith, some, within))
+
+    seen : (0 ≤ get_or numbers (n - 1) 0) × (get_or numbers (n - 1) 0 < t.from) × AreVisible last grants 0 (take (n - 1) numbers) (get_or numbers (n - 1) 0) × AreHidden last grants (get_or numbers (n - 1) 0 + 1) t.from
+    seen = last_visible last grants 0 (take (n - 1) numbers) (get_or numbers (n - 1) 0) t.from (subst (λ l. AreVisible last grants 0 l t.from) cut t.visible)
+
+-- no area is looked at
+module _ (last : LastAreas) (grants : List AreaGrant) (is : IsIndexOf last grants) (all : last.count ≡ length grants) (selected : AreaGrant → Bool) (plain : ℕ → Bool) where
+  none_left : leaks selected plain (drop (length grants) grants) ≡ []
+  none_left = ap (leaks selected plain) (drop-length grants)
+
+  pub none_tallied : (numbers : List ℕ) (n : ℕ) (found : Leaks) → numbers ≡ last.visible.items → n ≡ length numbers → found.largest ≡ [] → found.count ≡ 0 → found.bytes ≡ 0 → found.subpools ≡ [] → found.tasks ≡ []
+      → (t : IsTallied last grants selected plain (take n numbers) found) × (t.from ≡ length grants)
+  none_tallied numbers n found numbers_are n_is largest count bytes subpools tasks = (
+    record {
+      from = length grants;
+      within = omega arith;
+      visible = subst (λ l. AreVisible last grants 0 l (length grants)) (sym (ap (λ k. take k numbers) n_is ∙ take-length numbers ∙ numbers_are)) (subst (λ k. AreVisible last grants 0 last.visible.items k) all is.visible);
+      largest = largest ∙ ap (λ l. take 10 (ranked l)) (sym none_left);
+      count = count ∙ ap length (sym none_left);
+      bytes = bytes ∙ ap total (sym none_left);
+      subpools = subpools ∙ ap (λ l. take 10 (by_subpool l)) (sym none_left);
+      tasks = tasks ∙ ap (λ l. take 10 (by_task l)) (sym none_left);
+    },
+    refl,
+  )
 
 append_assoc : (xs ys zs : List ℕ) → (xs ++ ys) ++ zs ≡ xs ++ (ys ++ zs)
 append_assoc [] ys zs = refl

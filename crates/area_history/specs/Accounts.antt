@@ -3,7 +3,7 @@ use Rattle.std.specs.Prelude.{◌≡◌, ◌⊎◌, ◌&&◌, ◌||◌, ℕ, Lis
 use Rattle.mvs_model.specs.declared.code.Code.{Code}
 use Rattle.mvs_model.specs.declared.line.Line.{Line}
 use Rattle.mvs_model.specs.declared.line.Line.TheVariants as line
-use Rattle.mvs_model.specs.declared.line.SourceRequest.TheVariants.{Return}
+use Rattle.mvs_model.specs.declared.line.SourceRequest.TheVariants as written
 use Rattle.mvs_model.specs.declared.line.Statement.TheVariants as says
 use Rattle.mvs_model.specs.declared.name.Name.{Name}
 use Rattle.mvs_model.specs.declared.refusal.Consequence.TheVariants.{Abend}
@@ -30,8 +30,22 @@ summary_of left = record { areas = summary left.areas; pools = left.pools }
 -- whether a line can end the step or its job step task without a refusal
 abbrev pub may_end : Option Name → Line → Bool
 may_end root (line.Statement t (says.Region below above fill residence)) = true
-may_end root (line.Statement t (says.Request Return)) = has (same_name t) root
-may_end root (line.Statement t (says.Request _)) = false
+may_end root (line.Statement t (says.Request written.Return)) = has (same_name t) root
+may_end root (line.Statement t (says.Request (written.Obtain form number ask variable area))) = false
+may_end root (line.Statement t (says.Request (written.ObtainList form number lengths start areas))) = false
+may_end root (line.Statement t (says.Request (written.Release form number location len))) = false
+may_end root (line.Statement t (says.Request (written.ReleaseArea form number area))) = false
+may_end root (line.Statement t (says.Request (written.ReleaseList form number locations lengths))) = false
+may_end root (line.Statement t (says.Request (written.ReleaseWhole form number))) = false
+may_end root (line.Statement t (says.Request (written.Build pool number size primary secondary loc))) = false
+may_end root (line.Statement t (says.Request (written.Get pool conditional cell))) = false
+may_end root (line.Statement t (says.Request (written.Free pool cell))) = false
+may_end root (line.Statement t (says.Request (written.Delete pool))) = false
+may_end root (line.Statement t (says.Request (written.Attach name gifts residence))) = false
+may_end root (line.Statement t (says.Request (written.Abend code))) = false
+may_end root (line.Statement t (says.Request (written.Show location len))) = false
+may_end root (line.Statement t (says.Request (written.Put location bytes))) = false
+may_end root (line.Statement t (says.Request (written.Move to from len))) = false
 may_end root (line.Statement t (says.Where name)) = false
 may_end root (line.Statement t says.ReportSubpools) = false
 may_end root (line.Statement t says.ReportMap) = false

@@ -14,7 +14,7 @@ use Rattle.mvs_model.specs.declared.request.Request.{Request}
 use Rattle.mvs_model.specs.declared.request.Request.TheVariants as request
 use Rattle.mvs_model.specs.declared.want.Loc.{Loc}
 use Rattle.mvs_model.specs.declared.want.Loc.TheVariants as loc
-use Rattle.mvs_model.specs.Answers.{Answer, Event, AnswerTo, Ended, Abended}
+use Rattle.mvs_model.specs.Answers.{Answer, Event, AnswerTo, NotRun, NoName, At, Rc0, Granted, Rc4, Cell, NoCell, Attached, Ended, Done, Data, Abended, Subpools, Map, Region}
 use Rattle.mvs_model.specs.Causes.{IsPassed}
 use Rattle.mvs_model.specs.Gifts.{gives}
 use Rattle.mvs_model.specs.Job.{JobValue}
@@ -108,7 +108,20 @@ changed_by number t job areas (written.Move to from n) = []
 abbrev pub ended_with : Name → Answer → List Name
 ended_with t Ended = t ∷ []
 ended_with t (Abended code fallen) = t ∷ fallen
-ended_with t _ = []
+ended_with t NotRun = []
+ended_with t NoName = []
+ended_with t (At addr) = []
+ended_with t Rc0 = []
+ended_with t (Granted n) = []
+ended_with t Rc4 = []
+ended_with t Cell = []
+ended_with t NoCell = []
+ended_with t Attached = []
+ended_with t Done = []
+ended_with t (Data bytes) = []
+ended_with t (Subpools lines) = []
+ended_with t (Map runs) = []
+ended_with t (Region card) = []
 
 -- the ends of tasks with some events
 abbrev pub ends_by : ℕ → List Event → List StorageEvent
@@ -122,7 +135,12 @@ granted_changes number t job areas a events = if reports_grant events then chang
 -- what a line with this meaning and these events did
 abbrev pub events_by : ℕ → Line → List Event → Option JobValue → ℕ → List StorageEvent
 events_by number (line.Statement t (says.Request a)) events (Some job) areas = granted_changes number t job areas a events ++ ends_by number events
-events_by number l events new areas = []
+events_by number (line.Statement t (says.Request a)) events None areas = []
+events_by number (line.Statement t (says.Region below above fill residence)) events new areas = []
+events_by number (line.Statement t (says.Where name)) events new areas = []
+events_by number (line.Statement t says.ReportSubpools) events new areas = []
+events_by number (line.Statement t says.ReportMap) events new areas = []
+events_by number line.Nothing events new areas = []
 
 -- what an entry of this kind did, before which this step ran
 abbrev pub events_in : Entry → ℕ → Option JobValue → Kind → List StorageEvent
@@ -358,8 +376,13 @@ FoundOf h job t r found =
 
 -- What is found of a line of a step: only the request of an active task, with its names set, is made.
 abbrev pub FoundIn : History → Option JobValue → Line → Found → Type 0
+FoundIn h None l found = found ≡ nothing_found
 FoundIn h (Some job) (line.Statement t (says.Request a)) found = MatchBool (is_active job.state.owners t) (MatchOption (resolved job.names a) (found ≡ nothing_found) (λ r. FoundOf h job t r found)) (found ≡ nothing_found)
-FoundIn h step l found = found ≡ nothing_found
+FoundIn h (Some job) (line.Statement t (says.Region below above fill residence)) found = found ≡ nothing_found
+FoundIn h (Some job) (line.Statement t (says.Where name)) found = found ≡ nothing_found
+FoundIn h (Some job) (line.Statement t says.ReportSubpools) found = found ≡ nothing_found
+FoundIn h (Some job) (line.Statement t says.ReportMap) found = found ≡ nothing_found
+FoundIn h (Some job) line.Nothing found = found ≡ nothing_found
 
 -- What is found of an entry of this kind.
 abbrev pub FoundAt : History → Option JobValue → Kind → Found → Type 0

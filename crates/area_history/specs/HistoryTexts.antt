@@ -4,7 +4,7 @@ use Rattle.std.specs.List.{flat_map}
 use Rattle.mvs_model.specs.declared.name.Name.{Name}
 use Rattle.mvs_model.specs.Name.{trimmed}
 use Rattle.mvs_model.specs.Texts.{hex}
-use Rattle.job_script.specs.FactTexts.{subpool_words}
+use Rattle.explanation.specs.FactTexts.{subpool_words}
 use Rattle.area_history.specs.declared.events.StorageChange.{StorageChange}
 use Rattle.area_history.specs.declared.events.StorageChange.TheVariants.{Released, Emptied, Ended, Attached}
 use Rattle.area_history.specs.declared.events.StorageEvent.{StorageEvent}

@@ -3,8 +3,8 @@ use Rattle.std.specs.Prelude.{ℕ, ◌==◌, ◌-◌, nat_le, nat_lt, List, [], 
 use Rattle.std.specs.List.{flat_map}
 use Rattle.mvs_model.specs.Name.{trimmed}
 use Rattle.mvs_model.specs.Texts.{hex}
-use Rattle.job_script.specs.FactTexts.{subpool_words}
-use Rattle.job_script.specs.ReasonTexts.{one_line}
+use Rattle.explanation.specs.FactTexts.{subpool_words}
+use Rattle.explanation.specs.ReasonTexts.{one_line}
 use Rattle.area_history.specs.declared.grant.AreaGrant.{AreaGrant}
 use Rattle.area_history.specs.declared.grant.Leak.{Leak}
 use Rattle.area_history.specs.declared.largest.Leaks.{Leaks}

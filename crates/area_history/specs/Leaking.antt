@@ -49,11 +49,6 @@ abbrev pub leaks : (AreaGrant → Bool) → (ℕ → Bool) → List AreaGrant �
 leaks selected plain [] = []
 leaks selected plain (g ∷ later) = leak_of g (if selected g then bytes_left plain later g else 0) ++ leaks selected plain later
 
--- The same is left of the areas of two lists in each step, and these have the same doublewords.
-pub record HasSameLeaks (new old : List AreaGrant) : Type 0 where
-  pub left : (selected : AreaGrant → Bool) (plain : ℕ → Bool) → leaks selected plain new ≡ leaks selected plain old
-  pub covered : (d : ℕ) → is_covered new d ≡ is_covered old d
-
 -- a list with one more leak, before the first one that is not larger
 abbrev pub ahead : Leak → List Leak → List Leak
 ahead x [] = x ∷ []

@@ -83,7 +83,12 @@ obtained_by number t job (Move to from n) = []
 -- the areas that a line with this meaning and these events was granted, by the step after it
 abbrev pub granted_by : ℕ → Line → List Event → Option JobValue → List AreaGrant
 granted_by number (line.Statement t (says.Request a)) events (Some job) = if reports_grant events then obtained_by number t job a else []
-granted_by number l events new = []
+granted_by number (line.Statement t (says.Request a)) events None = []
+granted_by number (line.Statement t (says.Region below above fill residence)) events new = []
+granted_by number (line.Statement t (says.Where name)) events new = []
+granted_by number (line.Statement t says.ReportSubpools) events new = []
+granted_by number (line.Statement t says.ReportMap) events new = []
+granted_by number line.Nothing events new = []
 
 -- the areas that an entry of this kind was granted, before which this step ran
 abbrev pub granted_in : Entry → Option JobValue → Kind → List AreaGrant

@@ -1,11 +1,17 @@
 -- An index of the changes of a step: which changes released a doubleword last, and which ones are no releases of places.
-use Rattle.std.specs.Prelude.{◌≡◌, ◌≤◌, ◌<◌, ℕ, ◌+◌, ◌-◌, Bool, true, false, List, [], ◌∷◌, length, drop, Some, slice_get, if◌then◌else◌}
+use Rattle.std.specs.Prelude.{◌≡◌, ◌⊎◌, ◌≤◌, ◌<◌, ℕ, ◌+◌, ◌-◌, ◌*◌, ◌==◌, ◌&&◌, Bool, true, false, List, length, drop, Option, None, Some, slice_get, if◌then◌else◌}
+use Rattle.std.specs.BTreeSet.{contains}
+use Rattle.std.specs.Int.{from_be_bytes, w64}
+use Rattle.std.specs.Ordering.{nat_cmp}
 use Rattle.mvs_model.specs.declared.name.Name.{Name}
+use Rattle.mvs_model.specs.Gifts.{gives}
+use Rattle.mvs_model.specs.Name.{same_name}
 use Rattle.mvs_model.specs.Storage.{covers}
 use Rattle.area_history.specs.declared.events.StorageChange.{StorageChange}
 use Rattle.area_history.specs.declared.events.StorageChange.TheVariants as change
 use Rattle.area_history.specs.declared.events.StorageEvent.{StorageEvent}
 use Rattle.area_history.specs.declared.grant.AreaGrant.{AreaGrant}
+use Rattle.area_history.specs.declared.owner_index.OwnerIndex.{OwnerIndex}
 use Rattle.area_history.specs.declared.release_index.LastReleases.{LastReleases}
 use Rattle.area_history.specs.declared.release_index.ReleaseIndex.{ReleaseIndex}
 use Rattle.area_history.specs.Histories.{fate}
@@ -18,20 +24,23 @@ releases d (change.Emptied emptied other) = false
 releases d (change.Ended task) = false
 releases d (change.Attached name gifts areas) = false
 
--- whether it is no release of a place
-abbrev pub is_other : StorageChange → Bool
-is_other (change.Released p) = false
-is_other (change.Emptied emptied other) = true
-is_other (change.Ended task) = true
-is_other (change.Attached name gifts areas) = true
+-- whether a change by a task frees the whole subpool that an owner has under a number, or gives it to another task
+abbrev pub concerns_by : Name → ℕ → Name → StorageChange → Bool
+concerns_by owner n t (change.Released p) = false
+concerns_by owner n t (change.Emptied emptied other) = (emptied == n) && same_name other owner
+concerns_by owner n t (change.Ended task) = same_name task owner
+concerns_by owner n t (change.Attached name gifts areas) = same_name t owner && gives gifts n
+
+abbrev pub concerns : Name → ℕ → StorageEvent → Bool
+concerns owner n e = concerns_by owner n e.task e.change
+
+-- None of the changes from one number on, up to another, does so.
+abbrev pub NoneConcerns : Name → ℕ → List StorageEvent → ℕ → ℕ → Type 0
+NoneConcerns owner n events from to = (i : ℕ) (e : StorageEvent) → slice_get events i ≡ Some e → from ≤ i → i < to → concerns owner n e ≡ false
 
 -- None of the changes from one number on, up to another, releases the doubleword.
 abbrev pub NoneReleases : ℕ → List StorageEvent → ℕ → ℕ → Type 0
 NoneReleases d events from to = (i : ℕ) (e : StorageEvent) → slice_get events i ≡ Some e → from ≤ i → i < to → releases d e.change ≡ false
-
--- Each of them is the release of a place.
-abbrev pub NoneOther : List StorageEvent → ℕ → ℕ → Type 0
-NoneOther events from to = (i : ℕ) (e : StorageEvent) → slice_get events i ≡ Some e → from ≤ i → i < to → is_other e.change ≡ false
 
 -- no change released the doubleword
 abbrev pub no_releases : LastReleases
@@ -53,22 +62,29 @@ pub record AreLastReleases (d count : ℕ) (last : LastReleases) (events : List 
   pub after_previous : NoneReleases d events last.previous (last.latest - 1)
   pub after_earlier : NoneReleases d events last.earlier (last.previous - 1)
 
--- Of the changes from one number on, up to another, those with other numbers are releases of places.
-abbrev pub AreOthers : ℕ → List ℕ → ℕ → List StorageEvent → Type 0
-AreOthers from [] to events = NoneOther events from to
-AreOthers from (n ∷ numbers) to events = (from ≤ n) × (n < to) × NoneOther events from n × AreOthers (n + 1) numbers to events
+-- the code of the change with number 0, for the subpool that an owner has under a number
+abbrev pub first_code : Name → ℕ → ℕ
+first_code owner n = from_be_bytes w64 owner * 1099511627776 + n * 4294967296
+
+-- whether the index has a code
+abbrev pub has_code : OwnerIndex → ℕ → Bool
+has_code owners code = contains nat_cmp owners.codes code
+
+-- It is the first code from one on.
+abbrev pub IsFirstCode : OwnerIndex → ℕ → Option ℕ → Type 0
+IsFirstCode owners least None = (code : ℕ) → least ≤ code → has_code owners code ≡ false
+IsFirstCode owners least (Some first) = (least ≤ first) × ((code : ℕ) → least ≤ code → has_code owners code ≡ true → first ≤ code)
+
+-- Each of the first changes has a code for each subpool that it concerns, or for its owner.
+abbrev pub HaveCodes : OwnerIndex → ℕ → List StorageEvent → Type 0
+HaveCodes owners count events =
+    (i : ℕ) (e : StorageEvent) (owner : Name) (n : ℕ) → slice_get events i ≡ Some e → i < count → concerns owner n e ≡ true → (has_code owners (first_code owner n + i) ≡ true) ⊎ (has_code owners (first_code owner 255 + i) ≡ true)
 
 -- The first ones of these changes were added.
 pub record IsReleaseIndex (index : ReleaseIndex) (events : List StorageEvent) : Type 0 where
   pub count : index.count ≤ length events
   pub releases : (d : ℕ) → AreLastReleases d index.count (releases_at index d) events
-  pub others : AreOthers 0 index.others.items index.count events
-
--- It is the place of the first number that is not less than another one, in an ascending list.
-pub record IsFirstFrom (numbers : List ℕ) (least k : ℕ) : Type 0 where
-  pub within : k ≤ length numbers
-  pub before : (i n : ℕ) → slice_get numbers i ≡ Some n → i + 1 ≡ k → n < least
-  pub after : (n : ℕ) → slice_get numbers k ≡ Some n → least ≤ n
+  pub codes : HaveCodes index.owners index.count events
 
 -- The lines of the changes ascend.
 abbrev pub IsAscending : List StorageEvent → Type 0
@@ -78,14 +94,9 @@ IsAscending events = (i j : ℕ) (x y : StorageEvent) → slice_get events i ≡
 abbrev pub AreEarlier : ℕ → List StorageEvent → ℕ → Type 0
 AreEarlier line events to = (i : ℕ) (e : StorageEvent) → slice_get events i ≡ Some e → i < to → e.line ≤ line
 
--- What frees the doubleword of the area is among the changes from some number on, if its subpool has this owner there: it is one with
--- one of these numbers, or at or after the end.
-pub record IsAmong (d : ℕ) (g : AreaGrant) (owner : Name) (events : List StorageEvent) (numbers : List ℕ) (end : ℕ) : Type 0 where
-  pub from : ℕ
-  pub to : ℕ
+-- What frees the doubleword of the area is among the changes from some number on, if its subpool has this owner there; none before the
+-- end releases the doubleword.
+pub record IsAmong (d : ℕ) (g : AreaGrant) (owner : Name) (events : List StorageEvent) (from end : ℕ) : Type 0 where
   pub order : from ≤ end
-  pub known : (i : ℕ) → from ≤ i → i < end → i < to
-  pub within : to ≤ length events
-  pub others : AreOthers from numbers to events
   pub quiet : NoneReleases d events from end
   pub same : fate d g owner (drop from events) ≡ fate d g g.owner events

@@ -27,9 +27,13 @@ same_group (Task task) (Task other) = same_name task other
 abbrev pub grown : Total → ℕ → Total
 grown t bytes = record { group = t.group; count = t.count + 1; bytes = t.bytes + bytes }
 
+-- the total of one area
+abbrev pub new_total : Group → ℕ → Total
+new_total group bytes = record { group = group; count = 1; bytes = bytes }
+
 -- the totals with one area more of a group
 abbrev pub added : Group → ℕ → List Total → List Total
-added group bytes [] = record { group = group; count = 1; bytes = bytes } ∷ []
+added group bytes [] = new_total group bytes ∷ []
 added group bytes (t ∷ totals) = if same_group group t.group then grown t bytes ∷ totals else t ∷ added group bytes totals
 
 -- the totals of areas by their subpools, in the order of the last area of each

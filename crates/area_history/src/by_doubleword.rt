@@ -26,7 +26,7 @@ impl<T> Model for Values<T> {
     ghost view = { λ v. v.items.items };
 }
 
-/// A value for each doubleword. Those above 16 megabytes have a list of their own, so that a value there takes no room for all below it.
+/// A value for each doubleword. Doublewords above 16 megabytes have a separate list, so that a value there needs no room for all below it.
 #[derive(Drop)]
 pub(crate) struct ByDoubleword<T> {
     below: Values<T>,
@@ -50,19 +50,6 @@ impl<T: Copy> Values<T> {
         self.items.clear();
     }
 
-    // Adds one number, which has the filler.
-    fn add(&mut self, filler: T) -> Result<(), OutOfMemory>
-        ensures values { (d : ℕ)
-            → slice_index_or self.new d filler ≡ slice_index_or self.old d filler }
-        ensures len { OnOk result (length self.new ≡ length self.old + 1) }
-        ensures kept { length self.old ≤ length self.new }
-    {
-        match self.items.push(filler) {
-            Ok(()) => Ok(()),
-            Err(_) => Err(OutOfMemory),
-        }
-    }
-
     // Adds numbers that have the filler, up to a number of them.
     fn grow(&mut self, len: usize, filler: T) -> Result<(), OutOfMemory>
         ensures values { (d : ℕ)
@@ -70,10 +57,13 @@ impl<T: Copy> Values<T> {
         ensures len { OnOk result (len ≤ length self.new) }
         ensures kept { length self.old ≤ length self.new }
     {
-        'grow: while self.items.len() < len {
-            self.add(filler)?;
+        if len <= self.items.len() {
+            return Ok(());
         }
-        Ok(())
+        match self.items.resize(len, filler) {
+            Ok(()) => Ok(()),
+            Err(_) => Err(OutOfMemory),
+        }
     }
 
     // Returns the value of a number.

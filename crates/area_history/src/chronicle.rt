@@ -1,6 +1,6 @@
 //! What is kept of the step that runs, for its history.
 
-ghost use Rattle.std.specs.Prelude.{◌≡◌, ◌≢◌, ◌⊎◌, ◌++◌, [], ℕ, List, length, option_map, unwrap_or, OnErr, OnOk};
+ghost use Rattle.std.specs.Prelude.{◌≡◌, ◌≢◌, ◌⊎◌, ◌++◌, [], ℕ, List, false, length, option_map, unwrap_or, OnErr, OnOk};
 ghost use Rattle.mvs_model.specs.FullAnswers.{full_answer};
 ghost use Rattle.mvs_model.specs.Causes.{IsRefused};
 ghost use Rattle.mvs_model.specs.Reasons.{released};
@@ -281,6 +281,41 @@ fn push_events(
     push_line_ends(events, line, at.walk, at.line_event)
 }
 
+// Returns whether an answer ends tasks.
+fn ends_tasks(answer: &Answer) -> bool
+    ensures { (st : State) (fallen : List TaskName) (t : TaskName) → result ≡ false
+        → ended_with t (full_answer st fallen t answer.now) ≡ [] }
+{
+    match answer {
+        Answer::Ended | Answer::Abended(_) => true,
+        Answer::NotRun
+        | Answer::NoName
+        | Answer::At(_)
+        | Answer::Rc0
+        | Answer::Granted(_)
+        | Answer::Rc4
+        | Answer::Cell
+        | Answer::NoCell
+        | Answer::Attached
+        | Answer::Done
+        | Answer::Data(_)
+        | Answer::Subpools
+        | Answer::Map => false,
+    }
+}
+
+// Returns whether a line ended tasks.
+fn has_ended_tasks(walk: &Walk, line_event: &LineEvent) -> bool
+    requires { IsAvailable walk.now line_event.now }
+    ensures { (number : ℕ) → result ≡ false
+        → ended_tasks (events_of_line number walk.now line_event.now) ≡ [] }
+{
+    match line_event {
+        LineEvent::Answered { answer, .. } => ends_tasks(answer),
+        LineEvent::Nothing | LineEvent::StepBegan { .. } | LineEvent::Faulted(_) => false,
+    }
+}
+
 // Finds what stays of the areas that tasks which ended obtained since they were attached.
 fn stays_in(areas: &mut AreaHistory, ended: EndedTaskList, job: &Job) -> Leaks
     ensures kept { areas.new ≡ areas.old }
@@ -329,7 +364,7 @@ impl Chronicle {
         self.found.anywhere = any;
         self.found.side = sought(request);
         if is_short(reason) {
-            self.found.held = self.areas.survey_by_index(&self.found.side, job);
+            self.found.held = self.areas.survey(&self.found.side, job);
         } else {
             self.found.held.clear();
         }
@@ -353,8 +388,8 @@ impl Chronicle {
         self.find(job, request, &reason, any);
     }
 
-    /// Finds which areas of the tasks that a line ended are still held after it.
-    pub(crate) fn settle(&mut self, walk: &Walk, line_event: &LineEvent)
+    // Finds what stays after a line that ended tasks.
+    fn find_stays(&mut self, walk: &Walk, line_event: &LineEvent)
         requires { IsAvailable walk.now line_event.now }
         ensures stays { (number : ℕ) → self.new.found.stays
             ≡ stays_of (history_of self.old) walk.now.step (ended_tasks (events_of_line number walk.now line_event.now)) }
@@ -367,6 +402,22 @@ impl Chronicle {
             Some(job) => stays_in(&mut self.areas, ended, job),
             None => Leaks::none(),
         };
+    }
+
+    /// Finds which areas of the tasks that a line ended are still held after it. A line that ended no task costs nothing.
+    pub(crate) fn settle(&mut self, walk: &Walk, line_event: &LineEvent)
+        requires { IsAvailable walk.now line_event.now }
+        ensures stays { (number : ℕ) → self.new.found.stays
+            ≡ stays_of (history_of self.old) walk.now.step (ended_tasks (events_of_line number walk.now line_event.now)) }
+        ensures found { found_in self.new.found ≡ found_in self.old.found }
+        ensures same { history_of self.new ≡ history_of self.old }
+        ensures read { self.new.read ≡ self.old.read }
+    {
+        if has_ended_tasks(walk, line_event) {
+            self.find_stays(walk, line_event);
+        } else {
+            self.found.stays.clear();
+        }
     }
 
     // Begins a step.

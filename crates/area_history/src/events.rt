@@ -1,14 +1,14 @@
 //! What lines of a step did to storage that was obtained before.
 
-ghost use Rattle.std.specs.Prelude.{◌≡◌, ◌≢◌, ◌≤◌, ◌+◌, ◌++◌, ◌∷◌, [], ℕ, Some, true, length, slice_get, OnErr, OnOk};
+ghost use Rattle.std.specs.Prelude.{◌≡◌, ◌≢◌, ◌<◌, ◌≤◌, ◌+◌, ◌++◌, ◌∷◌, [], ℕ, Some, true, length, slice_get, OnErr, OnOk};
 ghost use Rattle.mvs_model.specs.Storage.{covers};
 ghost use Rattle.area_history.specs.Histories.{all_ended, all_released, attach_of, event_of, fate, ended_at, frees, frees_area, owner_since, owner_after, start_of};
-ghost use Rattle.area_history.specs.ReleaseIndex.{AreEarlier, IsAmong, IsAscending};
+ghost use Rattle.area_history.specs.ReleaseIndex.{AreEarlier, IsAmong, IsAscending, IsReleaseIndex};
 ghost use Rattle.area_history.specs.declared.events.StorageEvent.{StorageEvent as TheEvent};
 
 use crate::grant::{AreaGrant, EndedTask, TaskStart};
 use crate::release_index::ReleaseIndex;
-use job_script::is_same_name;
+use line_text::is_same_name;
 use mvs_model::error::OutOfMemory;
 use mvs_model::gifts::Gifts;
 use mvs_model::name::Name;
@@ -210,22 +210,25 @@ fn fate_from(
     None
 }
 
-// Returns what frees a doubleword of an area: one of the changes with some numbers, or one at or after an end.
+// Returns what frees a doubleword of an area: one of the changes that concern its subpool, or one at or after an end.
 fn fate_among(
     events: &[StorageEvent],
-    numbers: &[u32],
+    index: &ReleaseIndex,
+    first: usize,
     end: usize,
     doubleword: u32,
     grant: &AreaGrant,
 ) -> Option<StorageEvent>
+    requires index { IsReleaseIndex index.now events.now }
+    requires known { (i : ℕ) → first ≤ i → i < end → i < index.now.count }
     requires within { end ≤ length events.now }
-    requires among { IsAmong doubleword grant.now grant.now.owner events.now numbers.now end }
+    requires among { IsAmong doubleword grant.now grant.now.owner events.now first end }
     ensures { result ≡ fate doubleword grant.now grant.now.owner events.now }
 {
     let mut owner = grant.owner;
-    let mut done = 0;
-    'numbers: while done < numbers.len() {
-        let number = numbers[done] as usize;
+    let mut from = first;
+    'changes: while from < end {
+        let number = index.next(&owner, grant.subpool, from);
         if end <= number {
             return fate_from(&events[end..], doubleword, grant, owner);
         }
@@ -234,7 +237,7 @@ fn fate_among(
             return Some(*event);
         }
         owner = event.owner_since(grant, owner);
-        done += 1;
+        from = number + 1;
     }
     fate_from(&events[end..], doubleword, grant, owner)
 }
@@ -316,8 +319,8 @@ impl StorageEvents {
         self.push_ended(line, task, ended)
     }
 
-    /// Returns what freed a doubleword of an area after it was obtained, if something did. Each change is indexed in one call only, if
-    /// memory allows.
+    /// Returns what freed a doubleword of an area after it was obtained, if something did. It looks at the changes that concern the
+    /// subpool of the area. Each change is indexed in one call only, if memory allows.
     pub(crate) fn fate(&mut self, doubleword: u32, grant: &AreaGrant) -> Option<StorageEvent>
         ensures fate { result
             ≡ fate doubleword grant.now grant.now.owner self.old }
@@ -327,8 +330,7 @@ impl StorageEvents {
         self.index.add_rest(events);
         let first = first_after(events, self.is_ascending, grant.line);
         let end = self.index.quiet_end(doubleword, first);
-        let others = self.index.others_from(first);
-        fate_among(events, others, end, doubleword, grant)
+        fate_among(events, &self.index, first, end, doubleword, grant)
     }
 
     // Returns when a task was attached last.

@@ -198,13 +198,17 @@ impl Findings {
         }
     }
 
-    /// Forgets what was found of a refusal.
+    /// Forgets what was found of a refusal. If nothing was, it writes little: an address and a side are long.
     pub(crate) fn clear(&mut self)
         ensures { found_in self.new ≡ nothing_found }
     {
-        self.address = None;
+        if self.address.is_some() {
+            self.address = None;
+        }
         self.anywhere = None;
-        self.side = Selection::All;
+        if !self.side.is_all() {
+            self.side = Selection::All;
+        }
         self.held.clear();
     }
 }

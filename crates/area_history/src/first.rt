@@ -12,15 +12,3 @@ pub(crate) fn push<T: Copy, const MOST: usize>(list: &mut ShortList<T, 0, MOST>,
         list.push(*item);
     }
 }
-
-/// Appends items, as long as there is room.
-pub(crate) fn push_all<T: Copy, const MOST: usize>(list: &mut ShortList<T, 0, MOST>, items: &[T])
-    ensures { list.new ≡ take MOST (list.old ++ items.now) }
-{
-    let _ = list.as_slice();
-    let Some((item, items)) = items.split_first() else {
-        return;
-    };
-    push(list, item);
-    push_all(list, items);
-}

@@ -1,7 +1,7 @@
 //! How a report of leaks is written, and what the history says of a line.
 
 ghost use Rattle.std.specs.Prelude.{◌≡◌, [], List, ℕ, refl};
-ghost use Rattle.job_script.specs.Writing.{Prints};
+ghost use Rattle.line_text.specs.Writing.{Prints};
 ghost use Rattle.area_history.specs.Histories.{findings_of, nothing_found};
 ghost use Rattle.area_history.specs.HistoryTexts.{findings_text};
 ghost use Rattle.area_history.specs.JsonHistories.{json_findings};

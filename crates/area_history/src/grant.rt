@@ -5,7 +5,7 @@ ghost use Rattle.mvs_model.specs.declared.name.Name.{Name as TaskName};
 ghost use Rattle.std.specs.List.{list_any};
 ghost use Rattle.area_history.specs.Leaking.{has_obtained, selects};
 
-use job_script::is_same_name;
+use line_text::is_same_name;
 use mvs_model::name::Name;
 use mvs_model::numbers::{ABOVE_BEGINS, MOST_TASKS};
 use mvs_model::place::Place;
@@ -73,6 +73,16 @@ fn any_obtained(tasks: &[EndedTask], grant: &AreaGrant) -> bool
 }
 
 impl Selection {
+    /// Returns whether all areas are looked at.
+    pub(crate) fn is_all(&self) -> bool
+        ensures { result ≡ true → self.now ≡ Selection.All }
+    {
+        match self {
+            Selection::All => true,
+            Selection::EndedWith(_) | Selection::Below => false,
+        }
+    }
+
     /// Returns whether an area is looked at.
     pub fn selects(&self, grant: &AreaGrant) -> bool
         ensures { result ≡ selects self.now grant.now }

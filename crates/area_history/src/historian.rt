@@ -1,7 +1,7 @@
 //! A run, and what the history of its storage shows about each line.
 
 ghost use Rattle.std.specs.Prelude.{◌≡◌, List, ℕ};
-ghost use Rattle.job_script.specs.Writing.{Prints};
+ghost use Rattle.line_text.specs.Writing.{Prints};
 ghost use Rattle.area_history.specs.Chronicles.{HearsHistory, IsHistory, SeesLine};
 ghost use Rattle.area_history.specs.Histories.{history_from, no_history, with_history};
 

@@ -1,6 +1,6 @@
 //! The areas that were granted in the step that runs.
 
-ghost use Rattle.std.specs.Prelude.{◌≡◌, ◌+◌, ◌/◌, ◌++◌, ◌∷◌, [], drop, length, take, OnOk};
+ghost use Rattle.std.specs.Prelude.{◌≡◌, ◌≤◌, ◌+◌, ◌/◌, ◌++◌, ◌∷◌, [], drop, length, take, OnOk};
 ghost use Rattle.area_history.specs.Histories.{later_two, no_two, two_after};
 ghost use Rattle.area_history.specs.Leaking.{has_doubleword, leaks, ranked, selects, total};
 ghost use Rattle.area_history.specs.Totals.{by_subpool, by_task};
@@ -11,7 +11,6 @@ use crate::largest::Leaks;
 use crate::last_areas::LastAreas;
 use crate::marks::Marks;
 use crate::tally::{tally, unmark};
-use crate::visible::VisibleAreas;
 use mvs_model::error::OutOfMemory;
 use mvs_model::place::Place;
 use std::alloc::Global;
@@ -21,8 +20,6 @@ use std::marker::Model;
 #[derive(Drop)]
 pub struct AreaHistory {
     grants: Vec<AreaGrant>,
-    // The areas that may still hold storage. A survey forgets those that later ones cover.
-    visible: VisibleAreas,
     // Between two calls nothing is marked.
     marks: Marks,
     // It has the areas that were granted before it was needed last.
@@ -33,13 +30,13 @@ impl Model for AreaHistory {
     ghost use Rattle.std.specs.Prelude.{List};
     ghost use Rattle.area_history.specs.declared.grant.AreaGrant.{AreaGrant};
     ghost use Rattle.area_history.specs.LastAreas.{IsIndexOf};
-    ghost use Rattle.area_history.specs.Leaking.{Fit, HasSameLeaks, IsClear};
+    ghost use Rattle.area_history.specs.Leaking.{Fit, IsClear};
 
     ghost Value = { List AreaGrant };
 
     ghost view = { λ h. h.grants.items };
 
-    ghost invariant = { λ h. IsClear h.marks × Fit h.marks h.grants.items × Fit h.marks h.visible × HasSameLeaks h.visible h.grants.items × IsIndexOf h.last_areas h.grants.items };
+    ghost invariant = { λ h. IsClear h.marks × Fit h.marks h.grants.items × IsIndexOf h.last_areas h.grants.items };
 }
 
 // Returns whether a place has a doubleword.
@@ -83,7 +80,6 @@ impl AreaHistory {
     {
         AreaHistory {
             grants: Vec::new(alloc),
-            visible: VisibleAreas::new(alloc),
             marks: Marks::new(alloc),
             last_areas: LastAreas::new(alloc),
         }
@@ -94,7 +90,6 @@ impl AreaHistory {
         ensures { self.new ≡ [] }
     {
         self.grants.clear();
-        self.visible.clear();
         self.last_areas.clear();
     }
 
@@ -104,10 +99,6 @@ impl AreaHistory {
     {
         self.marks.grow(grant.place, false)?;
         let Ok(()) = self.grants.push(*grant) else {
-            return Err(OutOfMemory);
-        };
-        let Ok(()) = self.visible.push(grant) else {
-            self.grants.pop();
             return Err(OutOfMemory);
         };
         Ok(())
@@ -131,7 +122,29 @@ impl AreaHistory {
         self.grants.len()
     }
 
-    /// Returns what is left in a step of selected areas, but for the first ones.
+    // Returns what is left in a step of the selected areas from one of them on. It marks all their doublewords.
+    fn mark_from<P: Holdings>(&mut self, first: usize, which: &Selection, step: &P) -> Leaks
+        requires { first ≤ length self.old }
+        ensures kept { self.new ≡ self.old }
+        ensures largest { result.largest
+            ≡ take 10 (ranked (leaks (selects which.now) (P.plain step.now) (drop first self.old))) }
+        ensures count { result.count
+            ≡ length (leaks (selects which.now) (P.plain step.now) (drop first self.old)) }
+        ensures bytes { result.bytes
+            ≡ total (leaks (selects which.now) (P.plain step.now) (drop first self.old)) }
+        ensures subpools { result.subpools
+            ≡ take 10 (by_subpool (leaks (selects which.now) (P.plain step.now) (drop first self.old))) }
+        ensures tasks { result.tasks
+            ≡ take 10 (by_task (leaks (selects which.now) (P.plain step.now) (drop first self.old))) }
+    {
+        let found = tally(&self.grants[first..], &mut self.marks, which, step);
+        unmark(&self.grants[first..], &mut self.marks);
+        found
+    }
+
+    /// Returns what is left in a step of the selected areas from one of them on. It takes one look at an area that is held and
+    /// overlaps no later one, and none at an area that later ones cover. Each area is indexed in one call only. If memory is exhausted,
+    /// it marks the doublewords of all of them.
     pub(crate) fn survey_from<P: Holdings>(
         &mut self,
         first: usize,
@@ -153,9 +166,12 @@ impl AreaHistory {
         if first > self.grants.len() {
             return Leaks::none();
         }
-        let found = tally(&self.grants[first..], &mut self.marks, which, step);
-        unmark(&self.grants[first..], &mut self.marks);
-        found
+        let grants = self.grants.as_slice();
+        self.last_areas.renew(grants);
+        if self.last_areas.len() < grants.len() {
+            return self.mark_from(first, which, step);
+        }
+        self.last_areas.tally_from(first, grants, which, step)
     }
 
     /// Returns what is left of selected areas in a step.
@@ -170,31 +186,6 @@ impl AreaHistory {
         ensures tasks { result.tasks
             ≡ take 10 (by_task (leaks (selects which.now) (P.plain step.now) self.old)) }
     {
-        // If memory is exhausted, it looks at all areas that it has.
-        let _ = self.visible.prune(&mut self.marks);
-        let found = tally(self.visible.as_slice(), &mut self.marks, which, step);
-        unmark(self.visible.as_slice(), &mut self.marks);
-        found
-    }
-
-    /// Returns what `survey` returns. It takes one look at an area that is held and overlaps no later one, and none at an
-    /// area that later ones cover. Each area is indexed in one call only, if memory allows.
-    pub(crate) fn survey_by_index<P: Holdings>(&mut self, which: &Selection, step: &P) -> Leaks
-        ensures kept { self.new ≡ self.old }
-        ensures largest { result.largest
-            ≡ take 10 (ranked (leaks (selects which.now) (P.plain step.now) self.old)) }
-        ensures count { result.count ≡ length (leaks (selects which.now) (P.plain step.now) self.old) }
-        ensures bytes { result.bytes ≡ total (leaks (selects which.now) (P.plain step.now) self.old) }
-        ensures subpools { result.subpools
-            ≡ take 10 (by_subpool (leaks (selects which.now) (P.plain step.now) self.old)) }
-        ensures tasks { result.tasks
-            ≡ take 10 (by_task (leaks (selects which.now) (P.plain step.now) self.old)) }
-    {
-        let grants = self.grants.as_slice();
-        self.last_areas.renew(grants);
-        if self.last_areas.len() < grants.len() {
-            return self.survey(which, step);
-        }
-        self.last_areas.tally(grants, which, step)
+        self.survey_from(0, which, step)
     }
 }

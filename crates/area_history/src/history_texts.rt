@@ -2,7 +2,7 @@
 
 ghost use Rattle.std.specs.Prelude.{◌≡◌, ◌≤◌, ◌+◌, ◌-◌, ◌++◌, List, length, take};
 ghost use Rattle.std.specs.List.{flat_map};
-ghost use Rattle.job_script.specs.Writing.{Prints};
+ghost use Rattle.line_text.specs.Writing.{Prints};
 ghost use Rattle.area_history.specs.HistoryTexts.{address_text, anywhere_line, anywhere_text, anywhere_words, area_text, earlier, event_text, fate_line, fate_text, findings_text, freed_text, held_heading, held_text, history_text, is_text, number_line, side_text, some_fate_text, some_held, stay_line, stay_text, stays_text};
 ghost use Rattle.area_history.specs.declared.grant.Leak.{Leak as TheLeak};
 ghost use Rattle.area_history.specs.LeakTexts.{leak_line, more_line, starred, totals_text};
@@ -15,8 +15,8 @@ use crate::texts::{
     end_line, print_each, print_more, print_totals, push_areas, push_left, push_number,
     push_origin, push_subpool,
 };
-use job_script::text::LineText;
-use job_script::write_all;
+use line_text::text::LineText;
+use line_text::write_all;
 use mvs_model::place::Addr;
 use mvs_model::watched::{Failed, Watched};
 use std::io::Write;
@@ -343,7 +343,7 @@ fn print_held_and_stays<W: Write>(writer: &mut Watched<W>, found: &Findings) -> 
     print_stays(writer, &found.stays)
 }
 
-// Prints what is said of storage: what fits with LOC=ANY, who has it, and what stays.
+// Prints the findings about storage: what fits with LOC=ANY, who has it, and what stays.
 fn print_storage<W: Write>(writer: &mut Watched<W>, found: &Findings) -> Result<(), Failed>
     ensures { Prints W.contents writer.old writer.new result
         (anywhere_text found.now.anywhere ++ (held_text found.now.side found.now.held ++ stays_text found.now.stays)) }

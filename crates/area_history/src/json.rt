@@ -2,7 +2,7 @@
 
 ghost use Rattle.std.specs.Prelude.{◌≡◌, ◌≤◌, ◌+◌, ◌++◌, length};
 ghost use Rattle.std.specs.List.{flat_map};
-ghost use Rattle.job_script.specs.Writing.{Prints};
+ghost use Rattle.line_text.specs.Writing.{Prints};
 ghost use Rattle.area_history.specs.JsonReports.{area_object, bytes_member, capped, group_members, json_report, leak_head, leaks_line, origin_members, place_members, pool_object, subpool_members, total_head, total_object};
 
 use crate::account::Leftovers;
@@ -10,8 +10,8 @@ use crate::grant::Leak;
 use crate::largest::Leaks;
 use crate::pools::PoolLeft;
 use crate::totals::{Group, Total};
-use job_script::text::LineText;
-use job_script::write_all;
+use line_text::text::LineText;
+use line_text::write_all;
 use mvs_model::name::Name;
 use mvs_model::place::Place;
 use mvs_model::subpool::SubNo;
@@ -133,7 +133,7 @@ fn print_leak<W: Write>(writer: &mut Watched<W>, head: &[u8], leak: &Leak) -> Re
     write_all(writer, text.as_slice())
 }
 
-/// Prints the lines of areas, each of which begins so.
+/// Prints the lines of areas. Each begins with this text.
 pub(crate) fn print_each<W: Write>(
     writer: &mut Watched<W>,
     head: &[u8],
@@ -196,7 +196,7 @@ fn print_total<W: Write>(writer: &mut Watched<W>, head: &[u8], total: &Total) ->
     write_all(writer, text.as_slice())
 }
 
-/// Prints the lines of totals, each of which begins so.
+/// Prints the lines of totals. Each begins with this text.
 pub(crate) fn print_totals<W: Write>(
     writer: &mut Watched<W>,
     head: &[u8],

@@ -2,7 +2,7 @@
 
 ghost use Rattle.std.specs.Prelude.{◌≡◌, ◌≤◌, ◌+◌, ◌++◌, length, take};
 ghost use Rattle.std.specs.List.{flat_map};
-ghost use Rattle.job_script.specs.Writing.{Prints};
+ghost use Rattle.line_text.specs.Writing.{Prints};
 ghost use Rattle.area_history.specs.JsonHistories.{address_objects, anywhere_object, anywhere_objects, area_members, by_members, change_members, counts_members, end_members, fate_members, fate_object, freed_members, held_object, held_objects, held_total_head, history_objects, holder_head, json_findings, side_word, some_fate_object, some_held_objects, some_stays_objects, stay_head, stays_object, stays_objects, whole_members};
 ghost use Rattle.area_history.specs.JsonReports.{area_object, total_object};
 
@@ -12,8 +12,8 @@ use crate::grant::{AreaGrant, Selection};
 use crate::history_texts::{earlier, held_lines};
 use crate::json::{print_each, print_totals, push_capped, push_origin, push_place, push_subpool};
 use crate::largest::Leaks;
-use job_script::text::LineText;
-use job_script::write_all;
+use line_text::text::LineText;
+use line_text::write_all;
 use mvs_model::name::Name;
 use mvs_model::place::Addr;
 use mvs_model::subpool::SubNo;
@@ -382,7 +382,7 @@ fn print_held_and_stays<W: Write>(writer: &mut Watched<W>, found: &Findings) -> 
     print_stays(writer, &found.stays)
 }
 
-// Prints what is said of storage: what fits with LOC=ANY, who has it, and what stays.
+// Prints the findings about storage: what fits with LOC=ANY, who has it, and what stays.
 fn print_storage<W: Write>(writer: &mut Watched<W>, found: &Findings) -> Result<(), Failed>
     ensures { Prints W.contents writer.old writer.new result
         (anywhere_objects found.now.anywhere ++ (held_objects found.now.side found.now.held ++ stays_objects found.now.stays)) }

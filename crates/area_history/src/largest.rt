@@ -1,23 +1,38 @@
 //! The largest leaks of a step.
 
-ghost use Rattle.std.specs.Prelude.{◌≡◌, ◌<◌, ◌≤◌, ◌+◌, ◌*◌, ◌^◌, ◌∷◌, ◌++◌, [], List, length, nat_lt, take};
+ghost use Rattle.std.specs.Prelude.{◌≡◌, ◌<◌, ◌≤◌, ◌+◌, ◌*◌, ◌^◌, ◌↔◌, ◌∷◌, ◌++◌, [], IsTrue, List, length, nat_lt, take};
 ghost use Rattle.area_history.specs.Leaking.{ahead, leak_of, ranked, total};
 ghost use Rattle.area_history.specs.Totals.{AreWithin, added, by_subpool, by_task, group_of_subpool, group_of_task};
 ghost use Rattle.area_history.specs.declared.grant.Leak.{Leak as TheLeak};
 
-use crate::first::{push, push_all};
 use crate::grant::{AreaGrant, Leak};
-use crate::totals::{Group, Totals, no_totals, push_added};
+use crate::totals::{Group, Totals};
 use mvs_model::name::Name;
 use mvs_model::place::{Addr, Place};
-use mvs_model::short_list::ShortList;
 use mvs_model::subpool::SubNo;
+use std::marker::Model;
+use std::mem::swap;
 
 /// The most leaks that have a line of their own.
 pub(crate) const MOST_LINES: usize = 10;
 
-/// The largest leaks, in their order.
-pub(crate) type Largest = ShortList<Leak, 0, MOST_LINES>;
+/// The largest leaks, in their order, in an array. Array elements after them are not part of the value.
+#[derive(Drop)]
+pub(crate) struct Largest {
+    items: [Leak; MOST_LINES],
+    len: usize,
+}
+
+impl Model for Largest {
+    ghost use Rattle.std.specs.Prelude.{List, take, ◌≤◌};
+    ghost use Rattle.area_history.specs.declared.grant.Leak.{Leak};
+
+    ghost Value = { List Leak };
+
+    ghost view = { λ l. take l.len l.items };
+
+    ghost invariant = { λ l. l.len ≤ 10 };
+}
 
 /// What is left of areas: the ten largest, how many there are, how many bytes they have together, and their totals by subpool
 /// and by task, the last area first.
@@ -31,38 +46,102 @@ pub struct Leaks {
     pub(crate) tasks: Totals,
 }
 
-// Makes an empty list of leaks.
-fn none() -> Largest
-    ensures { result ≡ [] }
+// Puts a leak before the first of some. It becomes the last one, which has no place any more.
+fn shift(leaks: &mut [Leak], leak: &mut Leak)
+    ensures len { length leaks.new ≡ length leaks.old }
+    ensures all { leaks.new ++ leak.new ∷ [] ≡ leak.old ∷ leaks.old }
 {
-    let name = Name::of(b"NONE");
-    Largest::empty(Leak {
-        grant: AreaGrant {
+    let Some((first, others)) = leaks.split_first_mut() else {
+        return;
+    };
+    swap(first, leak);
+    shift(others, leak);
+}
+
+// Puts a leak before the first that is not larger. It becomes the last one, which has no place any more.
+fn put_ahead(leaks: &mut [Leak], leak: &mut Leak)
+    ensures len { length leaks.new ≡ length leaks.old }
+    ensures all { leaks.new ++ leak.new ∷ [] ≡ ahead leak.old leaks.old }
+{
+    let Some((first, others)) = leaks.split_first_mut() else {
+        return;
+    };
+    if first.bytes > leak.bytes {
+        put_ahead(others, leak);
+        return;
+    }
+    swap(first, leak);
+    shift(others, leak);
+}
+
+impl Largest {
+    // Makes an empty list.
+    fn none() -> Largest
+        ensures { result ≡ [] }
+    {
+        let name = Name::of(b"NONE");
+        let grant = AreaGrant {
             area: name,
             place: Place::new(Addr::new(0), 8),
             line: 0,
             task: name,
             subpool: SubNo::of(0),
             owner: name,
-        },
-        bytes: 0,
-    })
-}
+        };
+        Largest {
+            items: [Leak { grant, bytes: 0 }; MOST_LINES],
+            len: 0,
+        }
+    }
 
-// Appends leaks with one more, before the first that is not larger, as long as there is room.
-fn push_ahead(list: &mut Largest, leak: &Leak, leaks: &[Leak])
-    ensures { list.new ≡ take 10 (list.old ++ ahead leak.now leaks.now) }
-{
-    let Some((first, others)) = leaks.split_first() else {
-        push(list, leak);
-        return;
-    };
-    if first.bytes <= leak.bytes {
-        push(list, leak);
-        push_all(list, leaks);
-    } else {
-        push(list, first);
-        push_ahead(list, leak, others);
+    /// Returns the leaks.
+    pub(crate) fn as_slice(&self) -> &[Leak]
+        ensures items { result.now ≡ self.now }
+        ensures most { length result.now ≤ 10 }
+    {
+        &self.items[..self.len]
+    }
+
+    // Removes all leaks.
+    fn clear(&mut self)
+        ensures { self.new ≡ [] }
+    {
+        self.len = 0;
+    }
+
+    // Returns whether there is no room for another leak.
+    fn is_full(&self) -> bool
+        ensures full { IsTrue result ↔ (length self.now ≡ 10) }
+        ensures most { length self.now ≤ 10 }
+    {
+        self.as_slice().len() == MOST_LINES
+    }
+
+    // Appends a leak.
+    fn put(&mut self, leak: Leak)
+        requires { length self.old < 10 }
+        ensures { self.new ≡ self.old ++ leak ∷ [] }
+    {
+        self.items[self.len] = leak;
+        self.len += 1;
+    }
+
+    // Appends a leak, if there is room.
+    fn push(&mut self, leak: Leak)
+        ensures { self.new ≡ take 10 (self.old ++ leak ∷ []) }
+    {
+        if !self.is_full() {
+            self.put(leak);
+        }
+    }
+
+    // Puts a leak before the first that is not larger.
+    fn insert(&mut self, leak: Leak)
+        ensures { self.new ≡ take 10 (ahead leak self.old) }
+    {
+        let mut last = leak;
+        put_ahead(&mut self.items[..self.len], &mut last);
+        self.push(last);
     }
 }
 
@@ -76,11 +155,11 @@ impl Leaks {
         ensures tasks { result.tasks ≡ [] }
     {
         Leaks {
-            largest: none(),
+            largest: Largest::none(),
             count: 0,
             bytes: 0,
-            subpools: no_totals(),
-            tasks: no_totals(),
+            subpools: Totals::none(),
+            tasks: Totals::none(),
         }
     }
 
@@ -98,22 +177,9 @@ impl Leaks {
         ensures tasks { self.new.tasks
             ≡ take 10 (added (group_of_task leak.now.grant) leak.now.bytes self.old.tasks) }
     {
-        let mut subpools = no_totals();
-        let mut tasks = no_totals();
-        push_added(
-            &mut subpools,
-            &Group::of_subpool(&leak.grant),
-            leak.bytes,
-            self.subpools.as_slice(),
-        );
-        push_added(
-            &mut tasks,
-            &Group::of_task(&leak.grant),
-            leak.bytes,
-            self.tasks.as_slice(),
-        );
-        self.subpools = subpools;
-        self.tasks = tasks;
+        self.subpools
+            .add(&Group::of_subpool(&leak.grant), leak.bytes);
+        self.tasks.add(&Group::of_task(&leak.grant), leak.bytes);
     }
 
     // Adds a leak that is before the others.
@@ -132,9 +198,7 @@ impl Leaks {
             ≡ take 10 (added (group_of_task leak.now.grant) leak.now.bytes self.old.tasks) }
     {
         self.add_totals(leak);
-        let mut largest = none();
-        push_ahead(&mut largest, leak, self.largest.as_slice());
-        self.largest = largest;
+        self.largest.insert(*leak);
         self.count += 1;
         self.bytes += u128::from(leak.bytes);
     }

@@ -1,6 +1,6 @@
 //! The last two areas that have each doubleword, and what is left of areas by them.
 
-ghost use Rattle.std.specs.Prelude.{◌≡◌, ◌<◌, ◌≤◌, ◌+◌, ◌/◌, ◌^◌, ◌++◌, ◌∷◌, ◌&&◌, ◌==◌, [], ℕ, List, cond, false, not, true, length, take, IfOk, OnOk, ◌⊎◌};
+ghost use Rattle.std.specs.Prelude.{◌≡◌, ◌<◌, ◌≤◌, ◌+◌, ◌/◌, ◌^◌, ◌++◌, ◌∷◌, ◌&&◌, ◌==◌, [], ℕ, List, cond, drop, false, not, true, length, take, if◌then◌else◌, IfOk, OnOk, ◌⊎◌};
 ghost use Rattle.mvs_model.specs.Finite.{count_below};
 ghost use Rattle.area_history.specs.Histories.{no_two, two_after};
 ghost use Rattle.area_history.specs.LastAreas.{AreVisible, IsHidden, IsIndexOf, IsWhole, area_of, is_last, is_whole, later_numbers, no_numbers, numbers_at};
@@ -12,7 +12,6 @@ use crate::by_doubleword::ByDoubleword;
 use crate::findings::LastTwo;
 use crate::grant::{AreaGrant, Holdings, Selection};
 use crate::largest::Leaks;
-use crate::tally::selected;
 use mvs_model::error::OutOfMemory;
 use mvs_model::place::Place;
 use std::alloc::Global;
@@ -245,7 +244,7 @@ impl LastAreas {
         self.visible = kept;
     }
 
-    /// Adds the areas that it does not have, as far as memory and its numbers go.
+    /// Adds the areas that it does not have, until memory or its numbers are exhausted.
     pub(crate) fn add_rest(&mut self, grants: &[AreaGrant])
         requires { IsIndexOf self.old grants.now }
         ensures { IsIndexOf self.new grants.now }
@@ -348,33 +347,60 @@ impl LastAreas {
         }
     }
 
-    /// Returns what is left of selected areas in a step, if all were added. It goes from the last area to the first.
-    pub(crate) fn tally<P: Holdings>(
+    // Counts the doublewords of an area that are held and are in no later area, if the area is selected.
+    fn count_selected<P: Holdings>(
         &self,
+        number: u32,
+        grant: &AreaGrant,
+        which: &Selection,
+        step: &P,
+    ) -> u32
+        requires few { number + 1 < 2 ^ 32 }
+        requires whole { is_whole self.now number ≡ true → IsWhole self.now number grant.now.place }
+        ensures count { result ≡ (if selects which.now grant.now then count_below (grant.now.place.len / 8)
+            (λ k. P.plain step.now (grant.now.place.addr / 8 + k) && is_last self.now number (grant.now.place.addr / 8 + k)) else 0) }
+        ensures most { result ≤ 2 ^ 28 }
+    {
+        if !which.selects(grant) {
+            return 0;
+        }
+        self.count_left(number, grant.place, step)
+    }
+
+    /// Returns what is left in a step of the selected areas from one of them on, if all areas are in the index. The last area comes
+    /// first.
+    pub(crate) fn tally_from<P: Holdings>(
+        &self,
+        first: usize,
         grants: &[AreaGrant],
         which: &Selection,
         step: &P,
     ) -> Leaks
+        requires first { first ≤ length grants.now }
         requires index { IsIndexOf self.now grants.now }
         requires all { self.now.count ≡ length grants.now }
         ensures largest { result.largest
-            ≡ take 10 (ranked (leaks (selects which.now) (P.plain step.now) grants.now)) }
-        ensures count { result.count ≡ length (leaks (selects which.now) (P.plain step.now) grants.now) }
-        ensures bytes { result.bytes ≡ total (leaks (selects which.now) (P.plain step.now) grants.now) }
+            ≡ take 10 (ranked (leaks (selects which.now) (P.plain step.now) (drop first grants.now))) }
+        ensures count { result.count
+            ≡ length (leaks (selects which.now) (P.plain step.now) (drop first grants.now)) }
+        ensures bytes { result.bytes
+            ≡ total (leaks (selects which.now) (P.plain step.now) (drop first grants.now)) }
         ensures subpools { result.subpools
-            ≡ take 10 (by_subpool (leaks (selects which.now) (P.plain step.now) grants.now)) }
+            ≡ take 10 (by_subpool (leaks (selects which.now) (P.plain step.now) (drop first grants.now))) }
         ensures tasks { result.tasks
-            ≡ take 10 (by_task (leaks (selects which.now) (P.plain step.now) grants.now)) }
+            ≡ take 10 (by_task (leaks (selects which.now) (P.plain step.now) (drop first grants.now))) }
     {
         let numbers = self.visible.as_slice();
         let mut found = Leaks::none();
         let mut rest = numbers.len();
         'areas: while rest > 0 {
-            rest -= 1;
-            let number = numbers[rest];
+            let number = numbers[rest - 1];
+            if (number as usize) < first {
+                return found;
+            }
             let grant = &grants[number as usize];
-            let doublewords = self.count_left(number, grant.place, step);
-            found.add(grant, selected(which, grant, doublewords));
+            found.add(grant, self.count_selected(number, grant, which, step));
+            rest -= 1;
         }
         found
     }

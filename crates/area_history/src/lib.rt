@@ -20,6 +20,7 @@ mod last_areas;
 pub mod laws;
 mod marks;
 mod obtained;
+mod owner_index;
 mod pools;
 mod release_index;
 mod reporter;
@@ -28,7 +29,6 @@ mod tally;
 mod task_ends;
 mod texts;
 mod totals;
-mod visible;
 
 pub use account::{Account, Leftovers};
 pub use chronicle::Chronicle;

@@ -6,7 +6,7 @@ ghost use Rattle.mvs_model.specs.Pools.{part_length};
 
 use crate::first::push;
 use crate::grant::Holdings;
-use job_script::is_same_name;
+use line_text::is_same_name;
 use mvs_model::bounded::{CellCount, CellSize};
 use mvs_model::name::Name;
 use mvs_model::numbers::MOST_POOLS;

@@ -1,14 +1,18 @@
-//! An index of the changes of a step: which changes freed a doubleword last, and which ones concern whole subpools.
+//! An index of the changes of a step: which changes released a doubleword last, and which ones concern whole subpools.
 
-ghost use Rattle.std.specs.Prelude.{◌≡◌, ◌≢◌, ◌<◌, ◌≤◌, ◌+◌, ◌^◌, ◌++◌, ◌∷◌, [], ◌==◌, ℕ, List, IfSome, false, true, length};
+ghost use Rattle.std.specs.Prelude.{◌≡◌, ◌<◌, ◌≤◌, ◌+◌, ◌^◌, ◌==◌, ◌⊎◌, ℕ, List, IfSome, Some, false, true, length, slice_get};
 ghost use Rattle.mvs_model.specs.Storage.{covers};
 ghost use Rattle.area_history.specs.Leaking.{HasRoom, has_doubleword, has_room};
-ghost use Rattle.area_history.specs.ReleaseIndex.{AreOthers, IsFirstFrom, IsReleaseIndex, NoneReleases, later_releases, no_releases, releases_at};
+ghost use Rattle.area_history.specs.ReleaseIndex.{IsReleaseIndex, NoneReleases, concerns, first_code, has_code, later_releases, no_releases, releases_at};
 ghost use Rattle.area_history.specs.declared.events.StorageEvent.{StorageEvent as TheEvent};
+ghost use Rattle.mvs_model.specs.declared.name.Name.{Name as TaskName};
 
 use crate::by_doubleword::ByDoubleword;
 use crate::events::{StorageChange, StorageEvent};
+use crate::owner_index::OwnerIndex;
+use mvs_model::name::Name;
 use mvs_model::place::{Addr, Place};
+use mvs_model::subpool::SubNo;
 use std::alloc::Global;
 
 /// The last three changes that released a doubleword, by their numbers from 1 on, or 0.
@@ -19,12 +23,13 @@ pub(crate) struct LastReleases {
     earlier: u32,
 }
 
-/// For each doubleword, the last three changes that released it, and which changes are no releases of places, of those that were added.
+/// For each doubleword, the last three changes that released it, and for each subpool the changes that concern it, of those that were
+/// added.
 #[derive(Drop)]
 pub(crate) struct ReleaseIndex {
     releases: ByDoubleword<LastReleases>,
-    // The numbers, from 0 on, of the changes that are no releases of places.
-    others: Vec<u32>,
+    // By their numbers, from 0 on.
+    owners: OwnerIndex,
     // How many changes were added.
     count: u32,
 }
@@ -53,23 +58,6 @@ fn doublewords_of(place: Place) -> Option<Place>
     Some(Place::new(Addr::new(8 * first), 8 * count))
 }
 
-// Returns the place of the first number that is at or after another one; the length, if there is none.
-fn first_from(numbers: &[u32], least: usize) -> usize
-    ensures { IsFirstFrom numbers.now least result }
-{
-    let mut start = 0;
-    let mut end = numbers.len();
-    'halves: while start < end {
-        let middle = start + (end - start) / 2;
-        if (numbers[middle] as usize) < least {
-            start = middle + 1;
-        } else {
-            end = middle;
-        }
-    }
-    start
-}
-
 impl ReleaseIndex {
     /// Makes that of a step without changes. It allocates no memory.
     pub(crate) fn new(alloc: Global) -> ReleaseIndex
@@ -77,7 +65,7 @@ impl ReleaseIndex {
     {
         ReleaseIndex {
             releases: ByDoubleword::new(alloc),
-            others: Vec::new(alloc),
+            owners: OwnerIndex::new(alloc),
             count: 0,
         }
     }
@@ -87,7 +75,7 @@ impl ReleaseIndex {
         ensures { (events : List TheEvent) → IsReleaseIndex self.new events }
     {
         self.releases.reset();
-        self.others.clear();
+        self.owners.clear();
         self.count = 0;
     }
 
@@ -100,7 +88,7 @@ impl ReleaseIndex {
             → releases_at self.new d ≡ releases_at self.old d }
         ensures room { (d : ℕ) → has_room self.new.releases d ≡ has_room self.old.releases d }
         ensures count { self.new.count ≡ self.old.count }
-        ensures kept { self.new.others ≡ self.old.others }
+        ensures kept { self.new.owners ≡ self.old.owners }
     {
         let last = self.releases.get(doubleword, no_releases());
         self.releases.set(
@@ -119,7 +107,7 @@ impl ReleaseIndex {
         ensures releases { (d : ℕ) → releases_at self.new d
             ≡ later_releases (has_doubleword place d) number (releases_at self.old d) }
         ensures count { self.new.count ≡ self.old.count }
-        ensures kept { self.new.others ≡ self.old.others }
+        ensures kept { self.new.owners ≡ self.old.owners }
     {
         let (first, count) = (place.addr().get() / 8, place.len() / 8);
         for k in 0..count {
@@ -135,7 +123,7 @@ impl ReleaseIndex {
         ensures count { result ≡ true → self.new.count ≡ self.old.count + 1 }
         ensures same { result ≡ false → (d : ℕ) → releases_at self.new d ≡ releases_at self.old d }
         ensures same_count { result ≡ false → self.new.count ≡ self.old.count }
-        ensures kept { self.new.others ≡ self.old.others }
+        ensures kept { self.new.owners ≡ self.old.owners }
     {
         let Some(whole) = doublewords_of(place) else {
             return false;
@@ -150,17 +138,20 @@ impl ReleaseIndex {
     }
 
     // Adds a change that is no release of a place. Returns whether memory was enough.
-    fn add_other(&mut self) -> bool
+    fn add_other(&mut self, event: &StorageEvent) -> bool
         requires { self.old.count + 1 < 2 ^ 32 }
         ensures releases { self.new.releases ≡ self.old.releases }
         ensures count { result ≡ true → self.new.count ≡ self.old.count + 1 }
-        ensures others { result ≡ true → self.new.others.items ≡ self.old.others.items ++ self.old.count ∷ [] }
+        ensures added { result ≡ true → (owner : TaskName) (n : ℕ) → concerns owner n event.now ≡ true
+            → (has_code self.new.owners (first_code owner n + self.old.count) ≡ true)
+            ⊎ (has_code self.new.owners (first_code owner 255 + self.old.count) ≡ true) }
+        ensures kept { (code : ℕ) → has_code self.old.owners code ≡ true
+            → has_code self.new.owners code ≡ true }
         ensures same_count { result ≡ false → self.new.count ≡ self.old.count }
-        ensures same { result ≡ false → self.new.others.items ≡ self.old.others.items }
     {
-        let Ok(()) = self.others.push(self.count) else {
+        if !self.owners.add(event, self.count) {
             return false;
-        };
+        }
         self.count += 1;
         true
     }
@@ -173,14 +164,15 @@ impl ReleaseIndex {
         ensures index { IsReleaseIndex self.new events.now }
         ensures count { result ≡ true → self.new.count ≡ self.old.count + 1 }
     {
-        match &events[self.count as usize].change {
+        let event = &events[self.count as usize];
+        match &event.change {
             StorageChange::Released(place) => self.add_release(*place),
             StorageChange::Emptied(..) | StorageChange::Ended(_) | StorageChange::Attached { .. } =>
-                { self.add_other() }
+                { self.add_other(event) }
         }
     }
 
-    /// Adds the changes that it does not have, as far as memory and its numbers go.
+    /// Adds the changes that it does not have, until memory or its numbers are exhausted.
     pub(crate) fn add_rest(&mut self, events: &[StorageEvent])
         requires { IsReleaseIndex self.old events.now }
         ensures { IsReleaseIndex self.new events.now }
@@ -214,12 +206,13 @@ impl ReleaseIndex {
         }
     }
 
-    /// Returns the numbers of the changes that are no releases of places, from the first that is at or after a number.
-    pub(crate) fn others_from(&self, from: usize) -> &[u32]
-        ensures { (events : List TheEvent) → IsReleaseIndex self.now events
-            → AreOthers from result.now self.now.count events }
+    /// Returns a number that is not before another one. No change between them concerns the subpool that an owner has under a number.
+    pub(crate) fn next(&self, owner: &Name, number: SubNo, from: usize) -> usize
+        ensures from { from ≤ result }
+        ensures none { (events : List TheEvent) → IsReleaseIndex self.now events
+            → (i : ℕ) (e : TheEvent) → slice_get events i ≡ Some e → from ≤ i → i < result
+            → i < self.now.count → concerns owner.now number e ≡ false }
     {
-        let first = first_from(self.others.as_slice(), from);
-        &self.others[first..]
+        self.owners.next(owner, number.get(), from)
     }
 }

@@ -1,7 +1,7 @@
 //! A run with a report of leaks at the end of each step.
 
 ghost use Rattle.std.specs.Prelude.{◌≡◌, ◌≤◌, ◌++◌, List, ℕ, drop, false, length, take};
-ghost use Rattle.job_script.specs.Writing.{Prints};
+ghost use Rattle.line_text.specs.Writing.{Prints};
 ghost use Rattle.area_history.specs.Accounts.{IsLedger, IsLooked, IsObserved, Sees, closes_step};
 ghost use Rattle.mvs_job.specs.LineEvents.{WalkValue, events_of_line};
 ghost use Rattle.std.specs.List.{list_any};
@@ -11,7 +11,7 @@ ghost use Rattle.area_history.specs.Reporting.{Knows, after_first_line, with_lea
 use crate::account::{Account, Leftovers};
 use crate::format::ReportFormat;
 use crate::texts::line_len;
-use job_script::write_all;
+use line_text::write_all;
 use mvs_job::{Consumer, End, Job, LineEvent, Observer, Stop, Walk};
 use mvs_model::name::Name;
 use mvs_model::reason::Shortfall;

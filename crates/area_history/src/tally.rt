@@ -8,14 +8,14 @@ use crate::grant::{AreaGrant, Holdings, Selection};
 use crate::largest::Leaks;
 use crate::marks::Marks;
 
-/// Returns the doublewords of an area, if it is selected.
-pub(crate) fn selected(which: &Selection, grant: &AreaGrant, doublewords: u32) -> u32
+// Returns the doublewords of an area, if it is selected.
+fn selected(which: &Selection, grant: &AreaGrant, doublewords: u32) -> u32
     ensures { result ≡ (if selects which.now grant.now then doublewords else 0) }
 {
     if which.selects(grant) { doublewords } else { 0 }
 }
 
-// Returns what is left of selected areas. It goes from the last area to the first, and marks the doublewords of each.
+// Returns what is left of the selected areas, the last one first. It marks the doublewords of each area.
 pub(crate) fn tally<P: Holdings>(
     grants: &[AreaGrant],
     marks: &mut Marks,

@@ -2,9 +2,9 @@
 
 ghost use Rattle.std.specs.Prelude.{◌≡◌, ◌≤◌, ◌<◌, ◌+◌, ◌-◌, ◌++◌, ◌==◌, length};
 ghost use Rattle.std.specs.List.{flat_map, position_or_len};
-ghost use Rattle.job_script.specs.FactTexts.{subpool_words};
-ghost use Rattle.job_script.specs.ReasonTexts.{one_line};
-ghost use Rattle.job_script.specs.Writing.{Prints};
+ghost use Rattle.explanation.specs.FactTexts.{subpool_words};
+ghost use Rattle.explanation.specs.ReasonTexts.{one_line};
+ghost use Rattle.line_text.specs.Writing.{Prints};
 ghost use Rattle.area_history.specs.LeakTexts.{areas_report, areas_text, group_text, heading_text, leak_line, leak_text, left_text, more_line, built_text, number_text, origin_text, parts_text, pool_line, pool_text, pools_heading, pools_report, pools_text, report_text, some_areas, some_pools, starred, total_line, total_text, totals_text};
 
 use crate::account::Leftovers;
@@ -12,8 +12,8 @@ use crate::grant::{AreaGrant, Leak};
 use crate::largest::{Leaks, MOST_LINES};
 use crate::pools::PoolLeft;
 use crate::totals::{Group, Total};
-use job_script::text::LineText;
-use job_script::write_all;
+use line_text::text::LineText;
+use line_text::write_all;
 use mvs_model::name::Name;
 use mvs_model::subpool::SubNo;
 use mvs_model::watched::{Failed, Watched};

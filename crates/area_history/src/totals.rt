@@ -1,15 +1,14 @@
 //! Totals of areas by subpool, and by task.
 
-ghost use Rattle.std.specs.Prelude.{◌≡◌, ◌<◌, ◌≤◌, ◌+◌, ◌^◌, ◌++◌, [], take};
-ghost use Rattle.area_history.specs.Totals.{HaveRoom, added, group_of_subpool, group_of_task, grown, same_group};
+ghost use Rattle.std.specs.Prelude.{◌≡◌, ◌<◌, ◌≤◌, ◌+◌, ◌^◌, ◌↔◌, ◌++◌, ◌∷◌, [], IsTrue, false, length, take, true};
+ghost use Rattle.area_history.specs.Totals.{HaveRoom, added, group_of_subpool, group_of_task, grown, new_total, same_group};
 
-use crate::first::{push, push_all};
 use crate::grant::AreaGrant;
 use crate::largest::MOST_LINES;
-use job_script::is_same_name;
+use line_text::is_same_name;
 use mvs_model::name::Name;
-use mvs_model::short_list::ShortList;
 use mvs_model::subpool::SubNo;
+use std::marker::Model;
 
 /// What areas have in common: their subpool, or the task that obtained them.
 #[derive(Clone, Copy, Debug, PartialEq, Eq)]
@@ -27,8 +26,23 @@ pub struct Total {
     pub bytes: u128,
 }
 
-/// The totals of the first ten groups.
-pub(crate) type Totals = ShortList<Total, 0, MOST_LINES>;
+/// The totals of the first ten groups, in an array. Array elements after them are not part of the value.
+#[derive(Drop)]
+pub(crate) struct Totals {
+    items: [Total; MOST_LINES],
+    len: usize,
+}
+
+impl Model for Totals {
+    ghost use Rattle.std.specs.Prelude.{List, take, ◌≤◌};
+    ghost use Rattle.area_history.specs.declared.totals.Total.{Total};
+
+    ghost Value = { List Total };
+
+    ghost view = { λ t. take t.len t.items };
+
+    ghost invariant = { λ t. t.len ≤ 10 };
+}
 
 impl Group {
     /// Returns the subpool of an area.
@@ -64,51 +78,107 @@ impl Group {
     }
 }
 
-// Returns a total with one area more.
-fn grown(total: &Total, bytes: u32) -> Total
-    requires few { total.now.count + 1 < 2 ^ 64 }
-    requires most { total.now.bytes + bytes < 2 ^ 128 }
-    ensures { result ≡ grown total.now bytes }
-{
-    Total {
-        group: total.group,
-        count: total.count + 1,
-        bytes: total.bytes + u128::from(bytes),
+impl Total {
+    // Adds an area.
+    fn grow(&mut self, bytes: u32)
+        requires few { self.old.count + 1 < 2 ^ 64 }
+        requires most { self.old.bytes + bytes < 2 ^ 128 }
+        ensures { self.new ≡ grown self.old bytes }
+    {
+        self.count += 1;
+        self.bytes += u128::from(bytes);
     }
 }
 
-/// Makes an empty list of totals.
-pub(crate) fn no_totals() -> Totals
-    ensures { result ≡ [] }
+// Returns the total of one area.
+fn new_total(group: &Group, bytes: u32) -> Total
+    ensures { result ≡ new_total group.now bytes }
 {
-    Totals::empty(Total {
-        group: Group::Task(Name::of(b"NONE")),
-        count: 0,
-        bytes: 0,
-    })
+    Total {
+        group: *group,
+        count: 1,
+        bytes: u128::from(bytes),
+    }
 }
 
-/// Appends totals with one area more, as long as there is room.
-pub(crate) fn push_added(list: &mut Totals, group: &Group, bytes: u32, totals: &[Total])
-    requires { HaveRoom bytes totals.now }
-    ensures { list.new ≡ take 10 (list.old ++ added group.now bytes totals.now) }
+// Adds an area to the total of its group, if there is one. Returns whether there is.
+fn add_to(totals: &mut [Total], group: &Group, bytes: u32) -> bool
+    requires { HaveRoom bytes totals.old }
+    ensures len { length totals.new ≡ length totals.old }
+    ensures added { result ≡ true → totals.new ≡ added group.now bytes totals.old }
+    ensures same { result ≡ false → totals.new ≡ totals.old }
+    ensures none { result ≡ false
+        → added group.now bytes totals.old ≡ totals.old ++ new_total group.now bytes ∷ [] }
 {
-    let Some((first, others)) = totals.split_first() else {
-        push(
-            list,
-            &Total {
-                group: *group,
-                count: 1,
-                bytes: u128::from(bytes),
-            },
-        );
-        return;
+    let Some((first, others)) = totals.split_first_mut() else {
+        return false;
     };
     if group.is_same(&first.group) {
-        push(list, &grown(first, bytes));
-        push_all(list, others);
-    } else {
-        push(list, first);
-        push_added(list, group, bytes, others);
+        first.grow(bytes);
+        return true;
+    }
+    add_to(others, group, bytes)
+}
+
+impl Totals {
+    /// Makes an empty list of totals.
+    pub(crate) fn none() -> Totals
+        ensures { result ≡ [] }
+    {
+        Totals {
+            items: [new_total(&Group::Task(Name::of(b"NONE")), 0); MOST_LINES],
+            len: 0,
+        }
+    }
+
+    /// Returns the totals.
+    pub(crate) fn as_slice(&self) -> &[Total]
+        ensures items { result.now ≡ self.now }
+        ensures most { length result.now ≤ 10 }
+    {
+        &self.items[..self.len]
+    }
+
+    /// Removes all totals.
+    pub(crate) fn clear(&mut self)
+        ensures { self.new ≡ [] }
+    {
+        self.len = 0;
+    }
+
+    // Returns whether there is no room for another total.
+    fn is_full(&self) -> bool
+        ensures full { IsTrue result ↔ (length self.now ≡ 10) }
+        ensures most { length self.now ≤ 10 }
+    {
+        self.as_slice().len() == MOST_LINES
+    }
+
+    // Appends a total.
+    fn put(&mut self, total: Total)
+        requires { length self.old < 10 }
+        ensures { self.new ≡ self.old ++ total ∷ [] }
+    {
+        self.items[self.len] = total;
+        self.len += 1;
+    }
+
+    // Appends a total, if there is room.
+    fn push(&mut self, total: Total)
+        ensures { self.new ≡ take 10 (self.old ++ total ∷ []) }
+    {
+        if !self.is_full() {
+            self.put(total);
+        }
+    }
+
+    /// Adds an area to the total of its group. A new group gets a total if there is room.
+    pub(crate) fn add(&mut self, group: &Group, bytes: u32)
+        requires { HaveRoom bytes self.old }
+        ensures { self.new ≡ take 10 (added group.now bytes self.old) }
+    {
+        if !add_to(&mut self.items[..self.len], group, bytes) {
+            self.push(new_total(group, bytes));
+        }
     }
 }

@@ -17,7 +17,7 @@ pub struct Structured {
 #[derive(Clone, Copy)]
 struct Group {
     end: usize,
-    /// Where IF goes if its condition is false.
+    /// The target of IF if its condition is false.
     otherwise: Structured,
 }
 

@@ -51,7 +51,7 @@ enum ItemKind {
     OtherEnd,
 }
 
-/// The lines of the script as far as they are found.
+/// The lines of the script that were found so far.
 #[derive(Drop)]
 pub struct Script {
     alloc: Global,

@@ -122,7 +122,7 @@ impl SourceWalk<'_> {
         self.end_task(place, statement, "RETURN")
     }
 
-    // Returns whether a register has the address of the program since that began. A branch by it goes on after constants.
+    // Returns whether a register has the address of the program since that began. A branch by it continues after constants.
     fn is_entry(&self, register: u8) -> bool {
         register == ENTRY_ADDRESS && self.held.register(register).is_none()
     }
@@ -164,14 +164,14 @@ impl SourceWalk<'_> {
         self.script.put_mark(statement, mark)
     }
 
-    // Returns whether a register has the return address of the task that runs, as far as is known.
+    // Returns whether a register has the return address of the task that runs, if that is known.
     fn ends_task_by(&self, register: u8) -> bool {
         register == RETURN_ADDRESS
             && self.frames.link().is_none()
             && self.place_in(register).is_none()
     }
 
-    // Processes a conditional branch to the address in a register. A path takes it if it goes to the next point of the path.
+    // Processes a conditional branch to the address in a register. A path takes it if its target is the next point of the path.
     fn may_branch(
         &mut self,
         place: usize,

@@ -30,7 +30,7 @@ pub struct SourceText<'a> {
     pub loops: &'a Loops,
 }
 
-/// A source as far as it was gone through.
+/// The part of a source that was processed so far.
 #[derive(Drop)]
 pub struct SourceWalk<'a> {
     pub source: SourceText<'a>,

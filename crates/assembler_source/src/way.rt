@@ -43,7 +43,7 @@ impl From<NoName> for ConversionRefusal {
     }
 }
 
-/// What stands in a path for the end of a task, if no statement has the label.
+/// The word in a path for the end of a task, if no statement has that label.
 const END: &str = "END";
 
 /// What a path comes to next.
@@ -73,7 +73,7 @@ pub struct Way {
     pub schedule: Schedule,
 }
 
-// Returns the point of a path that a label stands for.
+// Returns the point of a path that a label names.
 fn waypoint_of(alloc: Global, layout: &Layout, label: &str) -> Result<Waypoint, ConversionRefusal> {
     match layout.place_of(label) {
         Some(place) => Ok(Waypoint::Place(place)),
@@ -82,7 +82,7 @@ fn waypoint_of(alloc: Global, layout: &Layout, label: &str) -> Result<Waypoint, 
     }
 }
 
-// Returns the points of a path that its labels stand for.
+// Returns the points of a path that its labels name.
 fn waypoints_of(
     alloc: Global,
     layout: &Layout,

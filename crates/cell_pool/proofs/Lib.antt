@@ -32,3 +32,4 @@ pub mod Pooled
 pub mod PoolFacts
 pub mod Untaken
 pub mod Outcomes
+pub mod SlotsCopied

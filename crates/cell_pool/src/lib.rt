@@ -1,6 +1,7 @@
 //! Cell pools in the storage of a subpool.
 #![tactic(auto)]
 
+mod copying;
 mod entry;
 pub mod laws;
 mod laying;

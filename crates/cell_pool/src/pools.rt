@@ -36,6 +36,7 @@ ghost use Rattle.cell_pool.specs.Extended.{Extended, MayAdd, NoRoom};
 ghost use Rattle.cell_pool.specs.Hints.{CellFollowsHint, PartFollowsHint};
 ghost use Rattle.mvs_model.specs.Place.{PlaceValue};
 
+use crate::copying::copy_entries;
 use crate::entry::{PoolEntry, find, find_key, find_next, has_none, remove, remove_each, set_root};
 use crate::laying::{lay_out, obtain_part, put_word};
 use crate::newest::newest_of;
@@ -228,10 +229,8 @@ impl Pools {
     pub fn new(alloc: Global) -> Result<Pools, OutOfMemory>
         ensures { IfOk result (λ p. p ≡ empty) }
     {
-        match Slab::with_capacity(alloc, MOST_POOLS) {
-            Ok(entries) => Ok(Pools { entries }),
-            Err(_) => Err(OutOfMemory),
-        }
+        let entries = Slab::with_capacity(alloc, MOST_POOLS).map_err(|_| OutOfMemory)?;
+        Ok(Pools { entries })
     }
 
     // Returns what is kept of the pool of this name.
@@ -657,5 +656,14 @@ impl Pools {
             subpool true }
     {
         bytes_in(&self.entries, store, subpool)
+    }
+
+    /// Returns a copy. It fails if memory is exhausted.
+    pub fn try_clone(&self) -> Result<Pools, OutOfMemory>
+        ensures { IfOk result (λ copy. copy ≡ self.now) }
+    {
+        Ok(Pools {
+            entries: copy_entries(&self.entries)?,
+        })
     }
 }

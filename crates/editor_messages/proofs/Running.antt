@@ -3,7 +3,7 @@ use Rattle.std.proofs.Common.{◌≡◌, ℕ, suc, List, [], ◌++◌, Ok, Err, 
 use Rattle.std.specs.Prelude.{Option, None, Result, IfOk, MatchResult, true, ◌-◌, ◌^◌}
 use Rattle.std.specs.Io.KnownBytes.{Appends, Consumes}
 use Rattle.std.proofs.KnownBytes.{Appends-nil, Appends-trans, Consumes-kept, Consumes-nil, Consumes-trans}
-use Rattle.job_script.specs.Writing.{AppendsFront}
+use Rattle.line_text.specs.Writing.{AppendsFront}
 use Rattle.mvs_model.specs.Watched.{WatchedValue}
 use Rattle.editor_messages.specs.declared.frames.Frame.{Frame}
 use Rattle.editor_messages.specs.declared.frames.Frame.TheVariants as frame

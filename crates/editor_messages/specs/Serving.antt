@@ -4,7 +4,7 @@ use Rattle.std.specs.Io.KnownBytes.{Appends, Consumes, IsAtEnd, Keeps}
 use Rattle.std.specs.Str.{IsUtf8}
 use Rattle.json.specs.Json.{Json, null, document}
 use Rattle.json.specs.Find.{get}
-use Rattle.job_script.specs.Writing.{AppendsFront}
+use Rattle.line_text.specs.Writing.{AppendsFront}
 use Rattle.mvs_model.specs.Watched.{WatchedValue}
 use Rattle.editor_messages.specs.declared.frames.Frame.{Frame}
 use Rattle.editor_messages.specs.declared.frames.Frame.TheVariants as frame

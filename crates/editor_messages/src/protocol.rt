@@ -132,7 +132,7 @@ impl Phase {
     }
 }
 
-// Returns what a method is that is used as it is to be, or not.
+// Returns the kind of a method, which is used correctly or not.
 fn used(is_right: bool) -> MethodKind
     ensures { result ≡ used is_right }
 {

@@ -160,7 +160,7 @@ fn range_of<'a>(params: Option<&Value<'a>>) -> Option<Range<'a>>
     }
 }
 
-// Returns whether references that set a name are wanted too.
+// Returns whether references that set a name are requested too.
 fn declares(params: Option<&Value<'_>>) -> bool
     ensures { result ≡ flag_in (member (codes "includeDeclaration") (member (codes "context") (option_map (λ v. value_view v.now) params.entry))) }
 {

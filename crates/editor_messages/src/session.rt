@@ -2,7 +2,7 @@
 
 ghost use Rattle.std.specs.Prelude.{◌≡◌, ◌≤◌, ℕ, suc, MatchResult, length, true};
 ghost use Rattle.std.specs.Io.KnownBytes.{Appends};
-ghost use Rattle.job_script.specs.Writing.{AppendsFront};
+ghost use Rattle.line_text.specs.Writing.{AppendsFront};
 ghost use Rattle.mvs_model.specs.Watched.{WatchedValue};
 ghost use Rattle.editor_messages.specs.Frames.{IsWithin, frame_of};
 ghost use Rattle.editor_messages.specs.Serving.{IsRunning, HasRead, HasRun, HasSent, HasTaken};
@@ -10,7 +10,7 @@ ghost use Rattle.editor_messages.specs.Serving.{IsRunning, HasRead, HasRun, HasS
 use crate::frames::{Frame, read_frame};
 use crate::input::{CHUNK, Input};
 use crate::server::{Answers, Server, Turn};
-use job_script::write_all;
+use line_text::write_all;
 use mvs_model::watched::Watched;
 use std::alloc::Global;
 use std::io::{Read, Write};

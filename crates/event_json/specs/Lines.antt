@@ -1,7 +1,7 @@
 -- Events as lines of JSON.
 use Rattle.std.specs.Prelude.{◌≡◌, ℕ, List, [], ◌∷◌, ◌++◌, Option, Some, None, Bool, true, false, Result, Ok, Err, codes, decimal}
 use Rattle.std.specs.Io.KnownBytes.{Appends, Keeps}
-use Rattle.job_script.specs.Writing.{AppendsFront, WritesAll}
+use Rattle.line_text.specs.Writing.{AppendsFront, WritesAll}
 use Rattle.mvs_model.specs.declared.name.Name.{Name}
 use Rattle.mvs_model.specs.declared.outcome.Outcome.{Outcome}
 use Rattle.mvs_model.specs.Answers.{Answer, Event, AnswerTo, StepEnded, Faulted}

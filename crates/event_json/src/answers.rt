@@ -11,6 +11,7 @@ use mvs_model::numbers::{MOST_PAGES_ABOVE, MOST_PAGES_BELOW, SUBPOOL_NUMBERS};
 use mvs_model::place::{Addr, Place};
 use mvs_model::report::{MapRun, SubpoolLine};
 use mvs_model::request::Reply;
+use mvs_model::subpool::SubNo;
 use std::alloc::{AllocError, Global};
 use std::slice;
 
@@ -35,34 +36,17 @@ fn run_after(job: &Job, run: &MapRun) -> Option<MapRun> {
     job.step().map_run(Addr::new(end))
 }
 
-// Puts the subpool that some pages are assigned to, if they are, into their object.
-fn put_holder(members: &mut Members, run: &MapRun) -> Result<(), AllocError>
+// Puts a subpool, if there is one, into the object of what it has.
+fn put_subpool(members: &mut Members, subpool: &Option<(SubNo, Name)>) -> Result<(), AllocError>
     ensures { members.new ≡ members.old }
 {
-    match &run.holder {
+    match subpool {
         Some((number, owner)) => {
             members.number("subpool", u32::from(number.get()))?;
             members.name("owner", owner)
         }
         None => Ok(()),
     }
-}
-
-// Writes the subpool of the page of an address into its object.
-fn put_subpool(members: &mut Members, job: &Job, addr: Addr) -> Result<(), AllocError>
-    ensures { members.new ≡ members.old }
-{
-    let mut next = job.step().map_run(Addr::new(0));
-    for _ in 0..MOST_RUNS {
-        match next {
-            Some(run) if addr.get() < run.addr.get().saturating_add(run.len) => {
-                return put_holder(members, &run);
-            }
-            Some(run) => next = run_after(job, &run),
-            None => return Ok(()),
-        }
-    }
-    Ok(())
 }
 
 // Writes the place of an area or a cell, and its subpool, into its object.
@@ -73,7 +57,7 @@ fn put_place(members: &mut Members, job: &Job, place: Place) -> Result<(), Alloc
     members.number("address", addr.get())?;
     members.number("length", place.len())?;
     members.text("side", if addr.get() < ABOVE { "below" } else { "above" })?;
-    put_subpool(members, job, addr)
+    put_subpool(members, &job.step().machine().page_subpool(addr))
 }
 
 // Writes the places that a request was granted.
@@ -237,7 +221,7 @@ fn put_map(members: &mut Members, job: &Job) -> Result<(), AllocError>
         members.begin_item()?;
         members.number("address", run.addr.get())?;
         members.number("length", run.len)?;
-        put_holder(members, &run)?;
+        put_subpool(members, &run.holder)?;
         members.end_object()?;
         next = run_after(job, &run);
     }

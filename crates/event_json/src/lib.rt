@@ -2,7 +2,7 @@
 #![tactic(auto)]
 
 ghost use Rattle.std.specs.Prelude.{◌≡◌, ◌++◌, true, IfOk, OnErr, OnOk, IsErrOf};
-ghost use Rattle.job_script.specs.Writing.{Prints};
+ghost use Rattle.line_text.specs.Writing.{Prints};
 ghost use Rattle.mvs_job.specs.LineEvents.{closing, events_of_line, new_walk};
 ghost use Rattle.event_json.specs.Lines.{AreLinesOf, IsStatement, WritesEvents, WritesLast, fault_line, statement_head, step_end};
 
@@ -17,8 +17,8 @@ use crate::answers::put_answer;
 use crate::effects::put_explanation;
 use crate::members::Members;
 pub use event_lines::EventLines;
-use job_script::text::LineText;
-use job_script::{fault_digit, write_all};
+use line_text::text::LineText;
+use line_text::{fault_digit, write_all};
 use mvs_job::{EndedTasks, Explanation, LineEvent, Stop, Walk, ended_tasks};
 use mvs_model::answer::Answer;
 use mvs_model::card::Card;

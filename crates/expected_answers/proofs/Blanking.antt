@@ -5,8 +5,8 @@ use Rattle.std.specs.Prelude.{MatchOption, codes, unwrap_or}
 use Rattle.std.specs.Option.{option_map}
 use Rattle.std.specs.Io.KnownBytes.{Appends}
 use Rattle.std.proofs.KnownBytes.{Appends-trans}
-use Rattle.job_script.specs.Writing.{AppendsFront}
-use Rattle.job_script.proofs.Appending.{front_longer, front_more}
+use Rattle.line_text.specs.Writing.{AppendsFront}
+use Rattle.line_text.proofs.Appending.{front_longer, front_more}
 use Rattle.mvs_model.specs.Lines.{lines_of}
 use Rattle.expected_answers.specs.Blank.{IsPartedAt, arrow, blank, blank_end, blank_line, blank_lines, place_of, up_to}
 

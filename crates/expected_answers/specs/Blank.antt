@@ -25,7 +25,7 @@ arrow = codes " =>"
 abbrev pub blank_end : Bool → List ℕ
 blank_end answered = if answered then codes " => ?" ++ 10 ∷ [] else 10 ∷ []
 
--- a line with ? in place of its answers, and its newline
+-- a line with ? instead of its answers, and its newline
 abbrev pub blank_line : List ℕ → List ℕ
 blank_line line = up_to (place_of arrow line) line ++ blank_end (is_some (place_of arrow line))
 
@@ -34,6 +34,6 @@ abbrev pub blank_lines : List (List ℕ) → List ℕ
 blank_lines [] = []
 blank_lines (l ∷ lines) = blank_line l ++ blank_lines lines
 
--- a script with ? in place of the answers
+-- a script with ? instead of the answers
 abbrev pub blank : List ℕ → List ℕ
 blank script = blank_lines (lines_of script)

@@ -59,7 +59,7 @@ abbrev pub is_own : ℕ → List (List ℕ) → Bool
 is_own number [] = false
 is_own number (l ∷ lines) = is_some (numbered number l) || (ends_step l && begins_with number lines)
 
--- the first printed lines, as far as they are of the statement with this number, and the lines after them
+-- the first printed lines that belong to the statement with this number, and the lines after them
 abbrev pub own : ℕ → List (List ℕ) → List (List ℕ)
 own number [] = []
 own number (l ∷ lines) = if is_own number (l ∷ lines) then l ∷ own number lines else []

@@ -5,7 +5,7 @@
 #![tactic(auto)]
 
 ghost use Rattle.std.specs.Prelude.{◌≡◌, IfOk};
-ghost use Rattle.job_script.specs.Writing.{Prints};
+ghost use Rattle.line_text.specs.Writing.{Prints};
 ghost use Rattle.expected_answers.specs.ExpectedAnswers.{statements};
 ghost use Rattle.expected_answers.specs.Blank.{blank, blank_end};
 
@@ -16,7 +16,7 @@ mod report;
 mod shown;
 
 use job_script::split_once::split_once;
-use job_script::write_all;
+use line_text::write_all;
 use lines::statement_of;
 pub use lines::{ARROW, end_in, parted_at, trimmed};
 use mvs_model::watched::{Failed, Watched};
@@ -60,7 +60,7 @@ fn blank_end(is_answered: bool) -> &'static [u8]
     if is_answered { b" => ?\n" } else { b"\n" }
 }
 
-/// Writes a script with `?` in place of the answers of each line.
+/// Writes a script with `?` instead of the answers of each line.
 pub fn write_blank<W: Write>(writer: &mut Watched<W>, script: &[u8]) -> Result<(), Failed>
     ensures { Prints W.contents writer.old writer.new result (blank script.now) }
 {

@@ -7,7 +7,7 @@ ghost use Rattle.expected_answers.specs.ExpectedAnswers.{begins_with, ends_step,
 
 use crate::lines::after_prefix;
 use job_script::split_once::split_once;
-use job_script::text::LineText;
+use line_text::text::LineText;
 use std::alloc::AllocError;
 
 /// Returns the text of a printed line after its number, if it has this number.
@@ -93,7 +93,7 @@ pub fn last_line(printed: &[u8]) -> &[u8]
     last
 }
 
-/// Appends the texts of the first printed lines, as far as they are of the statement with this number, and returns what is printed
+/// Appends the texts of the first printed lines that belong to the statement with this number, and returns what is printed
 /// after them.
 pub fn take_own<'a>(
     texts: &mut Vec<u8>,

@@ -9,7 +9,7 @@ ghost use Rattle.expected_answers.specs.Reports.{are_right, case_of, cases, case
 
 use crate::expected::{AnswerPair, AnswerPairs, AnswerVerdict};
 use crate::shown::{push_escaped, push_shown, shown_name};
-use job_script::text::LineText as Line;
+use line_text::text::LineText as Line;
 use std::alloc::{AllocError, Global};
 
 /// The form of a report.

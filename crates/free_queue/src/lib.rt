@@ -60,7 +60,7 @@ fn len(region: &Region, page: usize, at: u32) -> u32
     requires there { is_open region.now page ≡ true }
     ensures { result ≡ word (page_of region.now page) (at + 4) }
 {
-    region.word(index(page, at + 4))
+    region.word(index(page, at) + 4)
 }
 
 // Writes the two words of a run.

@@ -1,7 +1,6 @@
--- Lemmas of this crate; Appending serves the crates above too.
+-- Lemmas of this crate.
 mod Parts
 pub mod Cut
-mod SameNames
 mod SameNumbers
 mod ListItems
 mod Unknown
@@ -15,8 +14,6 @@ mod Facts
 pub mod Rowing
 pub mod Stating
 mod InRanges
-pub mod Appending
-pub mod PrintedDigits
 pub mod Showing
 pub mod Named
 mod Fitting

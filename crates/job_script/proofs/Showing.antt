@@ -7,8 +7,8 @@ use Rattle.std.proofs.KnownBytes.{Appends-trans}
 use Rattle.mvs_model.specs.declared.name.Name.{Name}
 use Rattle.mvs_model.specs.Name.{trimmed}
 use Rattle.mvs_model.specs.Texts.{reply_line, data_lines}
-use Rattle.job_script.specs.Writing.{AppendsFront, data_text}
-use Rattle.job_script.proofs.Appending.{front_longer, front_more}
+use Rattle.line_text.specs.Writing.{AppendsFront, data_text}
+use Rattle.line_text.proofs.Appending.{front_longer, front_more}
 
 -- a line after its number and its task
 pub after_head : (number : ℕ) (t : Name) (head said : List ℕ) → head ≡ decimal number ++ codes " " ++ trimmed t ++ codes " " → head ++ said ++ codes "\n" ≡ reply_line number t said

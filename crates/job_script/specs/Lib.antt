@@ -14,7 +14,3 @@ pub mod Fronts
 pub mod LineBuffers
 pub mod Areas
 pub mod Resolving
-pub mod Writing
-pub mod ReasonTexts
-pub mod FactTexts
-pub mod NamingTexts

@@ -5,10 +5,10 @@ ghost use Rattle.mvs_model.specs.Name.{trimmed};
 ghost use Rattle.mvs_model.specs.State.{State};
 ghost use Rattle.mvs_model.specs.FullAnswers.{has_long_data, full_answer};
 ghost use Rattle.mvs_model.specs.Texts.{abend_lines, answer_text, code_text, reply_line, one_line_text};
-ghost use Rattle.job_script.specs.Writing.{Prints};
+ghost use Rattle.line_text.specs.Writing.{Prints};
 
-use crate::print::{push_head, write_all};
-use crate::text::LineText;
+use line_text::text::LineText;
+use line_text::{push_head, write_all};
 use mvs_model::answer::Answer;
 use mvs_model::code::Code;
 use mvs_model::name::Name;

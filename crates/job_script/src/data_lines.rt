@@ -3,10 +3,10 @@
 ghost use Rattle.std.specs.Prelude.{◌≡◌, ◌≤◌, ◌+◌, ◌*◌, ◌/◌, ◌++◌, length, codes};
 ghost use Rattle.mvs_model.specs.Numbers.{line_bytes, most_shown};
 ghost use Rattle.mvs_model.specs.Texts.{data_lines, hex, line_count};
-ghost use Rattle.job_script.specs.Writing.{Prints, data_text};
+ghost use Rattle.line_text.specs.Writing.{Prints, data_text};
 
-use crate::print::{push_head, write_all};
-use crate::text::LineText;
+use line_text::text::LineText;
+use line_text::{push_head, write_all};
 use mvs_model::name::Name;
 use mvs_model::numbers::LINE_BYTES;
 use mvs_model::watched::{Failed, Watched};

@@ -41,10 +41,8 @@ fn keyword_at(keywords: &'static [Keyword], key: &[u8]) -> Option<&'static Keywo
         (find (λ k. bytes_eq k.key key.now) (map as_keyword keywords.now) ≡ None)
         (λ k. HasKeyword (map as_keyword keywords.now) key.now k.now.key (as_kind k.now.kind)) }
 {
-    match place(keywords, key) {
-        None => None,
-        Some(place) => Some(&keywords[place]),
-    }
+    let place = place(keywords, key)?;
+    Some(&keywords[place])
 }
 
 impl<'a> GivenOperands<'a> {
@@ -94,9 +92,7 @@ impl<'a> GivenOperands<'a> {
             return Err(Fault::InvalidOperand);
         };
         let place = keyword.key.index();
-        if let Err(fault) = check(&keyword.kind, text, self.texts[place].is_some()) {
-            return Err(fault);
-        }
+        check(&keyword.kind, text, self.texts[place].is_some())?;
         self.texts[place] = Some(text);
         self.keyed = true;
         Ok(())
@@ -126,9 +122,7 @@ impl<'a> GivenOperands<'a> {
         let mut rest = field;
         'operands: loop {
             let (operand, more) = next_operand(rest);
-            if let Err(fault) = self.take(operand) {
-                return Err(fault);
-            }
+            self.take(operand)?;
             match more {
                 None => return Ok(()),
                 Some(next) => rest = next,
@@ -183,10 +177,7 @@ impl<'a> GivenOperands<'a> {
             (λ fault. ((by_place self.now).under (key_text key) ≡ None)
             × (fault ≡ MissingOperand)) }
     {
-        match self.text(key) {
-            Some(text) => Ok(text),
-            None => Err(Fault::MissingOperand),
-        }
+        self.text(key).ok_or(Fault::MissingOperand)
     }
 
     /// Returns the positional operand that has to be at a place, counted from 0.
@@ -197,9 +188,6 @@ impl<'a> GivenOperands<'a> {
             (λ text. (by_place self.now).at place ≡ Some text.now)
             (λ fault. ((by_place self.now).at place ≡ None) × (fault ≡ MissingOperand)) }
     {
-        match self.positional(place) {
-            Some(text) => Ok(text),
-            None => Err(Fault::MissingOperand),
-        }
+        self.positional(place).ok_or(Fault::MissingOperand)
     }
 }

@@ -1,4 +1,4 @@
-//! Reads the lines of a script, keeps its names, and prints what its lines are answered.
+//! Reads the lines of a script, keeps its names, and prints the answers to its lines.
 #![tactic(auto)]
 
 ghost use Rattle.std.specs.Prelude.{◌≡◌, ◌<◌, ◌≤◌, ◌==◌, ◌&&◌, nat_le, true, false, length};
@@ -14,15 +14,10 @@ ghost use Rattle.job_script.specs.Stated.{is_in_place, byte_checks, field_of, St
 use crate::addresses::{is_name, name};
 pub use crate::answers::{print_abend, print_short_answer};
 pub use crate::data_lines::print_data;
-pub use crate::fact_lines::print_fact;
-pub use crate::freed::{print_freed, print_stays};
 pub use crate::line_buffer::{LineBuffer, Pushed};
-pub use crate::names::{NamePlaces, is_same_name};
-pub use crate::naming::print_naming;
+pub use crate::names::NamePlaces;
 use crate::operations::{Operation, read_operation};
 use crate::plain::read_plain;
-pub use crate::print::{fault_digit, print_fault, print_region, print_step_end, write_all};
-pub use crate::reasons::{Subject, print_reason, reason_text, subject_of};
 pub use crate::report_lines::{print_map_run, print_no_subpool, print_subpool_line};
 pub use crate::resolving::{names_set, resolve, set_names, unset};
 use crate::split_once::{next_word, skip_blanks, split_once};
@@ -35,21 +30,16 @@ mod answers;
 mod checks;
 mod data_lines;
 pub mod digits;
-mod fact_lines;
-mod freed;
 pub mod given;
 pub mod items;
 pub mod keys;
 pub mod kinds;
 mod line_buffer;
 mod names;
-mod naming;
 pub mod operations;
 mod plain;
 mod pools;
 mod prefix;
-mod print;
-mod reasons;
 mod report_lines;
 mod resolving;
 pub mod rows;
@@ -57,7 +47,6 @@ pub mod split_once;
 mod statement;
 mod storage_requests;
 mod subtasks;
-pub mod text;
 mod values;
 
 /// The most bytes of a line, without its end. This project's choice.

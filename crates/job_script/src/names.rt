@@ -1,6 +1,6 @@
 //! The names of areas and cells.
 
-ghost use Rattle.std.specs.Prelude.{◌≡◌, OnOk, OnErr, IfSome};
+ghost use Rattle.std.specs.Prelude.{◌≡◌, OnOk, OnErr, IfOk, IfSome};
 ghost use Rattle.std.specs.FinMap as map;
 ghost use Rattle.mvs_model.specs.Name.{name_cmp, same_name};
 ghost use Rattle.job_script.specs.Areas.{IsArea};
@@ -11,13 +11,6 @@ use mvs_model::place::Place;
 use std::alloc::Global;
 use std::collections::HashMap;
 use std::marker::Model;
-
-/// Returns whether two names are equal.
-pub fn is_same_name(one: &Name, other: &Name) -> bool
-    ensures { result ≡ same_name one.now other.now }
-{
-    *one == *other
-}
 
 /// The places of the names that a step has set.
 #[derive(Drop)]
@@ -69,5 +62,15 @@ impl NamePlaces {
         ensures area { IfSome result IsArea }
     {
         self.places.get(name).copied()
+    }
+
+    /// Returns a copy. It fails if memory is exhausted.
+    pub fn try_clone(&self) -> Result<NamePlaces, OutOfMemory>
+        ensures { IfOk result (λ copy. copy ≡ self.now) }
+    {
+        match self.places.clone() {
+            Ok(places) => Ok(NamePlaces { places }),
+            Err(_) => Err(OutOfMemory),
+        }
     }
 }

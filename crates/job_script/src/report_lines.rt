@@ -2,10 +2,10 @@
 
 ghost use Rattle.std.specs.Prelude.{◌≡◌, ◌≤◌, ◌+◌, ◌++◌, length, if◌then◌else◌, codes};
 ghost use Rattle.mvs_model.specs.Texts.{label_text, map_text, reply_line, subpool_text};
-ghost use Rattle.job_script.specs.Writing.{Prints};
+ghost use Rattle.line_text.specs.Writing.{Prints};
 
-use crate::print::{print_line, push_head, write_all};
-use crate::text::LineText;
+use line_text::text::LineText;
+use line_text::{print_line, push_head, write_all};
 use mvs_model::name::Name;
 use mvs_model::report::{MapRun, SubpoolLine};
 use mvs_model::subpool::SubNo;

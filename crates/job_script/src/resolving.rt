@@ -109,9 +109,7 @@ fn unset_in(names: &NamePlaces, location: &Location) -> Option<Name>
 fn unset_among(names: &NamePlaces, locations: &[Location]) -> Option<Name>
     ensures { result ≡ first_unset names.now (flat_map name_in locations.now) }
 {
-    let Some((location, rest)) = locations.split_first() else {
-        return None;
-    };
+    let (location, rest) = locations.split_first()?;
     let unset = unset_in(names, location);
     if unset.is_some() {
         return unset;

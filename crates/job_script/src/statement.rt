@@ -79,12 +79,8 @@ fn read_row(
         (filled line.new result) }
 {
     let mut given = GivenOperands::none(row);
-    if let Err(fault) = given.take_field(field) {
-        return Err(fault);
-    }
-    if let Err(fault) = given.check() {
-        return Err(fault);
-    }
+    given.take_field(field)?;
+    given.check()?;
     given.fill(task, form, line)
 }
 

@@ -1,4 +1,5 @@
-//! The result of a call, written as its reply. A reply can have 31 names, so it overwrites another one and is never copied.
+//! The result of a call, written as its reply. A reply can have 31 names, so it overwrites another one and is never copied. Where the
+//! other one is of the same kind, only what differs is written.
 
 ghost use Rattle.std.specs.Prelude.{◌≡◌, false, OnOk};
 ghost use Rattle.mvs_model.specs.declared.request.Reply.TheVariants.{Attached, Cell, Done, Ended, Listed, Obtained, Rc0};
@@ -14,7 +15,12 @@ pub fn reply_area(answer: Result<Place, Refusal>, reply: &mut Reply) -> Result<(
     ensures replies { RepliesWith Obtained answer reply.new result }
     ensures no_abend { OnOk result (is_abend reply.new ≡ false) }
 {
-    *reply = Reply::Obtained(answer?);
+    let place = answer?;
+    if let Reply::Obtained(former) = reply {
+        *former = place;
+    } else {
+        *reply = Reply::Obtained(place);
+    }
     Ok(())
 }
 
@@ -32,7 +38,12 @@ pub fn reply_cell(answer: Result<Place, Refusal>, reply: &mut Reply) -> Result<(
     ensures replies { RepliesWith Cell answer reply.new result }
     ensures no_abend { OnOk result (is_abend reply.new ≡ false) }
 {
-    *reply = Reply::Cell(answer?);
+    let place = answer?;
+    if let Reply::Cell(former) = reply {
+        *former = place;
+    } else {
+        *reply = Reply::Cell(place);
+    }
     Ok(())
 }
 
@@ -42,7 +53,9 @@ pub fn reply_zero(answer: Result<(), Refusal>, reply: &mut Reply) -> Result<(), 
     ensures no_abend { OnOk result (is_abend reply.new ≡ false) }
 {
     answer?;
-    *reply = Reply::Rc0;
+    if !matches!(reply, Reply::Rc0) {
+        *reply = Reply::Rc0;
+    }
     Ok(())
 }
 
@@ -72,6 +85,8 @@ pub fn reply_done(answer: Result<(), Refusal>, reply: &mut Reply) -> Result<(), 
     ensures no_abend { OnOk result (is_abend reply.new ≡ false) }
 {
     answer?;
-    *reply = Reply::Done;
+    if !matches!(reply, Reply::Done) {
+        *reply = Reply::Done;
+    }
     Ok(())
 }

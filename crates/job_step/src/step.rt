@@ -322,4 +322,14 @@ impl Step {
             Err(refusal) => self.settle(name, request, refusal, reply),
         }
     }
+
+    /// Returns a copy. It fails if memory is exhausted.
+    pub fn try_clone(&self) -> Result<Step, OutOfMemory>
+        ensures { IfOk result (λ copy. copy ≡ self.now) }
+    {
+        Ok(Step {
+            machine: self.machine.try_clone()?,
+            abended: self.abended,
+        })
+    }
 }

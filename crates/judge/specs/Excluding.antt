@@ -86,14 +86,34 @@ abbrev pub is_shown : Line → Bool
 is_shown (line.Statement t (says.Request k)) = true
 is_shown (line.Statement t (says.Where name)) = true
 is_shown (line.Statement t says.ReportSubpools) = true
-is_shown _ = false
+is_shown (line.Statement t (says.Region below above fill residence)) = false
+is_shown (line.Statement t says.ReportMap) = false
+is_shown line.Nothing = false
 
 -- SHOW is for some bytes.
 abbrev pub ShowsSome : Statement → Type 0
 ShowsSome (says.Request (written.Show location n)) = 0 < n
-ShowsSome _ = Unit {0}
+ShowsSome (says.Request (written.Obtain form number ask variable area)) = Unit {0}
+ShowsSome (says.Request (written.ObtainList form number lengths start areas)) = Unit {0}
+ShowsSome (says.Request (written.Release form number location len)) = Unit {0}
+ShowsSome (says.Request (written.ReleaseArea form number area)) = Unit {0}
+ShowsSome (says.Request (written.ReleaseList form number locations lengths)) = Unit {0}
+ShowsSome (says.Request (written.ReleaseWhole form number)) = Unit {0}
+ShowsSome (says.Request (written.Build pool number size primary secondary loc)) = Unit {0}
+ShowsSome (says.Request (written.Get pool conditional cell)) = Unit {0}
+ShowsSome (says.Request (written.Free pool cell)) = Unit {0}
+ShowsSome (says.Request (written.Delete pool)) = Unit {0}
+ShowsSome (says.Request (written.Attach name gifts residence)) = Unit {0}
+ShowsSome (says.Request written.Return) = Unit {0}
+ShowsSome (says.Request (written.Abend code)) = Unit {0}
+ShowsSome (says.Request (written.Put location bytes)) = Unit {0}
+ShowsSome (says.Request (written.Move to from len)) = Unit {0}
+ShowsSome (says.Region below above fill residence) = Unit {0}
+ShowsSome (says.Where name) = Unit {0}
+ShowsSome says.ReportSubpools = Unit {0}
+ShowsSome says.ReportMap = Unit {0}
 
--- the same of a line
+-- A SHOW in the line is for some bytes.
 abbrev pub LineShowsSome : Line → Type 0
 LineShowsSome line.Nothing = Unit {0}
 LineShowsSome (line.Statement t s) = ShowsSome s

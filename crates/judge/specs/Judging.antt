@@ -33,12 +33,27 @@ may_grant (written.Obtain form number ask variable area) = true
 may_grant (written.ObtainList form number lengths start areas) = true
 may_grant (written.Build pool number size primary secondary loc) = true
 may_grant (written.Get pool conditional cell) = true
-may_grant _ = false
+may_grant (written.Release form number location len) = false
+may_grant (written.ReleaseArea form number area) = false
+may_grant (written.ReleaseList form number locations lengths) = false
+may_grant (written.ReleaseWhole form number) = false
+may_grant (written.Free pool cell) = false
+may_grant (written.Delete pool) = false
+may_grant (written.Attach name gifts residence) = false
+may_grant written.Return = false
+may_grant (written.Abend code) = false
+may_grant (written.Show location len) = false
+may_grant (written.Put location bytes) = false
+may_grant (written.Move to from len) = false
 
 -- a statement can be granted no place
 abbrev pub leaves_open : Line → Bool
 leaves_open (line.Statement t (says.Request a)) = may_grant a
-leaves_open _ = false
+leaves_open (line.Statement t (says.Region below above fill residence)) = false
+leaves_open (line.Statement t (says.Where name)) = false
+leaves_open (line.Statement t says.ReportSubpools) = false
+leaves_open (line.Statement t says.ReportMap) = false
+leaves_open line.Nothing = false
 
 -- The line is a request of a task for one area, variable or not, which sets a name.
 abbrev pub AsksArea : Line → Name → Name → Bool → Type 0

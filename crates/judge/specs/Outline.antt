@@ -4,7 +4,7 @@ use Rattle.std.specs.Option.{option_map}
 use Rattle.std.specs.FinMap.{get}
 use Rattle.mvs_model.specs.declared.name.Name.{Name}
 use Rattle.mvs_model.specs.declared.code.Code.{Code}
-use Rattle.mvs_model.specs.declared.code.Code.TheVariants.{User}
+use Rattle.mvs_model.specs.declared.code.Code.TheVariants.{System, User}
 use Rattle.mvs_model.specs.declared.code.Family.TheVariants.{Located}
 use Rattle.mvs_model.specs.declared.code.Form.{Form}
 use Rattle.mvs_model.specs.declared.line.Statement.{Statement}
@@ -15,7 +15,7 @@ use Rattle.mvs_model.specs.Codes.{family, is_conditional, short, bad_address, no
 use Rattle.mvs_model.specs.Name.{trimmed}
 use Rattle.mvs_model.specs.Requests.{is_invalid}
 use Rattle.mvs_model.specs.Texts.{code_text}
-use Rattle.mvs_model.specs.Answers.{Answer, NotRun, NoName, Rc4, NoCell, Abended}
+use Rattle.mvs_model.specs.Answers.{Answer, NotRun, NoName, At, Rc0, Granted, Rc4, Cell, NoCell, Attached, Ended, Done, Data, Abended, Subpools, Map, Region}
 use Rattle.mvs_model.specs.Job.{JobValue}
 use Rattle.mvs_model.specs.State.{State}
 use Rattle.mvs_model.specs.Runs.{Any, Does}
@@ -37,7 +37,22 @@ pub record AreAlike (a b : JobValue) : Type 0 where
 -- whether an answer is the abend with this user code
 abbrev pub is_user : ℕ → Answer → Bool
 is_user n (Abended (User m) fallen) = m == n
-is_user n _ = false
+is_user n (Abended (System m) fallen) = false
+is_user n NotRun = false
+is_user n NoName = false
+is_user n (At addr) = false
+is_user n Rc0 = false
+is_user n (Granted n_here) = false
+is_user n Rc4 = false
+is_user n Cell = false
+is_user n NoCell = false
+is_user n Attached = false
+is_user n Ended = false
+is_user n Done = false
+is_user n (Data bytes) = false
+is_user n (Subpools lines) = false
+is_user n (Map runs) = false
+is_user n (Region card) = false
 
 -- Whether places do not decide that a request has this answer: its number is invalid; it is for tasks; it is for the whole of a subpool;
 -- or it is for a pool that is not there, or for a new one whose name is in use.
@@ -59,12 +74,32 @@ request_settled (written.Show location n) x = false
 request_settled (written.Put location bytes) x = false
 request_settled (written.Move to from n) x = false
 
+-- the same of an active task's statement with all its names set
+abbrev pub done_settled : Statement → Answer → Bool
+done_settled (says.Request k) x = request_settled k x
+done_settled (says.Region below above fill residence) x = false
+done_settled (says.Where name) x = false
+done_settled says.ReportSubpools x = false
+done_settled says.ReportMap x = false
+
 -- Whether places do not decide that a statement has this answer: its task is not active, a name in it is not set, or it is such a request.
 abbrev pub is_settled : Statement → Answer → Bool
 is_settled s NotRun = true
 is_settled s NoName = true
-is_settled (says.Request k) x = request_settled k x
-is_settled _ x = false
+is_settled s (At addr) = done_settled s (At addr)
+is_settled s Rc0 = done_settled s Rc0
+is_settled s (Granted n) = done_settled s (Granted n)
+is_settled s Rc4 = done_settled s Rc4
+is_settled s Cell = done_settled s Cell
+is_settled s NoCell = done_settled s NoCell
+is_settled s Attached = done_settled s Attached
+is_settled s Ended = done_settled s Ended
+is_settled s Done = done_settled s Done
+is_settled s (Data bytes) = done_settled s (Data bytes)
+is_settled s (Abended code fallen) = done_settled s (Abended code fallen)
+is_settled s (Subpools lines) = done_settled s (Subpools lines)
+is_settled s (Map runs) = done_settled s (Map runs)
+is_settled s (Region card) = done_settled s (Region card)
 
 -- how the line of an abend continues after its task
 abbrev pub abend_opening : Code → List ℕ
@@ -89,7 +124,11 @@ request_openings (written.Free pool cell) = codes "RC 0\n" ∷ abend_opening no_
 request_openings (written.Show location n) = codes "DATA +0000 " ∷ abend_opening no_access ∷ []
 request_openings (written.Put location bytes) = codes "OK\n" ∷ abend_opening no_access ∷ []
 request_openings (written.Move to from n) = codes "OK\n" ∷ abend_opening no_access ∷ []
-request_openings _ = []
+request_openings (written.ReleaseWhole form number) = []
+request_openings (written.Delete pool) = []
+request_openings (written.Attach name gifts residence) = []
+request_openings written.Return = []
+request_openings (written.Abend code) = []
 
 -- the same for a statement
 abbrev pub openings : Statement → List (List ℕ)
@@ -108,11 +147,18 @@ BeginsOneOf (front ∷ fronts) text = ((more : List ℕ) × (text ≡ front ++ m
 abbrev pub head : ℕ → Name → List ℕ
 head number t = decimal number ++ codes " " ++ trimmed t ++ codes " "
 
+-- The text begins with the number, the task, and one of the beginnings for the statement.
+abbrev pub BeginsReply : ℕ → Name → Statement → List ℕ → Type 0
+BeginsReply number t s text = (rest : List ℕ) × (text ≡ head number t ++ rest) × BeginsOneOf (openings s) rest
+
 -- The text begins with an answer of the task to its statement on the line with this number, one that places decide. A map of no pages has
 -- no lines.
 abbrev pub BeginsOpen : ℕ → Name → Statement → List ℕ → Type 0
 BeginsOpen number t says.ReportMap text = Unit {0}
-BeginsOpen number t s text = (rest : List ℕ) × (text ≡ head number t ++ rest) × BeginsOneOf (openings s) rest
+BeginsOpen number t (says.Request k) text = BeginsReply number t (says.Request k) text
+BeginsOpen number t (says.Where name) text = BeginsReply number t (says.Where name) text
+BeginsOpen number t says.ReportSubpools text = BeginsReply number t says.ReportSubpools text
+BeginsOpen number t (says.Region below above fill residence) text = BeginsReply number t (says.Region below above fill residence) text
 
 -- How a statement ends: nothing changes, its task abends, or it is done.
 pub data Way : Type 0 where
@@ -127,7 +173,17 @@ way NoName = Stays
 way Rc4 = Stays
 way NoCell = Stays
 way (Abended code fallen) = Falls
-way _ = Goes
+way (At addr) = Goes
+way Rc0 = Goes
+way (Granted n) = Goes
+way Cell = Goes
+way Attached = Goes
+way Ended = Goes
+way Done = Goes
+way (Data bytes) = Goes
+way (Subpools lines) = Goes
+way (Map runs) = Goes
+way (Region card) = Goes
 
 -- Two steps that differ in nothing but places, and in which a statement ends the same way, still differ in nothing but places.
 abbrev pub StaysAlike : Type 0

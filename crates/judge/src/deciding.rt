@@ -55,7 +55,7 @@ impl DecidedLines {
     }
 }
 
-// A task requests areas, each of which sets a name.
+// A task requests areas. Each sets a name.
 #[derive(Drop)]
 struct Listed {
     task: Name,

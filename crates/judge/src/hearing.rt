@@ -2,7 +2,7 @@
 //! the name last.
 
 use crate::answers::{OutputAnswers, PrintedAnswer};
-use crate::parts::PoolParts;
+use crate::parts::{PartPlaces, PoolParts};
 use job_script::read_line;
 use mvs_job::AddressHints;
 use mvs_model::error::OutOfMemory;
@@ -102,9 +102,9 @@ impl Hearing {
         said: Option<PrintedAnswer>,
     ) -> Result<(), OutOfMemory> {
         match statement {
-            Statement::Region { .. } => {
+            Statement::Region { below, above, .. } => {
                 self.names.clear();
-                self.parts.clear();
+                self.parts.begin_step(below.get(), above.get());
             }
             Statement::Request(written) => {
                 if said == Some(PrintedAnswer::Granted) {
@@ -153,6 +153,56 @@ fn hear_lines(
         number = number.saturating_add(1);
     }
     Ok(hearing)
+}
+
+// Returns what is known of the parts of pools: the places that each one may have.
+fn hear_parts(alloc: Global, script: &str, output: &str) -> Result<HeardParts, OutOfMemory> {
+    let answers = OutputAnswers::read(alloc, 1, output)?;
+    let mut hearing = hear_lines(alloc, 1, script, &answers)?;
+    hearing.places.sort().map_err(|_| OutOfMemory)?;
+    let hints = by_lines(alloc, &hearing.places)?;
+    Ok(HeardParts {
+        parts: hearing.parts.candidates(alloc, &hints)?,
+        places: hearing.places,
+    })
+}
+
+/// The places of the areas and cells of a script that an output shows, and those that the parts of pools may have.
+#[derive(Drop)]
+pub struct HeardParts {
+    places: Vec<CellPlace>,
+    pub parts: Vec<PartPlaces>,
+}
+
+impl HeardParts {
+    /// Reads a script and an output. There are no parts if one of them is not text.
+    pub fn read(alloc: Global, script: &[u8], output: &[u8]) -> Result<HeardParts, OutOfMemory> {
+        match (str::from_utf8(script), str::from_utf8(output)) {
+            (Ok(script), Ok(output)) => hear_parts(alloc, script, output),
+            _ => Ok(HeardParts {
+                places: Vec::new(alloc),
+                parts: Vec::new(alloc),
+            }),
+        }
+    }
+
+    /// Returns the hints for a run in which each part is at one of its places, by its number in their list. A part without places is
+    /// left to the placement.
+    pub fn hints(&self, alloc: Global, choices: &[usize]) -> Result<AddressHints, OutOfMemory> {
+        let mut hints = by_lines(alloc, &self.places)?;
+        for (part, choice) in self.parts.iter().zip(choices) {
+            if part.is_further && hints.of(part.line).is_empty() {
+                continue;
+            }
+            let first = match part.first_cells.get(*choice) {
+                Some(first) => (*first).min(0x7FFF_FFFF),
+                None if part.is_further => 0,
+                None => continue,
+            };
+            hints.add(alloc, part.line, Addr::new(first))?;
+        }
+        Ok(hints)
+    }
 }
 
 // Records the texts.

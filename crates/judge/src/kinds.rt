@@ -19,9 +19,9 @@ pub enum GrantKind {
     Closed,
     /// An area of a task, which sets a name, by a request that is variable or not.
     Area(Name, Name, bool),
-    /// Areas of a task, each of which sets its own name.
+    /// Areas of a task with different names.
     Areas(Name, Names),
-    /// A cell, the parts of a pool, or areas two of which set the same name.
+    /// A cell, the parts of a pool, or areas that set a name twice.
     Several,
 }
 

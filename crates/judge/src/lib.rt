@@ -1,7 +1,7 @@
 //! Judges an output: whether it is the printing of a run of a script.
 #![tactic(auto)]
 
-ghost use Rattle.std.specs.Prelude.{◌≡◌, ◌<◌, ◌≤◌, ◌↔◌, ℕ, IfErr, IfOk, IsErrOf, length};
+ghost use Rattle.std.specs.Prelude.{◌≡◌, ◌<◌, ◌≤◌, ◌↔◌, ℕ, IfErr, IfOk, IfSome, IsErrOf, length};
 ghost use Rattle.mvs_model.specs.Numbers.{most_script_bytes};
 ghost use Rattle.mvs_model.specs.Lines.{lines_of};
 ghost use Rattle.mvs_model.specs.Runs.{IsPrinting};
@@ -21,11 +21,13 @@ mod list_answers;
 mod openings;
 mod parts;
 mod resting;
+mod search;
 
 use crate::exclusion::{Ruling, rule};
 use crate::following::follow;
 use crate::hearing::hear;
 use crate::resting::run_rest;
+use crate::search::search;
 use mvs_job::{AddressHints, RunFault, Walk};
 use mvs_model::error::OutOfMemory;
 use mvs_model::numbers::MOST_SCRIPT_BYTES;
@@ -212,10 +214,38 @@ fn settle(
     }
 }
 
-/// Judges an output with one run of the script, which uses the addresses in the output; or with another one, if only that prints
-/// the output. No answer shows where the parts of a pool are: the first run places them by their cells, the other one by the
-/// placement. An output that differs from both at a line that places do not decide, or has no answer there that the line can have, is
-/// refused.
+// Returns the judgement of an output for which a run is found that prints it.
+fn printed_by_some(
+    alloc: Global,
+    script: &[u8],
+    output: &[u8],
+) -> Result<Option<Judgement>, OutOfMemory>
+    requires { length script.now ≤ most_script_bytes }
+    ensures found { IfOk result (λ o. IfSome o
+        (λ j. IsFound script.now output.now j.text.items j.outcome j.finding)) }
+    ensures accepted { IfOk result (λ o. IfSome o (λ j. j.finding ≡ Finding.Accepted)) }
+    ensures run { IfOk result (λ o. IfSome o
+        (λ j. IsPrinting script.now j.text.items j.outcome)) }
+    ensures agrees { IfOk result (λ o. IfSome o (λ j. j.text.items ≡ output.now)) }
+{
+    let found = match search(alloc, script, output, Placement::Low)? {
+        Some(found) => Some(found),
+        None => search(alloc, script, output, Placement::High)?,
+    };
+    match found {
+        Some(run) => Ok(Some(Judgement {
+            outcome: run.outcome,
+            text: run.text,
+            finding: Finding::Accepted,
+        })),
+        None => Ok(None),
+    }
+}
+
+/// Judges an output with runs of the script that use the addresses in the output. No answer shows where the parts of a pool are: the first
+/// run places them by their cells, the second one by the placement, and further runs try each place that the known cells allow, up to
+/// a number of runs. If none of them prints the output, it is refused if it differs from the first two at a line that places do not
+/// decide, or has no answer there that the line can have.
 pub fn judge(alloc: Global, script: &[u8], output: &[u8]) -> Result<Judgement, RunFault>
     ensures found { IfOk result
         (λ j. IsFound script.now output.now j.text.items j.outcome j.finding) }
@@ -239,19 +269,21 @@ pub fn judge(alloc: Global, script: &[u8], output: &[u8]) -> Result<Judgement, R
     if script.len() > MOST_SCRIPT_BYTES {
         return Err(RunFault::ReadTooLong);
     }
-    let judgement = match judge_run(alloc, script, output, true) {
-        Ok(judgement) => judgement,
-        Err(fault) => return Err(fault),
-    };
+    let judgement = judge_run(alloc, script, output, true)?;
     let Finding::Undecided(_) = judgement.finding else {
         return Ok(judgement);
     };
-    let other = match judge_run(alloc, script, output, false) {
-        Ok(other) => other,
-        Err(fault) => return Err(fault),
-    };
+    let other = judge_run(alloc, script, output, false)?;
     if other.finding == Finding::Accepted {
         return Ok(other);
     }
-    settle(alloc, script, output, judgement)
+    let settled = settle(alloc, script, output, judgement)?;
+    let Finding::Undecided(_) = settled.finding else {
+        return Ok(settled);
+    };
+    match printed_by_some(alloc, script, output) {
+        Ok(Some(found)) => Ok(found),
+        Ok(None) => Ok(settled),
+        Err(OutOfMemory) => Err(RunFault::Memory),
+    }
 }

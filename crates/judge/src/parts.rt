@@ -8,6 +8,19 @@ use mvs_model::place::Addr;
 use std::alloc::Global;
 use std::collections::HashMap;
 
+// The bytes of a page, and where the pages of a step begin.
+const PAGE_BYTES: u32 = 4096;
+
+const BELOW_BEGINS: u32 = 0x6000;
+
+const ABOVE_BEGINS: u32 = 0x100_0000;
+
+// The most pages of each region in which a part is tried that has no known cell.
+const MOST_PAGES: u32 = 32;
+
+// The most places that are tried for a part.
+const MOST_PLACES: u32 = 4096;
+
 // The known cells of a part: the first one that was taken, the lowest and the highest.
 #[derive(Clone, Copy)]
 struct Cells {
@@ -16,8 +29,15 @@ struct Cells {
     highest: u32,
 }
 
-// A part: the line that added it to its pool, the line that built the pool, the size of a cell, the number of cells, and the known
-// ones.
+// The pages of a step, of which there are so many below 16 megabytes and above.
+#[derive(Clone, Copy)]
+struct StepPages {
+    below: u32,
+    above: u32,
+}
+
+// A part: the line that added it to its pool, the line that built the pool, the size of a cell, the number of cells, the known ones, and
+// the pages of the step.
 #[derive(Clone, Copy)]
 struct PoolPart {
     line: u32,
@@ -25,6 +45,7 @@ struct PoolPart {
     cell_size: u32,
     count: u32,
     cells: Option<Cells>,
+    pages: StepPages,
 }
 
 // A pool: the line at which it was made, how long a cell is, how many cells a further part has, how many cells are free, and the part
@@ -51,6 +72,7 @@ pub struct PoolParts {
     pools: HashMap<Name, Pool>,
     parts: Vec<PoolPart>,
     taken: Vec<PartCells>,
+    pages: StepPages,
 }
 
 impl Cells {
@@ -66,6 +88,90 @@ impl Cells {
 }
 
 impl PoolPart {
+    // Returns whether the known cells are cells of a part whose first cell is there.
+    fn has_cells(&self, cells: &Cells, first: u32) -> bool {
+        let Some(above) = cells.highest.checked_sub(first) else {
+            return false;
+        };
+        first % 8 == 0 && above / self.cell_size.max(1) < self.count
+    }
+
+    // Returns the bytes before the cells: four words, and a bit for each cell in whole doublewords.
+    fn head_len(&self) -> u32 {
+        (self.count.saturating_add(63) / 64)
+            .saturating_mul(8)
+            .saturating_add(16)
+    }
+
+    // Returns the bytes of the cells.
+    fn cells_len(&self) -> u32 {
+        self.count.saturating_mul(self.cell_size)
+    }
+
+    // Returns the bytes of the part.
+    fn len(&self) -> u32 {
+        let len = self.head_len().saturating_add(self.cells_len());
+        len.saturating_add(7) / 8 * 8
+    }
+
+    // Adds the places at the beginning or at the end of the first pages of a region.
+    fn push_by_pages(
+        &self,
+        places: &mut Vec<u32>,
+        begins: u32,
+        pages: u32,
+        at_end: bool,
+    ) -> Result<(), OutOfMemory> {
+        for page in 0..pages.min(MOST_PAGES) {
+            let begin = begins.saturating_add(page.saturating_mul(PAGE_BYTES));
+            let start = if at_end {
+                begin.saturating_add(PAGE_BYTES).saturating_sub(self.len())
+            } else {
+                begin
+            };
+            places
+                .push(start.saturating_add(self.head_len()))
+                .map_err(|_| OutOfMemory)?;
+        }
+        Ok(())
+    }
+
+    // Returns where the first cell of a part without a known one is tried: where the placement puts it, which is the hint 0, and at the
+    // beginning and the end of each page.
+    fn by_pages(&self, alloc: Global) -> Result<Vec<u32>, OutOfMemory> {
+        let mut places = Vec::new(alloc);
+        places.push(0).map_err(|_| OutOfMemory)?;
+        for at_end in [false, true] {
+            let StepPages { below, above } = self.pages;
+            self.push_by_pages(&mut places, BELOW_BEGINS, below, at_end)?;
+            self.push_by_pages(&mut places, ABOVE_BEGINS, above, at_end)?;
+        }
+        Ok(places)
+    }
+
+    // Returns where the first cell may be: the likeliest place, and then each one from which the known cells are whole cells away.
+    fn first_cells(&self, alloc: Global, go_down: bool) -> Result<Vec<u32>, OutOfMemory> {
+        let Some(cells) = self.cells else {
+            return self.by_pages(alloc);
+        };
+        let mut places = Vec::new(alloc);
+        let likeliest = self.first_cell(go_down);
+        if let Some(first) = likeliest {
+            places.push(first).map_err(|_| OutOfMemory)?;
+        }
+        let mut next = Some(cells.lowest);
+        for _ in 0..self.count.min(MOST_PLACES) {
+            let Some(first) = next else {
+                break;
+            };
+            if Some(first) != likeliest && self.has_cells(&cells, first) {
+                places.push(first).map_err(|_| OutOfMemory)?;
+            }
+            next = first.checked_sub(self.cell_size);
+        }
+        Ok(places)
+    }
+
     // Returns the part after one of its cells is known.
     fn with_cell(&self, addr: u32) -> PoolPart {
         let cells = match self.cells {
@@ -119,6 +225,33 @@ impl PoolPart {
     }
 }
 
+/// The places that a part may have.
+#[derive(Drop)]
+pub struct PartPlaces {
+    /// The line that added it.
+    pub line: u32,
+    /// Whether its pool had other parts before.
+    pub is_further: bool,
+    /// Where its first cell may be, the likeliest place first.
+    pub first_cells: Vec<u32>,
+    /// The bytes before its cells, and those of its cells.
+    pub head_len: u32,
+    pub cells_len: u32,
+}
+
+impl PartPlaces {
+    /// Returns whether one of its places has storage in the page of an address.
+    pub fn is_near(&self, choice: usize, addr: u32) -> bool {
+        let Some(first) = self.first_cells.get(choice) else {
+            return false;
+        };
+        let page = addr / PAGE_BYTES;
+        let begin = first.saturating_sub(self.head_len) / PAGE_BYTES;
+        let end = first.saturating_add(self.cells_len) / PAGE_BYTES;
+        begin <= page && page <= end
+    }
+}
+
 impl PoolParts {
     /// Makes the parts of a job in which there is no pool.
     pub fn new(alloc: Global) -> PoolParts {
@@ -126,12 +259,14 @@ impl PoolParts {
             pools: HashMap::new(alloc),
             parts: Vec::new(alloc),
             taken: Vec::new(alloc),
+            pages: StepPages { below: 0, above: 0 },
         }
     }
 
-    /// Forgets all pools, since a step begins.
-    pub fn clear(&mut self) {
+    /// Forgets all pools, since a step with so many pages begins.
+    pub fn begin_step(&mut self, below: u32, above: u32) {
         self.pools.clear();
+        self.pages = StepPages { below, above };
     }
 
     // Keeps a pool.
@@ -166,6 +301,7 @@ impl PoolParts {
             cell_size,
             count: primary,
             cells: None,
+            pages: self.pages,
         })?;
         let pool = Pool {
             line,
@@ -189,6 +325,7 @@ impl PoolParts {
                 cell_size: pool.cell_size,
                 count: pool.secondary,
                 cells: None,
+                pages: self.pages,
             })?;
             pool.free = pool.secondary;
         }
@@ -314,6 +451,28 @@ impl PoolParts {
             }
         }
         Ok(())
+    }
+
+    /// Returns the places that each part may have by its known cells, in the order of the parts.
+    pub fn candidates(
+        &mut self,
+        alloc: Global,
+        hints: &AddressHints,
+    ) -> Result<Vec<PartPlaces>, OutOfMemory> {
+        self.see_each(alloc, hints)?;
+        let go_down = self.go_down();
+        let mut all = Vec::new(alloc);
+        for part in &self.parts {
+            let places = PartPlaces {
+                line: part.line,
+                is_further: part.line != part.pool_line,
+                first_cells: part.first_cells(alloc, go_down)?,
+                head_len: part.head_len(),
+                cells_len: part.cells_len(),
+            };
+            all.push(places).map_err(|_| OutOfMemory)?;
+        }
+        Ok(all)
     }
 
     /// Leaves each part to the placement: the hint for a further one is an address where no cell begins.

@@ -8,7 +8,7 @@ use Rattle.language_server.specs.declared.span.Span.{Span}
 use Rattle.language_server.specs.LineOutputs.{LineOutputValue}
 use Rattle.language_server.specs.Spans.{IsIn, line_at, line_bytes, line_end, line_start, within}
 
--- an action: its title, what it writes in place of which bytes, and whether it mends what a diagnostic reports
+-- an action: its title, which bytes it replaces with what, and whether it mends what a diagnostic reports
 pub record ActionValue : Type 0 where
   pub title : List ℕ
   pub span : Span
@@ -33,7 +33,7 @@ written_text answer = codes " => " ++ shown answer
 abbrev pub statement_length : List ℕ → ℕ
 statement_length line = length (up_to (place_of arrow line) line)
 
--- the action that writes the answer of a line: in place of what follows the statement
+-- the action that writes the answer of a line: it replaces what follows the statement
 abbrev pub writing : List ℕ → ℕ → List ℕ → ActionValue
 writing text n answer = record {
   title = codes "Write" ++ written_text answer;

@@ -49,7 +49,7 @@ pub record AreToBlame (line : List ℕ) (fault : Fault) (columns : Columns) : Ty
       → first_of (flat_map (operand_checks row) (with_left (operands_after_form row (operands_of line)))) ≡ Some fault
       → IsOperandBlamed row line fault columns
 
--- columns, the first of which is 1, as a span of their line
+-- columns, counted from 1, as a span of their line
 abbrev pub columns_span : Columns → Span
 columns_span columns = record { start = columns.first - 1; end = columns.last }
 

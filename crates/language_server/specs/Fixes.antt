@@ -30,7 +30,7 @@ use Rattle.language_server.specs.declared.state.Moment.{Moment}
 abbrev pub fix : List ℕ → List ℕ → Span → List ℕ → ActionValue
 fix text title s written = record { title = title; span = within text s; text = written; is_fix = true }
 
--- the one that writes a word in place of some bytes
+-- the one that replaces some bytes with a word
 abbrev pub change : List ℕ → Span → List ℕ → ActionValue
 change text s word = fix text (codes "Change to " ++ shown word) s (shown word)
 
@@ -59,7 +59,7 @@ upper_byte b = if nat_le 97 b && nat_le b 122 then b - 32 else b
 abbrev pub asks_upper : List ℕ → Bool
 asks_upper message = is_some (place_of (codes "use upper case") message)
 
--- what is meant in place of a word
+-- the intended word for a wrong one
 abbrev pub meant_by : List ℕ → List ℕ → Option (List ℕ) → Option (List ℕ)
 meant_by message word (Some meant) = Some meant
 meant_by message word None = if asks_upper message then Some (map upper_byte word) else None

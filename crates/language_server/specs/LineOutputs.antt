@@ -21,7 +21,7 @@ abbrev pub is_own : ℕ → List (List ℕ) → Bool
 is_own number [] = false
 is_own number (l ∷ lines) = is_own_line number l
 
--- the first printed lines, as far as they belong to the line, and those after them
+-- the first printed lines that belong to the line, and those after them
 abbrev pub own : ℕ → List (List ℕ) → List (List ℕ)
 own number [] = []
 own number (l ∷ lines) = if is_own_line number l then l ∷ own number lines else []

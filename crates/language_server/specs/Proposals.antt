@@ -1,4 +1,4 @@
--- Completion: what may be written in place of the word before a place, by the table of statements. All of it is proposed, whatever is
+-- Completion: what can replace the word before a place, by the table of statements. All of it is proposed, whatever is
 -- typed of the word: the editor shows what fits.
 use Rattle.std.specs.Prelude.{ℕ, ◌+◌, ◌-◌, ◌==◌, ◌&&◌, ◌||◌, not, nat_le, nat_lt, count_by, Bool, true, false, if◌then◌else◌, List, [], ◌∷◌, ◌++◌, flat_map, map, length, min, reverse, take, slice_get, Option, Some, None, codes, decimal, bytes_eq}
 use Rattle.std.specs.List.{list_any}
@@ -131,7 +131,7 @@ has_names (grammar.DistinctNumbers least most) = false
 has_names (grammar.DistinctNames count) = true
 has_names (grammar.Addresses count) = true
 
--- the words, one of which an operand of a kind is
+-- the words that an operand of a kind can be
 abbrev pub words_of : grammar.Kind → List (List ℕ)
 words_of (grammar.Number least most) = []
 words_of grammar.HexByte = []

@@ -23,7 +23,7 @@ abbrev pub onto_reason : Option (List ℕ) → List (List ℕ) → List (List �
 onto_reason None texts = []
 onto_reason (Some text) texts = text ∷ texts
 
--- the texts of printed lines, at most of a number of them, and as far as they begin with an asterisk
+-- the texts of the first printed lines that begin with an asterisk, at most a number of them
 abbrev pub reasons_in : ℕ → List (List ℕ) → List (List ℕ)
 reasons_in zero lines = []
 reasons_in (suc most) [] = []

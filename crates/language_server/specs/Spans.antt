@@ -11,7 +11,7 @@ IsIn text s = (s.start ≤ s.end) × (s.end ≤ length text)
 abbrev pub bytes_of : List ℕ → Span → List ℕ
 bytes_of text s = if nat_le s.start s.end && nat_le s.end (length text) then slice_range text s.start s.end else []
 
--- a span, as far as it is in a text
+-- the part of a span that is in a text
 abbrev pub within : List ℕ → Span → Span
 within text s = record { start = min s.start (length text); end = max (min s.end (length text)) (min s.start (length text)) }
 

@@ -6,7 +6,7 @@ use Rattle.mvs_model.specs.Reading.{is_empty, row_of, rows_of}
 abbrev pub after_bars : List (List ℕ) → List ℕ
 after_bars words = flat_map (λ word. codes "|" ++ word) words
 
--- words, one of which is written
+-- alternative words
 abbrev pub alternatives : List (List ℕ) → List ℕ
 alternatives [] = []
 alternatives (word ∷ words) = word ++ after_bars words

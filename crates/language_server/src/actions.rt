@@ -12,7 +12,7 @@ use expected_answers::{ARROW, parted_at, trimmed};
 use std::alloc::{AllocError, Global};
 use std::marker::Model;
 
-/// An action that an editor offers: what it writes in place of some bytes.
+/// An action that an editor offers: the text with which it replaces some bytes.
 #[derive(Drop)]
 pub struct Action {
     title: String,

@@ -8,11 +8,11 @@ use crate::notes::{Note, Severity};
 use crate::runnable::FaultAt;
 use crate::span::Span;
 use diagnosis::{Columns, diagnose};
-use job_script::fault_digit;
+use line_text::fault_digit;
 use mvs_model::line::Fault;
 use std::alloc::{AllocError, Global};
 
-// Returns columns, the first of which is 1, as a span of their line.
+// Returns columns, counted from 1, as a span of their line.
 fn columns_span(columns: Columns) -> Span
     ensures { result ≡ columns_span columns }
 {

@@ -108,7 +108,7 @@ fn change_title(alloc: Global, word: &[u8]) -> Result<String, AllocError>
 }
 
 impl Document {
-    // Returns the action that writes a word in place of some bytes.
+    // Returns the action that replaces some bytes with a word.
     fn change(&self, alloc: Global, span: Span, word: &[u8]) -> Result<Action, AllocError>
         ensures { IfOk result (λ action. action ≡ change self.now.text span word.now) }
     {
@@ -117,7 +117,7 @@ impl Document {
         Ok(Action::fix(title, self.within(span), text))
     }
 
-    // Adds the action that writes a word in place of some bytes.
+    // Adds the action that replaces some bytes with a word.
     fn push_change(
         &self,
         alloc: Global,
@@ -133,7 +133,7 @@ impl Document {
         Ok(())
     }
 
-    // Adds the action that writes a word in place of some bytes, if there is a word.
+    // Adds the action that replaces some bytes with a word, if there is a word.
     fn push_changes(
         &self,
         alloc: Global,
@@ -150,7 +150,7 @@ impl Document {
         }
     }
 
-    // Adds the change to what is meant in place of the word of a diagnostic, if that is known.
+    // Adds the change of the word of a diagnostic to the intended one, if that is known.
     fn push_meant(
         &self,
         alloc: Global,

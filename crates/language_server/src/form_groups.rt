@@ -70,7 +70,7 @@ impl Forms {
         push_block(alloc, found, &text)
     }
 
-    // Goes on with another group: joins it, if it takes the same operands, or else adds the syntax of this one.
+    // Continues with another group: joins it if it takes the same operands, or else adds the syntax of this one.
     fn go_on(
         &mut self,
         alloc: Global,
@@ -92,7 +92,7 @@ impl Forms {
         Ok(())
     }
 
-    // Goes on with a form.
+    // Continues with a form.
     fn next(
         &mut self,
         alloc: Global,

@@ -275,7 +275,7 @@ impl Proposals {
         self.push(ProposalKind::Value, text, String::new(self.alloc))
     }
 
-    // Adds words, one of which is the value of an operand.
+    // Adds the words that an operand can have as its value.
     fn push_words(&mut self, words: &[&str]) -> Result<(), AllocError>
         ensures { OnOk result
             (self.new ≡ self.old ++ map word_proposal (map (λ word. word.now) words.now)) }
@@ -286,7 +286,7 @@ impl Proposals {
         Ok(())
     }
 
-    /// Adds the words, one of which an operand of a kind is.
+    /// Adds the words that an operand of a kind can be.
     pub(crate) fn push_words_of(&mut self, kind: Kind) -> Result<(), AllocError>
         ensures { OnOk result
             (self.new ≡ self.old ++ map word_proposal (words_of (as_kind kind))) }

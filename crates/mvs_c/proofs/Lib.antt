@@ -1,5 +1,8 @@
 pub mod Handles
 pub mod Labels
+pub mod ListLines
+pub mod ListRows
+pub mod ListStatements
 pub mod Mapped
 pub mod Scanning
 pub mod NumberTexts
@@ -8,3 +11,6 @@ pub mod Pieces
 pub mod StatementRows
 pub mod Statements
 pub mod Unwritten
+pub mod Shown
+pub mod SubpoolLists
+pub mod SubpoolNumbers

@@ -1,19 +1,17 @@
 -- The statement of a request by values is read as that request.
-use Rattle.std.proofs.Common.{◌≡◌, ◌⊎◌, refl, sym, subst, ap, ◌∙◌, ℕ, ◌<◌, ◌≤◌, ◌^◌, Bool, true, false, not, List, [], ◌∷◌, ◌++◌, length, map, Option, None, Some, MatchOption, unwrap_or, codes, decimal, append-nil, append_assoc, eq-zero-or-pos, arith, lit<, inl, inr, if◌then◌else◌}
+use Rattle.std.proofs.Common.{◌≡◌, ◌⊎◌, refl, sym, subst, ap, ◌∙◌, ℕ, ◌<◌, ◌≤◌, ◌^◌, Bool, true, false, List, [], ◌∷◌, ◌++◌, length, Option, None, Some, MatchOption, unwrap_or, codes, decimal, append-nil, append_assoc, eq-zero-or-pos, arith, lit<, inl, inr, if◌then◌else◌}
 use Rattle.mvs_model.specs.declared.code.Form.{Form}
 use Rattle.mvs_model.specs.declared.code.Form.TheVariants as form
 use Rattle.mvs_model.specs.declared.line.Location.TheVariants.{Absolute}
 use Rattle.mvs_model.specs.declared.line.SourceRequest.{SourceRequest}
 use Rattle.mvs_model.specs.declared.line.SourceRequest.TheVariants as written
-use Rattle.mvs_model.specs.declared.line.Statement.TheVariants as says
 use Rattle.mvs_model.specs.declared.want.Loc.{Loc}
 use Rattle.mvs_model.specs.declared.want.Loc.TheVariants as loc
-use Rattle.mvs_model.specs.declared.want.Residence.TheVariants as residence
-use Rattle.mvs_model.specs.Grammar.{Kind, Word, Number, DistinctNumbers, NumberOrPair, Name}
+use Rattle.mvs_model.specs.Grammar.{Kind, NumberOrPair}
 use Rattle.mvs_model.specs.Name.{padded}
-use Rattle.mvs_model.specs.Reading.{is_name, is_list, is_text, largest, smallest}
-use Rattle.mvs_model.specs.Spelling.{Fits, absolute_text, keyword_text, line_text, list_text}
-use Rattle.mvs_model.specs.Spellings.{SpellsFixed, SpellsPlaced, SpellsVariable, SpellsVariablePlaced, SpellsRelease, SpellsWhole, Operand, AllFit, cpid, may, must, res, sp, cond_word, filled, sized_operands, length_kind, lengths_kind, residence_spelling}
+use Rattle.mvs_model.specs.Reading.{is_name, is_list, largest, smallest}
+use Rattle.mvs_model.specs.Spelling.{Fits, absolute_text, line_text, list_text}
+use Rattle.mvs_model.specs.Spellings.{SpellsFixed, SpellsPlaced, SpellsVariable, SpellsVariablePlaced, SpellsRelease, SpellsWhole, cpid, sp, cond_word, sized_operands, length_kind, lengths_kind}
 use Rattle.mvs_model.proofs.Spellings.{each_is_spelled}
 use Rattle.mvs_model.proofs.ValueTexts.{each_is_written}
 use Rattle.mvs_model.specs.declared.request.Request.{Request}
@@ -22,8 +20,9 @@ use Rattle.mvs_model.specs.Place.{place_at}
 use Rattle.mvs_c.specs.declared.ask.RawRequest.{RawRequest}
 use Rattle.mvs_c.specs.declared.field.RequestField.TheVariants as field
 use Rattle.mvs_c.specs.declared.ask.RequestKind.TheVariants.{Obtain, Release, ReleaseWhole, Build, Get, Free, Delete, Attach, Return, Abend, Show, Move, SystemAbend}
-use Rattle.mvs_c.specs.Asks.{IsLeast, IsLength, IsLocation, IsStart, IsWithin, ask_value, form_numbered, form_value, gifts_value, is_located, location_value, name_text, name_value, needs_least, obtains_one, or_else, releases_one, request_value, releases_whole, residence_value, takes_least, within_value}
-use Rattle.mvs_c.specs.Statements.{IsReadAs, StatementsAreRead, area_key, boundary_word, cond_text, free_text, length_key, lengths_text, loc_word, obtain_text, released_form, set_text, statement_text, where_text, within_text}
+use Rattle.mvs_c.specs.Asks.{IsLeast, IsLength, IsLocation, IsStart, IsWithin, ask_value, form_numbered, form_value, gifts_value, is_located, location_value, name_text, name_value, needs_least, obtains_one, or_else, releases_one, request_value, releases_whole, takes_least, within_value}
+use Rattle.mvs_c.specs.Statements.{IsReadAs, StatementsAreRead, area_key, boundary_word, cond_text, free_text, length_key, lengths_text, loc_word, obtain_text, released_form, statement_text, where_text, within_text}
+use Rattle.mvs_c.proofs.SubpoolLists.{attach_read, in_words}
 use Rattle.mvs_c.proofs.StatementRows.{not_zero, short_line, obtained, IsLine, getmain, fixed_is, pair_is, variable_is, placed_by, placed_is, variable_placed_is, stored_by, storage, IsCond, no_cond, yes_cond, stored_is, freemain, place_by, release_is, whole_is, storage_place_by, storage_release_is, storage_whole_is, cpool, built_by, build_is, taken_by, get_is, freed_by, free_is, delete_is, abend_is, show_is, move_is, row3, row4, row5, row6, row7}
 
 -- ---- obtains of a struct
@@ -465,68 +464,6 @@ move_read a named to from bytes few =
     let r : SourceRequest = written.Move (Absolute a.address) (Absolute a.source) a.length in
     record { written = r; read = same_line (name_text a.task) _ _ r same (move_is (name_text a.task) a.address a.source a.length named to from bytes.0 bytes.1) few; request = λ names. refl }
 
--- ---- ATTACH
-
-abbrev attached_by : List ℕ → List ℕ → List ℕ → List Operand
-attached_by name zero home =
-    must (codes "TASK") Name name ∷ may (codes "GSPV") (Number 1 127) None ∷ may (codes "GSPL") (DistinctNumbers 1 127) None ∷ may (codes "SHSPV") (Number 1 127) None
-    ∷ may (codes "SHSPL") (DistinctNumbers 1 127) None ∷ may (codes "SZERO") (Word (codes "YES" ∷ codes "NO" ∷ [])) (Some zero) ∷ res (Some home) ∷ []
-
-abbrev attach : List ℕ → List ℕ → List ℕ → List ℕ → List ℕ
-attach task name zero home = line_text task (codes "ATTACH") (map keyword_text (filled (attached_by name zero home)))
-
-attach_is : (task name zero home : List ℕ) → is_name task ≡ true → is_name name ≡ true → Fits (Word (codes "YES" ∷ codes "NO" ∷ [])) zero → Fits (Word (codes "BELOW" ∷ codes "ABOVE" ∷ [])) home
-    → (few : length (attach task name zero home) ≤ 240)
-    → IsLine task (attach task name zero home) (written.Attach (padded name) (record { given = 0; shared = 0; zero = not (is_text (codes "NO") (Some zero)) }) (residence_spelling (Some home)))
-attach_is task name zero home named subtask_named zero_fits home_fits few =
-    let fits : AllFit (attached_by name zero home)
-    = record { each = ((each_is_written.name_is name subtask_named).fits, (tt, (tt, (tt, (tt, (zero_fits, (home_fits, tt))))))) } in
-    each_is_spelled.attach name None None None None (Some zero) (Some home) refl refl refl fits task named (short_line _ few)
-
-abbrev attach_text : Bool → Bool → List ℕ → List ℕ → ℕ → ℕ → List ℕ
-attach_text keeps above task name given shared =
-    task ++ codes " " ++ (codes "ATTACH TASK=" ++ name ++ set_text (codes ",GSPL=") given ++ set_text (codes ",SHSPL=") shared ++ (if keeps then codes ",SZERO=NO" else codes ",SZERO=YES") ++ (if above then codes ",RES=ABOVE" else codes ",RES=BELOW"))
-
--- without lists of numbers
-attach_row : (keeps above : Bool) (task name : List ℕ) (given shared : ℕ) → given ≡ 0 → shared ≡ 0
-    → attach_text keeps above task name given shared ≡ task ++ (codes " " ++ (codes "ATTACH TASK=" ++ (name ++ ((if keeps then codes ",SZERO=NO" else codes ",SZERO=YES") ++ (if above then codes ",RES=ABOVE" else codes ",RES=BELOW")))))
-attach_row keeps above task name given shared no_given no_shared =
-    in_a_row task _ _ (
-    (λ i. codes "ATTACH TASK=" ++ name ++ set_text (codes ",GSPL=") (no_given i) ++ set_text (codes ",SHSPL=") (no_shared i) ++ (if keeps then codes ",SZERO=NO" else codes ",SZERO=YES") ++ (if above then codes ",RES=ABOVE" else codes ",RES=BELOW"))
-    ∙ (λ i. append-nil (append-nil (codes "ATTACH TASK=" ++ name) i) i ++ (if keeps then codes ",SZERO=NO" else codes ",SZERO=YES") ++ (if above then codes ",RES=ABOVE" else codes ",RES=BELOW"))
-    ∙ row4 (codes "ATTACH TASK=") name (if keeps then codes ",SZERO=NO" else codes ",SZERO=YES") (if above then codes ",RES=ABOVE" else codes ",RES=BELOW"))
-
-attach_read : (keeps above : Bool) (task name : List ℕ) (given shared : ℕ) → is_name task ≡ true → is_name name ≡ true → given ≡ 0 → shared ≡ 0 → length (attach_text keeps above task name given shared) ≤ 240
-    → IsReadAs (padded task) (request.Attach (padded name) (record { given = given; shared = shared; zero = not keeps }) (residence_value above)) (attach_text keeps above task name given shared)
-attach_read true true task name given shared named subtask_named no_given no_shared few =
-    let r : SourceRequest = written.Attach (padded name) (record { given = 0; shared = 0; zero = false }) residence.Above in
-    record {
-      written = r;
-      read = same_line task _ _ r (attach_row true true task name given shared no_given no_shared) (attach_is task name (codes "NO") (codes "ABOVE") named subtask_named (record { of_kind = refl; within = refl; once = refl; operand = record { word = record { some = refl; printed = refl }; closed = refl } }) (record { of_kind = refl; within = refl; once = refl; operand = record { word = record { some = refl; printed = refl }; closed = refl } })) few;
-      request = λ names. λ i. Some (request.Attach (padded name) (record { given = sym no_given i; shared = sym no_shared i; zero = false }) residence.Above);
-    }
-attach_read true false task name given shared named subtask_named no_given no_shared few =
-    let r : SourceRequest = written.Attach (padded name) (record { given = 0; shared = 0; zero = false }) residence.Below in
-    record {
-      written = r;
-      read = same_line task _ _ r (attach_row true false task name given shared no_given no_shared) (attach_is task name (codes "NO") (codes "BELOW") named subtask_named (record { of_kind = refl; within = refl; once = refl; operand = record { word = record { some = refl; printed = refl }; closed = refl } }) (record { of_kind = refl; within = refl; once = refl; operand = record { word = record { some = refl; printed = refl }; closed = refl } })) few;
-      request = λ names. λ i. Some (request.Attach (padded name) (record { given = sym no_given i; shared = sym no_shared i; zero = false }) residence.Below);
-    }
-attach_read false true task name given shared named subtask_named no_given no_shared few =
-    let r : SourceRequest = written.Attach (padded name) (record { given = 0; shared = 0; zero = true }) residence.Above in
-    record {
-      written = r;
-      read = same_line task _ _ r (attach_row false true task name given shared no_given no_shared) (attach_is task name (codes "YES") (codes "ABOVE") named subtask_named (record { of_kind = refl; within = refl; once = refl; operand = record { word = record { some = refl; printed = refl }; closed = refl } }) (record { of_kind = refl; within = refl; once = refl; operand = record { word = record { some = refl; printed = refl }; closed = refl } })) few;
-      request = λ names. λ i. Some (request.Attach (padded name) (record { given = sym no_given i; shared = sym no_shared i; zero = true }) residence.Above);
-    }
-attach_read false false task name given shared named subtask_named no_given no_shared few =
-    let r : SourceRequest = written.Attach (padded name) (record { given = 0; shared = 0; zero = true }) residence.Below in
-    record {
-      written = r;
-      read = same_line task _ _ r (attach_row false false task name given shared no_given no_shared) (attach_is task name (codes "YES") (codes "BELOW") named subtask_named (record { of_kind = refl; within = refl; once = refl; operand = record { word = record { some = refl; printed = refl }; closed = refl } }) (record { of_kind = refl; within = refl; once = refl; operand = record { word = record { some = refl; printed = refl }; closed = refl } })) few;
-      request = λ names. λ i. Some (request.Attach (padded name) (record { given = sym no_given i; shared = sym no_shared i; zero = true }) residence.Below);
-    }
-
 -- ---- each struct
 
 taken : (takes : Form → Bool) (o : Option Form) → MatchOption o ⊥ (λ f. takes f ≡ true) → takes (unwrap_or o form.R) ≡ true
@@ -534,7 +471,7 @@ taken takes None is = absurd is
 taken takes (Some f) is = is
 
 pub are_read : StatementsAreRead
-are_read Obtain a area named area_named fits none few =
+are_read Obtain a area named area_named fits words few =
     let says : Says (form_value a.form) a area = record {
       task = named;
       named = area_named;
@@ -546,17 +483,17 @@ are_read Obtain a area named area_named fits none few =
       location = fits field.Location;
     } in
     obtain_read (form_value a.form) (taken obtains_one (form_numbered a.form) (fits field.Form)) a area says few
-are_read Release a area named area_named fits none few =
+are_read Release a area named area_named fits words few =
     let frees : Frees a = record { task = named; sub = fits field.Subpool; length = fits field.Length; address = fits field.Address } in
     release_read (form_value a.form) (taken releases_one (form_numbered a.form) (fits field.Form)) a frees few
-are_read ReleaseWhole a area named area_named fits none few = whole_read (form_value a.form) (taken releases_whole (form_numbered a.form) (fits field.Form)) a named (fits field.Subpool) few
-are_read Build a area named area_named fits none few = build_read a named (fits field.Name) (fits field.Length) (fits field.Primary) (fits field.Secondary) (fits field.Subpool) few
-are_read Get a area named area_named fits none few = get_read a.conditional (name_text a.task) (name_text a.name) area named (fits field.Name) area_named few
-are_read Free a area named area_named fits none few = free_read a named (fits field.Name) (fits field.Address) few
-are_read Delete a area named area_named fits none few = delete_read a named (fits field.Name) few
-are_read Attach a area named area_named fits none few = attach_read a.keeps_zero a.above (name_text a.task) (name_text a.name) (gifts_value a).given (gifts_value a).shared named (fits field.Name) none.0 none.1 few
-are_read Return a area named area_named fits none few = return_read a named few
-are_read Abend a area named area_named fits none few = abend_read a named (fits field.Code) few
-are_read Show a area named area_named fits none few = show_read a named (fits field.Address) (fits field.Length) few
-are_read Move a area named area_named fits none few = move_read a named (fits field.Address) (fits field.Source) (fits field.Length) few
-are_read SystemAbend a area named area_named fits none few = abend_read a named (fits field.Code) few
+are_read ReleaseWhole a area named area_named fits words few = whole_read (form_value a.form) (taken releases_whole (form_numbered a.form) (fits field.Form)) a named (fits field.Subpool) few
+are_read Build a area named area_named fits words few = build_read a named (fits field.Name) (fits field.Length) (fits field.Primary) (fits field.Secondary) (fits field.Subpool) few
+are_read Get a area named area_named fits words few = get_read a.conditional (name_text a.task) (name_text a.name) area named (fits field.Name) area_named few
+are_read Free a area named area_named fits words few = free_read a named (fits field.Name) (fits field.Address) few
+are_read Delete a area named area_named fits words few = delete_read a named (fits field.Name) few
+are_read Attach a area named area_named fits words few = attach_read a.keeps_zero a.above (name_text a.task) (name_text a.name) (gifts_value a).given (gifts_value a).shared named (fits field.Name) (in_words a.given_low a.given_high words.0 words.1) (in_words a.shared_low a.shared_high words.2 words.3) (fits field.Subpools) few
+are_read Return a area named area_named fits words few = return_read a named few
+are_read Abend a area named area_named fits words few = abend_read a named (fits field.Code) few
+are_read Show a area named area_named fits words few = show_read a named (fits field.Address) (fits field.Length) few
+are_read Move a area named area_named fits words few = move_read a named (fits field.Address) (fits field.Source) (fits field.Length) few
+are_read SystemAbend a area named area_named fits words few = abend_read a named (fits field.Code) few

@@ -17,6 +17,7 @@ use Rattle.mvs_job.specs.Valued.{WritesOf}
 use Rattle.mvs_c.specs.Asks.{IsNamed, name_value}
 use Rattle.mvs_c.specs.Opens.{OpenValue, without_line}
 use Rattle.mvs_c.specs.Reasons.{no_why}
+use Rattle.mvs_c.specs.Recording.{forgotten}
 
 -- P holds of the step that runs, and one does.
 abbrev pub InStep : OpenValue → (JobValue → Type 0) → Type 0
@@ -40,7 +41,7 @@ pub record Reads (o : OpenValue) (address : ℕ) (before after : List ℕ) (stat
 pub record WritesAt (old : OpenValue) (address : ℕ) (bytes : List ℕ) (new : OpenValue) (status : ℕ) : Type 0 where
   pub over : old.session.continues ≡ false → (new ≡ old) × (status ≡ 24)
   pub written : old.session.continues ≡ true → MayRead old address (length bytes)
-      → (later : WalkValue) × WritesOf old.session.walk (place_at address (length bytes)) bytes true later × (new ≡ without_line later no_why) × (status ≡ 0)
+      → (later : WalkValue) × WritesOf old.session.walk (place_at address (length bytes)) bytes true later × (new ≡ without_line later no_why (forgotten old.recorder)) × (status ≡ 0)
   pub refused : old.session.continues ≡ true → (MayRead old address (length bytes) → ⊥) → (new ≡ old) × (status ≡ 36)
 
 -- One of several things is returned, or there is none, and nothing changes.

@@ -279,6 +279,11 @@ request_value Move a = request.Move a.address a.source a.length
 pub record AsksOf (k : RequestKind) (a : RawRequest) (r : Result Request RequestField) : Type 0 where
   pub first : FitsOr (Fits k a) (reads k) (request_value k a) r
 
+-- a request that is written over another, or the field that does not fit
+abbrev pub answer_of : Option RequestField → Request → Result Request RequestField
+answer_of None r = Ok r
+answer_of (Some f) r = Err f
+
 -- The number of bytes of a struct, which it has to have in its own field.
 abbrev pub ask_bytes : ℕ
 ask_bytes = 112
@@ -310,3 +315,8 @@ with_task t (Err f) = Err f
 abbrev pub TaskAsks : RawRequest → (Result Request RequestField → Type 0) → Result (Name × Request) RequestField → Type 0
 TaskAsks a asks r = (task : Result Name RequestField) × NamesTask a task
     × MatchResult task (λ t. (request : Result Request RequestField) × asks request × (r ≡ with_task t request)) (λ f. r ≡ Err f)
+
+-- a request that is written over another, with the task that makes it
+abbrev pub named_answer : Result Name RequestField → Request → Result (Name × Request) RequestField
+named_answer (Ok t) r = Ok (t, r)
+named_answer (Err f) r = Err f

@@ -1,5 +1,5 @@
 -- What the calls of C do. The numbers of the statuses are this project's choice.
-use Rattle.std.specs.Prelude.{◌≡◌, ◌≢◌, ◌⊎◌, ℕ, ◌+◌, ◌<◌, ◌≤◌, List, [], ◌∷◌, ◌++◌, drop, length, Option, Some, None, Result, Ok, Err, IfOk, MatchBool, MatchOption, MatchResult, true, false}
+use Rattle.std.specs.Prelude.{◌≡◌, ◌≢◌, ◌⊎◌, ℕ, ◌+◌, ◌<◌, ◌≤◌, List, [], ◌∷◌, ◌++◌, drop, length, Option, Some, None, Result, Ok, Err, IfOk, IsSome, MatchBool, MatchOption, MatchResult, true, false}
 use Rattle.mvs_model.specs.declared.name.Name.{Name}
 use Rattle.mvs_model.specs.declared.request.Request.{Request}
 use Rattle.mvs_model.specs.declared.outcome.Outcome.{Outcome}
@@ -22,8 +22,10 @@ use Rattle.mvs_c.specs.declared.list.ListArea.{ListArea}
 use Rattle.mvs_c.specs.Asks.{TaskAsks, kind_numbered}
 use Rattle.mvs_c.specs.Events.{requested_event, event_of_line, end_event, refused_event}
 use Rattle.mvs_c.specs.Lists.{AsksList, area_values, listed}
-use Rattle.mvs_c.specs.Opens.{OpenValue, TakesLine, fault_of, last_of, without_line}
+use Rattle.mvs_c.specs.Effects.{asked_of}
+use Rattle.mvs_c.specs.Opens.{OpenValue, TakesLine, fault_of, last_of, recording, without_line}
 use Rattle.mvs_c.specs.Reasons.{WhyValue, no_why}
+use Rattle.mvs_c.specs.Recording.{RecordsLine, forgotten, recorded_values}
 use Rattle.mvs_c.specs.Why.{IsWhyOfLine, IsWhyOfValues}
 
 -- The numbers of the lowest and of the highest place.
@@ -56,6 +58,7 @@ ExecutesLine old line line_event new =
     × (new.session.walk.number ≡ old.session.walk.number + 1) × (new.session.continues ≡ continues line_event) × (new.last ≡ last_of old.session.walk.number line_event)
     × IfOk line_event (λ line_event. KeepsReplyOf old.session.walk line line_event new.session.walk)
     × MatchResult line_event (λ line_event. IsWhyOfLine old.session.walk.step line line_event new.session.walk new.why) (λ _. new.why ≡ no_why)
+    × RecordsLine old.recorder old.session.walk.step line line_event new.recorder
 
 -- The result of a call with a line: the session executes it, or accepts none, and then nothing changes.
 abbrev pub AnswersLine : OpenValue → List ℕ → OpenValue → Event → Event → ℕ → Type 0
@@ -79,7 +82,7 @@ abbrev pub AnswersValues : OpenValue → Option RequestKind → Result (Name × 
 AnswersValues old kind (Err f) new before after status = (new ≡ old) × (after ≡ refused_event f) × (status ≡ 52)
 AnswersValues old kind (Ok asked) new before after status = MatchOption old.session.walk.step
     (Leaves old new before after 56 status)
-    (λ _. (later : WalkValue) × (why : WhyValue) × RequestsOf old.session.walk asked.0 asked.1 true later × IsWhyOfValues old.session.walk.step asked.0 asked.1 later why × (new ≡ without_line later why) × (after ≡ requested_event kind asked.0 later.reply) × (status ≡ 0))
+    (λ _. (later : WalkValue) × (why : WhyValue) × RequestsOf old.session.walk asked.0 asked.1 true later × IsWhyOfValues old.session.walk.step asked.0 asked.1 later why × (new ≡ without_line later why (recorded_values old.recorder old.session.walk.step asked.0 (asked_of asked.1))) × (after ≡ requested_event kind asked.0 later.reply) × (status ≡ 0))
 
 -- What a call answers that gives a session a request by values, of those that a struct may ask for: a job that has ended takes none.
 abbrev pub AnswersRequest : OpenValue → RawRequest → (Result Request RequestField → Type 0) → OpenValue → Event → Event → ℕ → Type 0
@@ -97,13 +100,20 @@ AnswersList old a areas new values before after status =
 abbrev pub EndsJob : OpenValue → JobEnd → OpenValue → Type 0
 EndsJob old end new =
     Closes machine old.session.walk.number old.session.walk.step (closing old.session.walk.number end.ended) end.outcome
-    × (new ≡ record { session = record { walk = old.session.walk; continues = false }; last = last.Closed old.session.walk.number end.ended; why = no_why })
+    × (new ≡ record { session = record { walk = old.session.walk; continues = false }; last = last.Closed old.session.walk.number end.ended; why = no_why; recorder = forgotten old.recorder })
 
 -- The result of a call that ends a job.
 abbrev pub AnswersEnd : OpenValue → OpenValue → Event → Event → ℕ → Type 0
 AnswersEnd old new before after status =
     (old.session.continues ≡ true → (end : JobEnd) × EndsJob old end new × (after ≡ end_event end.ended) × (status ≡ outcome_status end.outcome))
     × (old.session.continues ≡ false → (new ≡ old) × (after ≡ before) × (status ≡ 24))
+
+-- The result of a call after which a session records each request: it does, or memory is exhausted, and then nothing changes. If it
+-- records already, nothing changes.
+pub record StartsRecording (old new : OpenValue) (status : ℕ) : Type 0 where
+  pub begun : status ≡ 0 → new ≡ recording old
+  pub memory : status ≢ 0 → (status ≡ 16) × (new ≡ old)
+  pub already : IsSome old.recorder.owned → status ≡ 0
 
 -- Some bytes are returned in a buffer, at its front, with this status; or it is too small for them, and does not change. Their
 -- number is returned.

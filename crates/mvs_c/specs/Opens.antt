@@ -1,4 +1,4 @@
--- What a handle of C holds.
+-- What a handle of C holds: a session, its last event, why its last request was refused, and what is recorded of it.
 use Rattle.std.specs.Prelude.{refl, ◌≡◌, ℕ, ◌+◌, ◌^◌, ◌<◌, List, [], true, Option, Result, Ok, Err}
 use Rattle.std.specs.Coded.{Coded, code_by, coded×}
 use Rattle.mvs_model.specs.declared.line.Fault.{Fault}
@@ -13,21 +13,25 @@ use Rattle.mvs_job.specs.LineEvents.{WalkValue, IsAvailable, events_of_line, end
 use Rattle.mvs_c.specs.declared.last.Last.{Last}
 use Rattle.mvs_c.specs.declared.last.Last.TheVariants as last
 use Rattle.mvs_c.specs.contracts.last.Last.{the_row}
+use Rattle.mvs_c.specs.declared.effect.EffectFields.{EffectFields}
+use Rattle.mvs_c.specs.declared.recorder.Recorder.{Recorder}
 use Rattle.mvs_c.specs.Reasons.{WhyValue, why_code, no_why}
+use Rattle.mvs_c.specs.Recording.{effects_in, no_recorder, recorder_code, switched_on}
 
--- a session, its last event, and why its last request was refused
+-- a session, its last event, why its last request was refused, and what is recorded of it
 pub record OpenValue : Type 0 where
   pub session : SessionValue
   pub last : Last
   pub why : WhyValue
+  pub recorder : Recorder
 
 -- a code, for a model's value
 abbrev pub open_code : Coded OpenValue
-open_code = code_by (SessionValue × (Last × WhyValue)) (coded× session_code (coded× the_row.coded why_code)) (λ o. (o.session, (o.last, o.why))) (λ p. record { session = p.0; last = p.1.0; why = p.1.1 }) (λ _. refl)
+open_code = code_by (SessionValue × (Last × (WhyValue × Recorder))) (coded× session_code (coded× the_row.coded (coded× why_code recorder_code))) (λ o. (o.session, (o.last, (o.why, o.recorder)))) (λ p. record { session = p.0; last = p.1.0; why = p.1.1.0; recorder = p.1.1.1 }) (λ _. refl)
 
 -- a session before its first line
 abbrev pub new_open : OpenValue
-new_open = record { session = new_session; last = last.Nothing; why = no_why }
+new_open = record { session = new_session; last = last.Nothing; why = no_why; recorder = no_recorder }
 
 -- the last events
 abbrev pub events_of : WalkValue → Last → List Event
@@ -40,9 +44,17 @@ events_of w (last.Closed number end) = closing number end
 abbrev pub text_of : OpenValue → List ℕ
 text_of o = printing (events_of o.session.walk o.last)
 
--- a session that continues, with its job in this state, no event of a line, and why a request was refused
-abbrev pub without_line : WalkValue → WhyValue → OpenValue
-without_line w why = record { session = record { walk = w; continues = true }; last = last.Nothing; why = why }
+-- a session that continues, with its job in this state, no event of a line, why a request was refused, and what is recorded of it
+abbrev pub without_line : WalkValue → WhyValue → Recorder → OpenValue
+without_line w why recorder = record { session = record { walk = w; continues = true }; last = last.Nothing; why = why; recorder = recorder }
+
+-- the same session, which records each request from now on
+abbrev pub recording : OpenValue → OpenValue
+recording o = record o { recorder = switched_on o.recorder }
+
+-- the effects of the last event, if requests are recorded
+abbrev pub effects_of : OpenValue → List EffectFields
+effects_of o = effects_in o.recorder o.session.walk.step o.session.walk.reply
 
 -- The session has the long data of its last event.
 abbrev pub LastIsAvailable : WalkValue → Last → Type 0

@@ -2,7 +2,7 @@
 -- are the rules of RULES.md that the text of a reason names.
 use Rattle.std.specs.Prelude.{refl, ℕ, List, [], replicate, Option, Some, None}
 use Rattle.std.specs.Coded.{Coded, code_by, coded×, coded_list, coded_ℕ, coded_option}
-use Rattle.job_script.specs.ReasonTexts.{cell_of, least_of, name_of, reason_line}
+use Rattle.explanation.specs.ReasonTexts.{cell_of, least_of, name_of, reason_line}
 use Rattle.mvs_model.specs.declared.name.Name.{Name}
 use Rattle.mvs_model.specs.declared.request.Request.{Request}
 use Rattle.mvs_model.specs.declared.reason.Holder.{Holder}

@@ -1,5 +1,5 @@
 -- The statement that makes the request of a struct of C.
-use Rattle.std.specs.Prelude.{◌≡◌, ◌≢◌, ℕ, zero, suc, ◌-◌, ◌<◌, ◌≤◌, ◌==◌, Bool, true, false, Result, MatchResult, List, [], ◌∷◌, ◌++◌, length, Option, Some, None, codes, decimal, if◌then◌else◌}
+use Rattle.std.specs.Prelude.{◌≡◌, ◌≢◌, ℕ, zero, suc, ◌-◌, ◌^◌, ◌<◌, ◌≤◌, ◌==◌, Bool, true, false, Result, MatchResult, List, [], ◌∷◌, ◌++◌, length, Option, Some, None, codes, decimal, if◌then◌else◌}
 use Rattle.std.specs.FinMap.{FinMap}
 use Rattle.mvs_model.specs.declared.code.Form.{Form}
 use Rattle.mvs_model.specs.declared.code.Form.TheVariants.{R, Rc, Ru, Vrc, Vru, Ec, Eu, Vc, Vu, Lc, Lu, Storage, StorageConditional}
@@ -163,14 +163,14 @@ pub record IsReadAs (task : List ℕ) (r : Request) (text : List ℕ) : Type 0 w
   pub read : LineOf false text (line.Statement task (says.Request written))
   pub request : (names : FinMap name_cmp PlaceValue) → resolved names written ≡ Some r
 
--- The struct gives a subtask no subpools, and shares none with it by their numbers.
-abbrev pub GivesNone : RequestKind → RawRequest → Type 0
-GivesNone Attach a = ((gifts_value a).given ≡ 0) × ((gifts_value a).shared ≡ 0)
-GivesNone k a = Unit {0}
+-- The words that have the subpools of a subtask have 64 bits, as in C.
+abbrev pub HasWords : RequestKind → RawRequest → Type 0
+HasWords Attach a = (a.given_low < 2 ^ 64) × (a.given_high < 2 ^ 64) × (a.shared_low < 2 ^ 64) × (a.shared_high < 2 ^ 64)
+HasWords k a = Unit {0}
 
--- The statement of each struct whose fields fit is read so, if it has at most 240 bytes. (of ATTACH with GSPL or SHSPL tests show it)
+-- The statement of each struct whose fields fit is read so, if it has at most 240 bytes.
 abbrev pub StatementsAreRead : Type 0
-StatementsAreRead = (k : RequestKind) (a : RawRequest) (area : List ℕ) → IsNamed a.task → is_name area ≡ true → ((f : RequestField) → Fits k a f) → GivesNone k a
+StatementsAreRead = (k : RequestKind) (a : RawRequest) (area : List ℕ) → IsNamed a.task → is_name area ≡ true → ((f : RequestField) → Fits k a f) → HasWords k a
     → length (statement_text k a area) ≤ 240 → IsReadAs (name_value a.task) (stated_value k a) (statement_text k a area)
 
 -- What is returned of the statement of a struct: its text; or nothing, since it is too long, or a field of the struct or the name of an

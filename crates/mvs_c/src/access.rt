@@ -13,7 +13,7 @@ use mvs_model::place::{Addr, Place};
 use mvs_model::report::{MapRun, SubpoolLine};
 
 /// The first address that is none.
-const ADDRESSES: u32 = 1 << 31;
+pub const ADDRESSES: u32 = 1 << 31;
 
 /// The number of bytes of a line of REPORT SP, and of REPORT MAP.
 const SUBPOOL_BYTES: u32 = 20;

@@ -7,7 +7,7 @@ ghost use Rattle.mvs_model.specs.Numbers.{least_cell_bytes, most_cell_bytes, mos
 ghost use Rattle.mvs_model.specs.Place.{place_at};
 ghost use Rattle.mvs_model.specs.Want.{IsExponent};
 ghost use Rattle.mvs_c.specs.Asks as asks;
-ghost use Rattle.mvs_c.specs.Asks.{Asks, AsksOf, IsCount, IsLeast, IsLength, IsLocation, IsNamed, IsStart, IsWithin, NamesTask, TakesForm, TaskAsks, ends_name, form_numbered, form_value, gifts_value, kind_numbered, location_value, name_value, name_text, or_else, within_value};
+ghost use Rattle.mvs_c.specs.Asks.{Asks, AsksOf, IsCount, IsLeast, IsLength, IsLocation, IsNamed, IsStart, IsWithin, NamesTask, TakesForm, TaskAsks, answer_of, ends_name, form_numbered, form_value, gifts_value, kind_numbered, location_value, name_value, name_text, named_answer, or_else, within_value};
 ghost use Rattle.mvs_c.specs.declared.ask.RequestKind.TheVariants as kind;
 
 use crate::field::RequestField;
@@ -397,146 +397,153 @@ impl RawRequest {
         Gifts::new(given, shared, !self.keeps_zero)
     }
 
-    fn obtain(&self) -> Result<Request, RequestField>
-        ensures { AsksOf kind.Obtain self.now result }
+    fn obtain(&self, request: &mut Request) -> Option<RequestField>
+        ensures { AsksOf kind.Obtain self.now (answer_of result request.new) }
     {
         let Some(form) = obtaining(self.form) else {
-            return Err(RequestField::Form);
+            return Some(RequestField::Form);
         };
         let Some(number) = subpool_of(self.subpool) else {
-            return Err(RequestField::Subpool);
+            return Some(RequestField::Subpool);
         };
         let Some(most) = length_of(self.length) else {
-            return Err(RequestField::Length);
+            return Some(RequestField::Length);
         };
         let Some(least) = least_in(form, self.least, most) else {
-            return Err(RequestField::Least);
+            return Some(RequestField::Least);
         };
         let Some(start) = start_in(form, self.boundary) else {
-            return Err(RequestField::Boundary);
+            return Some(RequestField::Boundary);
         };
         let Some(within) = within_in(form, self.within) else {
-            return Err(RequestField::Within);
+            return Some(RequestField::Within);
         };
         let Some(loc) = location_in(form, self.location) else {
-            return Err(RequestField::Location);
+            return Some(RequestField::Location);
         };
         let ask = want::AreaRequest::fixed(most, start, loc).at_least(least);
         let ask = match within {
             Some(within) => ask.within(within),
             None => ask,
         };
-        Ok(Request::Obtain { form, number, ask })
+        *request = Request::Obtain { form, number, ask };
+        None
     }
 
-    fn release(&self) -> Result<Request, RequestField>
-        ensures { AsksOf kind.Release self.now result }
+    fn release(&self, request: &mut Request) -> Option<RequestField>
+        ensures { AsksOf kind.Release self.now (answer_of result request.new) }
     {
         let Some(form) = releasing(self.form) else {
-            return Err(RequestField::Form);
+            return Some(RequestField::Form);
         };
         let Some(number) = subpool_of(self.subpool) else {
-            return Err(RequestField::Subpool);
+            return Some(RequestField::Subpool);
         };
         let Some(len) = length_of(self.length) else {
-            return Err(RequestField::Length);
+            return Some(RequestField::Length);
         };
         let Some(addr) = address_of(self.address) else {
-            return Err(RequestField::Address);
+            return Some(RequestField::Address);
         };
-        Ok(Request::Release {
+        *request = Request::Release {
             form,
             number,
             place: Place::new(addr, len.get()),
-        })
+        };
+        None
     }
 
-    fn release_whole(&self) -> Result<Request, RequestField>
-        ensures { AsksOf kind.ReleaseWhole self.now result }
+    fn release_whole(&self, request: &mut Request) -> Option<RequestField>
+        ensures { AsksOf kind.ReleaseWhole self.now (answer_of result request.new) }
     {
         let Some(form) = releasing_whole(self.form) else {
-            return Err(RequestField::Form);
+            return Some(RequestField::Form);
         };
         let Some(number) = subpool_of(self.subpool) else {
-            return Err(RequestField::Subpool);
+            return Some(RequestField::Subpool);
         };
-        Ok(Request::ReleaseWhole { form, number })
+        *request = Request::ReleaseWhole { form, number };
+        None
     }
 
-    fn build(&self) -> Result<Request, RequestField>
-        ensures { AsksOf kind.Build self.now result }
+    fn build(&self, request: &mut Request) -> Option<RequestField>
+        ensures { AsksOf kind.Build self.now (answer_of result request.new) }
     {
         let Some(number) = subpool_of(self.subpool) else {
-            return Err(RequestField::Subpool);
+            return Some(RequestField::Subpool);
         };
         let Some(size) = cell_size(self.length) else {
-            return Err(RequestField::Length);
+            return Some(RequestField::Length);
         };
         let Some(loc) = location_of(self.location) else {
-            return Err(RequestField::Location);
+            return Some(RequestField::Location);
         };
         let Some(primary) = count_of(self.primary) else {
-            return Err(RequestField::Primary);
+            return Some(RequestField::Primary);
         };
         let Some(secondary) = count_of(or_else(self.secondary, self.primary)) else {
-            return Err(RequestField::Secondary);
+            return Some(RequestField::Secondary);
         };
         let Some(pool) = name_of(&self.name) else {
-            return Err(RequestField::Name);
+            return Some(RequestField::Name);
         };
-        Ok(Request::Build {
+        *request = Request::Build {
             pool,
             number,
             size,
             primary,
             secondary,
             loc,
-        })
+        };
+        None
     }
 
-    fn get(&self) -> Result<Request, RequestField>
-        ensures { AsksOf kind.Get self.now result }
+    fn get(&self, request: &mut Request) -> Option<RequestField>
+        ensures { AsksOf kind.Get self.now (answer_of result request.new) }
     {
         let Some(pool) = name_of(&self.name) else {
-            return Err(RequestField::Name);
+            return Some(RequestField::Name);
         };
-        Ok(Request::Get {
+        *request = Request::Get {
             pool,
             conditional: self.conditional,
-        })
+        };
+        None
     }
 
-    fn free(&self) -> Result<Request, RequestField>
-        ensures { AsksOf kind.Free self.now result }
+    fn free(&self, request: &mut Request) -> Option<RequestField>
+        ensures { AsksOf kind.Free self.now (answer_of result request.new) }
     {
         let Some(cell) = address_of(self.address) else {
-            return Err(RequestField::Address);
+            return Some(RequestField::Address);
         };
         let Some(pool) = name_of(&self.name) else {
-            return Err(RequestField::Name);
+            return Some(RequestField::Name);
         };
-        Ok(Request::Free { pool, cell })
+        *request = Request::Free { pool, cell };
+        None
     }
 
-    fn delete(&self) -> Result<Request, RequestField>
-        ensures { AsksOf kind.Delete self.now result }
+    fn delete(&self, request: &mut Request) -> Option<RequestField>
+        ensures { AsksOf kind.Delete self.now (answer_of result request.new) }
     {
         let Some(pool) = name_of(&self.name) else {
-            return Err(RequestField::Name);
+            return Some(RequestField::Name);
         };
-        Ok(Request::Delete { pool })
+        *request = Request::Delete { pool };
+        None
     }
 
-    fn attach(&self) -> Result<Request, RequestField>
-        ensures { AsksOf kind.Attach self.now result }
+    fn attach(&self, request: &mut Request) -> Option<RequestField>
+        ensures { AsksOf kind.Attach self.now (answer_of result request.new) }
     {
         let Some(gifts) = self.gifts() else {
-            return Err(RequestField::Subpools);
+            return Some(RequestField::Subpools);
         };
         let Some(name) = name_of(&self.name) else {
-            return Err(RequestField::Name);
+            return Some(RequestField::Name);
         };
-        Ok(Request::Attach {
+        *request = Request::Attach {
             name,
             gifts,
             residence: if self.above {
@@ -544,74 +551,81 @@ impl RawRequest {
             } else {
                 Residence::Below
             },
-        })
+        };
+        None
     }
 
     // An abend with a system code is one with the user code of the same number.
-    fn abend(&self) -> Result<Request, RequestField>
-        ensures user { AsksOf kind.Abend self.now result }
-        ensures system { AsksOf kind.SystemAbend self.now result }
+    fn abend(&self, request: &mut Request) -> Option<RequestField>
+        ensures user { AsksOf kind.Abend self.now (answer_of result request.new) }
+        ensures system { AsksOf kind.SystemAbend self.now (answer_of result request.new) }
     {
         if self.code >= 4_096 {
-            return Err(RequestField::Code);
+            return Some(RequestField::Code);
         }
-        Ok(Request::Abend(UserCode::new(self.code)))
+        *request = Request::Abend(UserCode::new(self.code));
+        None
     }
 
-    fn show(&self) -> Result<Request, RequestField>
-        ensures { AsksOf kind.Show self.now result }
+    fn show(&self, request: &mut Request) -> Option<RequestField>
+        ensures { AsksOf kind.Show self.now (answer_of result request.new) }
     {
         let Some(len) = ShowLength::checked(self.length) else {
-            return Err(RequestField::Length);
+            return Some(RequestField::Length);
         };
         let Some(from) = address_of(self.address) else {
-            return Err(RequestField::Address);
+            return Some(RequestField::Address);
         };
-        Ok(Request::Show { from, len })
+        *request = Request::Show { from, len };
+        None
     }
 
-    fn copy(&self) -> Result<Request, RequestField>
-        ensures { AsksOf kind.Move self.now result }
+    fn copy(&self, request: &mut Request) -> Option<RequestField>
+        ensures { AsksOf kind.Move self.now (answer_of result request.new) }
     {
         let Some(len) = MoveLength::checked(self.length) else {
-            return Err(RequestField::Length);
+            return Some(RequestField::Length);
         };
         let Some(to) = address_of(self.address) else {
-            return Err(RequestField::Address);
+            return Some(RequestField::Address);
         };
         let Some(from) = address_of(self.source) else {
-            return Err(RequestField::Source);
+            return Some(RequestField::Source);
         };
-        Ok(Request::Move { to, from, len })
+        *request = Request::Move { to, from, len };
+        None
     }
 
-    // Returns the request of a struct of this kind, or the first field that does not fit.
-    fn request_of(&self, kind: RequestKind) -> Result<Request, RequestField>
-        ensures { AsksOf kind self.now result }
+    // Writes the request of a struct of this kind over another, or returns the first field that does not fit.
+    fn request_of(&self, kind: RequestKind, request: &mut Request) -> Option<RequestField>
+        ensures { AsksOf kind self.now (answer_of result request.new) }
     {
         match kind {
-            RequestKind::Obtain => self.obtain(),
-            RequestKind::Release => self.release(),
-            RequestKind::ReleaseWhole => self.release_whole(),
-            RequestKind::Build => self.build(),
-            RequestKind::Get => self.get(),
-            RequestKind::Free => self.free(),
-            RequestKind::Delete => self.delete(),
-            RequestKind::Attach => self.attach(),
-            RequestKind::Return => Ok(Request::Return),
-            RequestKind::Abend | RequestKind::SystemAbend => self.abend(),
-            RequestKind::Show => self.show(),
-            RequestKind::Move => self.copy(),
+            RequestKind::Obtain => self.obtain(request),
+            RequestKind::Release => self.release(request),
+            RequestKind::ReleaseWhole => self.release_whole(request),
+            RequestKind::Build => self.build(request),
+            RequestKind::Get => self.get(request),
+            RequestKind::Free => self.free(request),
+            RequestKind::Delete => self.delete(request),
+            RequestKind::Attach => self.attach(request),
+            RequestKind::Return => {
+                *request = Request::Return;
+                None
+            }
+            RequestKind::Abend | RequestKind::SystemAbend => self.abend(request),
+            RequestKind::Show => self.show(request),
+            RequestKind::Move => self.copy(request),
         }
     }
 
-    // Returns the request, or the first field that does not fit.
-    fn request(&self) -> Result<Request, RequestField>
-        ensures { Asks self.now result }
+    // Writes the request over another, or returns the first field that does not fit.
+    fn request(&self, request: &mut Request) -> Option<RequestField>
+        ensures { Asks self.now (answer_of result request.new) }
     {
         match self.kind() {
-            Some(kind) => self.request_of(kind),
-            None => Err(RequestField::Kind),
+            Some(kind) => self.request_of(kind, request),
+            None => Some(RequestField::Kind),
         }
     }
 
@@ -635,17 +649,17 @@ impl RawRequest {
         Ok(task)
     }
 
-    /// Returns the task and the request that it makes, or the first field that does not fit.
-    pub fn task_request(&self) -> Result<(Name, Request), RequestField>
-        ensures { TaskAsks self.now (Asks self.now) result }
+    /// Writes the request over another, and returns the task that makes it, or the first field that does not fit.
+    pub fn task_request(&self, request: &mut Request) -> Result<Name, RequestField>
+        ensures { TaskAsks self.now (Asks self.now) (named_answer result request.new) }
     {
         let task = match self.named_task() {
             Ok(task) => task,
             Err(field) => return Err(field),
         };
-        match self.request() {
-            Ok(request) => Ok((task, request)),
-            Err(field) => Err(field),
+        match self.request(request) {
+            None => Ok(task),
+            Some(field) => Err(field),
         }
     }
 }

@@ -5,7 +5,7 @@ ghost use Rattle.mvs_model.specs.FullAnswers.{ended_with_in};
 ghost use Rattle.mvs_model.specs.declared.report.MapRun.{MapRun};
 ghost use Rattle.mvs_c.specs.Access.{AnswersSubpool, FindsRun, Reads, ReturnsOne, WritesAt, run_bytes, run_value, subpool_bytes};
 ghost use Rattle.mvs_c.specs.Opens.{TakesLine, events_of, new_open, text_of};
-ghost use Rattle.mvs_c.specs.Asks.{Asks};
+ghost use Rattle.mvs_c.specs.Asks.{Asks, named_answer};
 ghost use Rattle.mvs_c.specs.Events.{event_bytes};
 ghost use Rattle.mvs_c.specs.Held.{FindsHeld, held_bytes, held_value};
 ghost use Rattle.mvs_c.specs.declared.held.HeldRun.{HeldRun};
@@ -48,7 +48,7 @@ use std::alloc::Global;
 use std::mem;
 
 /// The version of these calls.
-const VERSION: u32 = 2_003;
+const VERSION: u32 = 2_006;
 
 /// Returns the status of an outcome.
 pub fn outcome_status(outcome: Outcome) -> u32
@@ -84,15 +84,15 @@ pub fn placement(number: u32) -> Option<Placement>
     }
 }
 
-// Puts a session into a handle. One that it held is freed.
-fn put(alloc: Global, session: &mut Handle, held: Box<Open>)
+/// Puts a session into a handle. One that it held is freed.
+pub fn put(alloc: Global, session: &mut Handle, held: Box<Open>)
     ensures { session.new.open ≡ Some held.value }
 {
     drop(mem::replace(session, Handle::of(held)).into_box(alloc));
 }
 
-// Takes the session out of a handle.
-fn take_out(alloc: Global, session: &mut Handle) -> Option<Box<Open>>
+/// Takes the session out of a handle.
+pub fn take_out(alloc: Global, session: &mut Handle) -> Option<Box<Open>>
     ensures none { result ≡ None → session.old.open ≡ None }
     ensures some { IfSome result (λ held. session.old.open ≡ Some held.value) }
     ensures left { session.new.open ≡ None }
@@ -132,20 +132,22 @@ fn try_line(held: &mut Open, line: &[u8], event: &mut Event) -> u32
 fn serve(
     held: &mut Open,
     kind: Option<RequestKind>,
-    asked: Result<(Name, Request), RequestField>,
+    named: Result<Name, RequestField>,
+    request: &Request,
     event: &mut Event,
 ) -> u32
     requires { held.old.session.continues ≡ true }
-    ensures { AnswersValues held.old kind asked held.new event.old event.new result }
+    ensures { AnswersValues held.old kind (named_answer named request.now) held.new event.old event.new
+        result }
 {
-    let (task, request) = match asked {
-        Ok(asked) => asked,
+    let task = match named {
+        Ok(task) => task,
         Err(field) => {
             *event = refused_event(field);
             return NO_REQUEST;
         }
     };
-    if !held.request(&task, &request) {
+    if !held.request(&task, request) {
         return NO_STEP;
     }
     *event = requested_event(kind, &task, held.reply());
@@ -159,7 +161,9 @@ fn execute_request(held: &mut Open, ask: &RawRequest, event: &mut Event) -> u32
     if !held.continues() {
         return OVER;
     }
-    serve(held, ask.kind(), ask.task_request(), event)
+    let mut request = Request::Return;
+    let named = ask.task_request(&mut request);
+    serve(held, ask.kind(), named, &request, event)
 }
 
 // Passes a list request to a session, if it continues and a step is running.
@@ -174,7 +178,9 @@ fn execute_list(held: &mut Open, ask: &RawRequest, areas: &mut [ListArea], event
     if !held.continues() {
         return OVER;
     }
-    let status = serve(held, ask.kind(), ask.task_list_request(areas), event);
+    let mut request = Request::Return;
+    let named = ask.task_list_request(areas, &mut request);
+    let status = serve(held, ask.kind(), named, &request, event);
     if status == OK {
         write_listed(held.reply(), areas);
     }
@@ -225,7 +231,7 @@ fn show(alloc: Global, held: &Open, out: &mut [u8], wanted: &mut usize) -> u32
 /// Returns the version of these calls.
 #[unsafe(no_mangle)]
 pub extern "C" fn mvs_version() -> u32
-    ensures { result ≡ 2003 }
+    ensures { result ≡ 2006 }
 {
     VERSION
 }
@@ -248,6 +254,41 @@ pub extern "C" fn mvs_new(alloc: Global, session: &mut Handle, place: u32) -> u3
         }
         Err(_) => NO_MEMORY,
     }
+}
+
+// Puts a copy of a session into a handle.
+fn put_copy(alloc: Global, held: &Open, to: &mut Handle) -> u32
+    ensures copied { result ≡ 0 → to.new.open ≡ Some held.now }
+    ensures memory { result ≢ 0 → to.new.open ≡ to.old.open }
+    ensures status { (result ≡ 0) ⊎ (result ≡ 16) }
+{
+    let Ok(copy) = held.try_clone() else {
+        return NO_MEMORY;
+    };
+    match Box::new(alloc, copy) {
+        Ok(copy) => {
+            put(alloc, to, copy);
+            OK
+        }
+        Err(_) => NO_MEMORY,
+    }
+}
+
+/// Makes a copy of a session. One that the other handle held is freed.
+#[unsafe(no_mangle)]
+pub extern "C" fn mvs_clone(alloc: Global, from: &mut Handle, to: &mut Handle) -> u32
+    ensures from { from.new.open ≡ from.old.open }
+    ensures copied { result ≡ 0 → to.new.open ≡ from.old.open }
+    ensures memory { result ≢ 0 → to.new.open ≡ to.old.open }
+    ensures none { from.old.open ≡ None → result ≡ 20 }
+    ensures some { IsSome from.old.open → (result ≡ 0) ⊎ (result ≡ 16) }
+{
+    let Some(held) = take_out(alloc, from) else {
+        return NO_SESSION;
+    };
+    let status = put_copy(alloc, &held, to);
+    put(alloc, from, held);
+    status
 }
 
 /// Executes a line, which is given without its newline.
@@ -707,7 +748,7 @@ pub extern "C" fn mvs_statement_into(
 ) -> u32
     ensures { States ask.now area.now out.old out.new wanted.old wanted.new result }
 {
-    let Ok(_) = ask.task_request() else {
+    let Ok(_) = ask.task_request(&mut Request::Return) else {
         return NO_REQUEST;
     };
     if name_of(area).is_none() {

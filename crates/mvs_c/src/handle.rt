@@ -13,7 +13,7 @@ use std::ptr;
 /// An owned session, or none, where the pointer is null.
 #[repr(C)]
 pub struct Handle {
-    at: *mut u8,
+    pub(crate) at: *mut u8,
     pub ghost open: { Option OpenValue } by { coded_option open_code },
 }
 

@@ -5,8 +5,8 @@ ghost use Rattle.mvs_c.specs.Reasons.{no_why};
 ghost use Rattle.mvs_c.specs.Why.{IsWhy};
 
 use crate::reason::{ReasonFields, reason_fields};
-use job_script::reason_text;
-use job_script::text::LineText;
+use explanation::reason_text;
+use line_text::text::LineText;
 use mvs_job::{Job, Observer};
 use mvs_model::name::Name;
 use mvs_model::reason::{LineReason, Shortfall};
@@ -79,5 +79,15 @@ impl LastReason {
         ensures { result ≡ self.now.fields }
     {
         self.fields
+    }
+
+    /// Returns a copy.
+    pub fn copied(&self) -> LastReason
+        ensures { result ≡ self.now }
+    {
+        LastReason {
+            text: self.text.copied(),
+            fields: self.fields,
+        }
     }
 }

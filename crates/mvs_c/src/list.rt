@@ -2,7 +2,7 @@
 
 ghost use Rattle.std.specs.Prelude.{◌≡◌, ◌<◌, ◌≤◌, ◌+◌, ◌^◌, ◌++◌, MatchBool, SomeIff, length, map};
 ghost use Rattle.mvs_model.specs.Place.{place_at};
-ghost use Rattle.mvs_c.specs.Asks.{TakesForm, TaskAsks, form_value, or_else};
+ghost use Rattle.mvs_c.specs.Asks.{TakesForm, TaskAsks, answer_of, form_value, named_answer, or_else};
 ghost use Rattle.mvs_c.specs.Lists.{AreLengths, ArePlaces, AsksList, IsListLength, IsListStart, ObtainsList, ReleasesList, area_values, is_list_form, listed};
 
 use crate::ask::{
@@ -122,57 +122,59 @@ fn places_of(areas: &[ListArea]) -> Option<Places>
 }
 
 impl RawRequest {
-    fn obtain_list(&self, areas: &[ListArea]) -> Result<Request, RequestField>
-        ensures { ObtainsList self.now areas.now result }
+    fn obtain_list(&self, areas: &[ListArea], request: &mut Request) -> Option<RequestField>
+        ensures { ObtainsList self.now areas.now (answer_of result request.new) }
     {
         let Some(form) = list_form(self.form) else {
-            return Err(RequestField::Form);
+            return Some(RequestField::Form);
         };
         let Some(number) = subpool_of(self.subpool) else {
-            return Err(RequestField::Subpool);
+            return Some(RequestField::Subpool);
         };
         let Some(start) = list_start(self.boundary) else {
-            return Err(RequestField::Boundary);
+            return Some(RequestField::Boundary);
         };
         let Some(lengths) = lengths_of(areas) else {
-            return Err(RequestField::Areas);
+            return Some(RequestField::Areas);
         };
-        Ok(Request::ObtainList {
+        *request = Request::ObtainList {
             form,
             number,
             lengths,
             start,
-        })
+        };
+        None
     }
 
-    fn release_list(&self, areas: &[ListArea]) -> Result<Request, RequestField>
-        ensures { ReleasesList self.now areas.now result }
+    fn release_list(&self, areas: &[ListArea], request: &mut Request) -> Option<RequestField>
+        ensures { ReleasesList self.now areas.now (answer_of result request.new) }
     {
         let Some(form) = list_form(self.form) else {
-            return Err(RequestField::Form);
+            return Some(RequestField::Form);
         };
         let Some(number) = subpool_of(self.subpool) else {
-            return Err(RequestField::Subpool);
+            return Some(RequestField::Subpool);
         };
         let Some(places) = places_of(areas) else {
-            return Err(RequestField::Areas);
+            return Some(RequestField::Areas);
         };
-        Ok(Request::ReleaseList {
+        *request = Request::ReleaseList {
             form,
             number,
             places,
-        })
+        };
+        None
     }
 
-    fn list_request(&self, areas: &[ListArea]) -> Result<Request, RequestField>
-        ensures { AsksList self.now areas.now result }
+    fn list_request(&self, areas: &[ListArea], request: &mut Request) -> Option<RequestField>
+        ensures { AsksList self.now areas.now (answer_of result request.new) }
     {
         let Some(kind) = self.kind() else {
-            return Err(RequestField::Kind);
+            return Some(RequestField::Kind);
         };
         match kind {
-            RequestKind::Obtain => self.obtain_list(areas),
-            RequestKind::Release => self.release_list(areas),
+            RequestKind::Obtain => self.obtain_list(areas, request),
+            RequestKind::Release => self.release_list(areas, request),
             RequestKind::ReleaseWhole
             | RequestKind::Build
             | RequestKind::Get
@@ -183,21 +185,25 @@ impl RawRequest {
             | RequestKind::Abend
             | RequestKind::SystemAbend
             | RequestKind::Show
-            | RequestKind::Move => Err(RequestField::Kind),
+            | RequestKind::Move => Some(RequestField::Kind),
         }
     }
 
-    /// Returns the task and the list request that it makes, or the first field that does not fit.
-    pub fn task_list_request(&self, areas: &[ListArea]) -> Result<(Name, Request), RequestField>
-        ensures { TaskAsks self.now (AsksList self.now areas.now) result }
+    /// Writes the list request over another, and returns the task that makes it, or the first field that does not fit.
+    pub fn task_list_request(
+        &self,
+        areas: &[ListArea],
+        request: &mut Request,
+    ) -> Result<Name, RequestField>
+        ensures { TaskAsks self.now (AsksList self.now areas.now) (named_answer result request.new) }
     {
         let task = match self.named_task() {
             Ok(task) => task,
             Err(field) => return Err(field),
         };
-        match self.list_request(areas) {
-            Ok(request) => Ok((task, request)),
-            Err(field) => Err(field),
+        match self.list_request(areas, request) {
+            None => Ok(task),
+            Some(field) => Err(field),
         }
     }
 }

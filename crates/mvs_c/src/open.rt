@@ -1,23 +1,27 @@
-//! A session, its last event, and why its last request was refused.
+//! A session, its last event, why its last request was refused, and what is recorded of it.
 
-ghost use Rattle.std.specs.Prelude.{◌≡◌, ◌≢◌, ◌+◌, ◌^◌, ◌<◌, ◌∷◌, [], true, false, None, length, IfOk, MatchBool, MatchOption, MatchResult, OnErr};
+ghost use Rattle.std.specs.Prelude.{◌≡◌, ◌≢◌, ◌+◌, ◌^◌, ◌<◌, ◌∷◌, [], true, false, None, length, IfOk, IsOk, IsSome, MatchBool, MatchOption, MatchResult, OnErr};
 ghost use Rattle.mvs_model.specs.FullAnswers.{ended_with_in};
 ghost use Rattle.mvs_model.specs.Memory.{StopsForMemory};
 ghost use Rattle.mvs_model.specs.Runs.{machine};
 ghost use Rattle.mvs_model.specs.Walk.{Closes};
-ghost use Rattle.job_script.specs.Writing.{Prints};
+ghost use Rattle.line_text.specs.Writing.{Prints};
 ghost use Rattle.mvs_job.specs.LineEvents.{ServesAs, KeepsReplyOf, closing, ended, continues};
 ghost use Rattle.mvs_job.specs.Valued.{RequestsOf, WritesOf};
 ghost use Rattle.mvs_c.specs.declared.last.Last.TheVariants as last;
+ghost use Rattle.mvs_c.specs.Effects.{asked_of};
 ghost use Rattle.mvs_c.specs.Reasons.{no_why};
+ghost use Rattle.mvs_c.specs.Recording.{RecordsLine, forgotten, recorded_values, switched_on};
 ghost use Rattle.mvs_c.specs.Why.{IsWhyOfLine, IsWhyOfValues};
-ghost use Rattle.mvs_c.specs.Opens.{TakesLine, events_of, fault_of, last_of, new_open, text_of, without_line};
+ghost use Rattle.mvs_c.specs.Opens.{TakesLine, events_of, fault_of, last_of, new_open, recording, text_of, without_line};
 
 use crate::last::Last;
 use crate::last_reason::LastReason;
 use crate::reason::ReasonFields;
+use crate::recorder::Recorder;
 use job_script::read_line;
 use mvs_job::{Job, JobEnd, LineEvent, OutOfMemoryAt, Session, print_closing, print_line};
+use mvs_model::error::OutOfMemory;
 use mvs_model::line::{Fault, Line};
 use mvs_model::name::Name;
 use mvs_model::place::Place;
@@ -28,12 +32,13 @@ use std::alloc::Global;
 use std::io::Write;
 use std::marker::Model;
 
-/// A session, its last event, and why its last request was refused.
+/// A session, its last event, why its last request was refused, and what is recorded of it.
 #[derive(Drop)]
 pub struct Open {
     session: Session,
     last: Last,
     why: LastReason,
+    recorder: Recorder,
 }
 
 impl Model for Open {
@@ -43,7 +48,7 @@ impl Model for Open {
 
     ghost coded = { open_code };
 
-    ghost view = { λ o. record { session = o.session; last = o.last; why = o.why } };
+    ghost view = { λ o. record { session = o.session; last = o.last; why = o.why; recorder = o.recorder } };
 
     ghost invariant = { λ o. LastIsAvailable o.session.walk o.last };
 }
@@ -57,6 +62,7 @@ impl Open {
             session: Session::new(alloc, placement),
             last: Last::Nothing,
             why: LastReason::new(),
+            recorder: Recorder::none(),
         }
     }
 
@@ -116,10 +122,13 @@ impl Open {
             (λ line_event. IsWhyOfLine self.old.session.walk.step line.now line_event self.new.session.walk
             self.new.why) }
         ensures silent { OnErr result (self.new.why ≡ no_why) }
+        ensures recorder { RecordsLine self.old.recorder self.old.session.walk.step line.now result self.new.recorder }
     {
         let number = self.session.walk().number();
         self.why.clear();
+        self.recorder.look(self.session.walk(), line);
         let line_event = self.session.observed_line(line, &mut self.why);
+        self.recorder.settle(&line_event);
         self.last = match &line_event {
             Ok(line_event) => Last::Line {
                 number,
@@ -138,11 +147,13 @@ impl Open {
         ensures served { result ≡ true
             → RequestsOf self.old.session.walk task.now request.now true self.new.session.walk
             × IsWhyOfValues self.old.session.walk.step task.now request.now self.new.session.walk self.new.why
-            × (self.new ≡ without_line self.new.session.walk self.new.why) }
+            × (self.new ≡ without_line self.new.session.walk self.new.why
+            (recorded_values self.old.recorder self.old.session.walk.step task.now (asked_of request.now))) }
     {
-        if self.job().is_none() {
+        let Some(job) = self.session.walk().job() else {
             return false;
-        }
+        };
+        self.recorder.record_request(job, task, request);
         self.why.clear();
         let served = self.session.request(task, request, &mut self.why);
         self.last = Last::Nothing;
@@ -154,13 +165,15 @@ impl Open {
         requires continues { self.old.session.continues ≡ true }
         requires len { length bytes.now ≡ place.len }
         ensures walk { WritesOf self.old.session.walk place bytes.now result self.new.session.walk }
-        ensures written { result ≡ true → self.new ≡ without_line self.new.session.walk no_why }
+        ensures written { result ≡ true → self.new
+            ≡ without_line self.new.session.walk no_why (forgotten self.old.recorder) }
         ensures refused { result ≡ false → self.new ≡ self.old }
     {
         let written = self.session.write(place, bytes);
         if written {
             self.last = Last::Nothing;
             self.why.clear();
+            self.recorder.forget();
         }
         written
     }
@@ -195,6 +208,7 @@ impl Open {
         ensures over { self.new.session.continues ≡ false }
         ensures last { self.new.last ≡ last.Closed self.old.session.walk.number result.ended }
         ensures why { self.new.why ≡ no_why }
+        ensures recorder { self.new.recorder ≡ forgotten self.old.recorder }
     {
         let number = self.session.walk().number();
         let closing = self.session.close();
@@ -203,7 +217,23 @@ impl Open {
             ended: closing.ended,
         };
         self.why.clear();
+        self.recorder.forget();
         closing
+    }
+
+    /// Returns what is recorded of the last request.
+    pub fn recorder(&self) -> &Recorder
+        ensures { result.now ≡ self.now.recorder }
+    {
+        &self.recorder
+    }
+
+    /// Begins to record each request. It fails if memory is exhausted.
+    pub fn start_recording(&mut self, alloc: Global) -> Result<(), OutOfMemory>
+        ensures on { MatchResult result (λ _. self.new ≡ recording self.old) (λ _. self.new ≡ self.old) }
+        ensures already { IsSome self.old.recorder.owned → IsOk result }
+    {
+        self.recorder.switch_on(alloc)
     }
 
     /// Returns whether the last event prints nothing.
@@ -235,5 +265,17 @@ impl Open {
             Last::OutOfMemoryAt(ended) => print_closing(writer, 1, *ended),
             Last::Closed { number, ended } => print_closing(writer, *number, *ended),
         }
+    }
+
+    /// Returns a copy, which continues as the original would. It fails if memory is exhausted.
+    pub fn try_clone(&self) -> Result<Open, OutOfMemory>
+        ensures { IfOk result (λ copy. copy ≡ self.now) }
+    {
+        Ok(Open {
+            session: self.session.try_clone()?,
+            last: self.last,
+            why: self.why.copied(),
+            recorder: self.recorder.try_clone()?,
+        })
     }
 }

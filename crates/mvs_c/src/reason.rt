@@ -1,11 +1,11 @@
 //! Why a request was refused, as numbers. The numbers of the kinds, the holders and the positions are those of mvs.h, from 1 on.
 
 ghost use Rattle.std.specs.Prelude.{◌≡◌, ◌≢◌, MatchBool};
-ghost use Rattle.job_script.specs.ReasonTexts.{cell_of, least_of};
+ghost use Rattle.explanation.specs.ReasonTexts.{cell_of, least_of};
 ghost use Rattle.mvs_model.specs.Reasons.{number_of};
 ghost use Rattle.mvs_c.specs.Reasons.{name_or_blank, of_kind, of_rules, reason_bytes, reason_value, with_holder, with_position, with_room};
 
-use job_script::subject_of;
+use explanation::subject_of;
 use mvs_model::name::Name;
 use mvs_model::place::Addr;
 use mvs_model::reason::{CellPosition, FreeSpace, Holder, Reason};

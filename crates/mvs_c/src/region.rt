@@ -4,7 +4,7 @@ ghost use Rattle.std.specs.Prelude.{◌≡◌, ◌≢◌, MatchBool};
 ghost use Rattle.mvs_c.specs.Regions.{region_bytes, region_line};
 
 use crate::ask::text_len;
-use job_script::text::LineText;
+use line_text::text::LineText;
 
 /// The number of bytes of a region by values.
 const REGION_BYTES: u32 = 24;

@@ -10,15 +10,15 @@ ghost use Rattle.mvs_c.specs.Statements.{area_key, boundary_word, cond_text, fre
 use crate::ask::{
     RawRequest, RequestKind, form_of, is_located, location_or_res, or_else, set_of, text_len,
 };
-use job_script::text::LineText;
+use line_text::text::LineText;
 use mvs_model::code::Form;
 use mvs_model::want::Loc;
 
 /// The most bytes before a number of a list of subpools.
 const ROOM: usize = 180;
 
-// Returns the form of a number, R if it is that of none.
-fn form_value(number: u32) -> Form
+/// Returns the form of a number, R if it is that of none.
+pub fn form_value(number: u32) -> Form
     ensures { result ≡ form_value number }
 {
     match form_of(number) {
@@ -139,16 +139,16 @@ fn loc_word(loc: Loc) -> &'static [u8]
     }
 }
 
-// Returns the word of a boundary.
-fn boundary_word(boundary: u32) -> &'static [u8]
+/// Returns the word of a boundary.
+pub fn boundary_word(boundary: u32) -> &'static [u8]
     ensures text { result.now ≡ boundary_word boundary }
     ensures len { length result.now ≤ 5 }
 {
     if boundary == 12 { b"PAGE" } else { b"DBLWD" }
 }
 
-// Appends a name of eight bytes without its padding.
-fn push_name(text: &mut LineText, name: &[u8; 8])
+/// Appends a name of eight bytes without its padding.
+pub fn push_name(text: &mut LineText, name: &[u8; 8])
     requires { length text.old ≤ 200 }
     ensures text { text.new ≡ text.old ++ name_text name.now }
     ensures len { length text.new ≤ length text.old + 8 }
@@ -156,8 +156,8 @@ fn push_name(text: &mut LineText, name: &[u8; 8])
     text.push_str(&name[..text_len(name)]);
 }
 
-// Appends an address.
-fn push_address(text: &mut LineText, address: u32)
+/// Appends an address.
+pub fn push_address(text: &mut LineText, address: u32)
     requires { length text.old ≤ 200 }
     ensures text { text.new ≡ text.old ++ absolute_text address }
     ensures len { length text.new ≡ length text.old + 11 }

@@ -42,7 +42,7 @@ use Rattle.mvs_job.specs.Apart.{AppendsExplanation}
 use Rattle.mvs_job.specs.Explaining.{IsExplanationText, explanation_text, reason_text, reason_part}
 use Rattle.mvs_job.specs.Facts.{end_of, ended_by, freed_lines, freed_text}
 use Rattle.std.specs.List.{flat_map}
-use Rattle.job_script.specs.FactTexts.{fact_line}
+use Rattle.explanation.specs.FactTexts.{fact_line}
 use Rattle.mvs_job.specs.Granting.{IsGranting, IsReadIn, before_line, facts_after, granted_text, reports_grant}
 use Rattle.mvs_job.specs.NamedAddress.{IsNamingOf, NameOrigins, address_in, reason_address, lines_before, naming_text}
 use Rattle.mvs_job.specs.Observing.{Fails, Hearing, Observes, ObservesLine, Passes, is_end, is_failure, is_refusal}

@@ -14,7 +14,7 @@ use Rattle.mvs_model.proofs.Reading.{one_reading}
 use Rattle.mvs_model.specs.declared.outcome.Outcome.{Outcome}
 use Rattle.mvs_model.specs.declared.watched.Failed.{Failed}
 use Rattle.mvs_job.specs.Exchanging.{Exchanges}
-use Rattle.job_script.specs.Writing.{WritesAll}
+use Rattle.line_text.specs.Writing.{WritesAll}
 use Rattle.mvs_job.specs.declared.consumer.End.{End}
 use Rattle.mvs_job.specs.declared.consumer.End.TheVariants as end
 use Rattle.mvs_job.specs.declared.explained.Explained.{Explained}

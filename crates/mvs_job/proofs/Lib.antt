@@ -10,6 +10,7 @@ pub mod FirstLine
 pub mod Freeing
 pub mod Mapping
 pub mod Numbers
+pub mod SortedNames
 pub mod Resolved
 pub mod ReadNames
 pub mod RunNames
@@ -21,6 +22,7 @@ pub mod Steady
 pub mod Strictly
 pub mod Valuing
 pub mod Latest
+pub mod InOrder
 pub mod Kept
 pub mod Tracing
 pub mod Driving

@@ -18,8 +18,8 @@ use Rattle.mvs_model.specs.Texts.{reply_line, map_text, answer_text}
 use Rattle.mvs_model.specs.Reports.{PageRun, same_subpool, with_page, page_runs, page_subpool, number_of, label_of, map_runs, page_map}
 use Rattle.mvs_model.specs.View.{IsBounded}
 use Rattle.request_forms.specs.Reports.{Begins, IsHolder, IsMapEnd, IsMapRun, IsPages, NoneBegins}
-use Rattle.job_script.specs.Writing.{AppendsFront}
-use Rattle.job_script.proofs.Appending.{front_longer, front_more}
+use Rattle.line_text.specs.Writing.{AppendsFront}
+use Rattle.line_text.proofs.Appending.{front_longer, front_more}
 
 -- whether two pages are assigned alike
 same_self : (s : Option ℕ) → same_subpool s s ≡ true

@@ -13,8 +13,8 @@ use Rattle.mvs_model.specs.Answers.{Subpools}
 use Rattle.mvs_model.specs.Texts.{reply_line, subpool_text, answer_text}
 use Rattle.mvs_model.specs.Reports.{bytes_held, each_below, line_of_entry, subpool_lines_of}
 use Rattle.request_forms.specs.Reports.{HasNone, IsSubpoolLine}
-use Rattle.job_script.specs.Writing.{AppendsFront}
-use Rattle.job_script.proofs.Appending.{front_longer, front_more}
+use Rattle.line_text.specs.Writing.{AppendsFront}
+use Rattle.line_text.proofs.Appending.{front_longer, front_more}
 
 -- the lists below a bound
 module _ {X : Type 0} (f : ℕ → List X) where

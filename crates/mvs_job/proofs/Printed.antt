@@ -14,7 +14,7 @@ use Rattle.mvs_laws.specs.Labels.{IsLabelText}
 use Rattle.mvs_laws.specs.Tidy.{Tidy, IsPrintingInFull}
 use Rattle.mvs_laws.proofs.Going.{front_at_memory, front_so_far, printed_both}
 use Rattle.mvs_laws.proofs.TidySteps.{tidy_text}
-use Rattle.job_script.specs.Writing.{AppendsFront, WritesAll}
+use Rattle.line_text.specs.Writing.{AppendsFront, WritesAll}
 use Rattle.mvs_model.specs.declared.watched.Failed.{Failed}
 use Rattle.mvs_model.specs.Job.{JobValue}
 use Rattle.mvs_job.specs.declared.consumer.End.{End}

@@ -30,8 +30,8 @@ use Rattle.mvs_model.specs.Walk.{Serves, ending, is_first}
 use Rattle.mvs_model.specs.Watched.{WatchedValue}
 use Rattle.mvs_laws.proofs.Determined.{line_other}
 use Rattle.mvs_laws.proofs.Going.{printed_both}
-use Rattle.job_script.specs.Writing.{Prints, AppendsFront}
-use Rattle.job_script.proofs.Appending.{front_longer, front_more}
+use Rattle.line_text.specs.Writing.{Prints, AppendsFront}
+use Rattle.line_text.proofs.Appending.{front_longer, front_more}
 use Rattle.mvs_job.specs.declared.walk.OutOfMemoryAt.{OutOfMemoryAt}
 use Rattle.mvs_job.specs.declared.walk.LineEvent.{LineEvent}
 use Rattle.mvs_job.specs.declared.walk.LineEvent.TheVariants as line_event

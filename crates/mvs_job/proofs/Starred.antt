@@ -18,17 +18,17 @@ use Rattle.mvs_model.specs.Name.{trimmed}
 use Rattle.mvs_model.specs.Resolving.{resolved}
 use Rattle.mvs_model.specs.Texts.{answer_text, code_text, data_lines, fault_number, map_text, printing, reply_line, one_line_text, subpool_text, text_of}
 use Rattle.mvs_laws.proofs.Going.{printed_both}
-use Rattle.job_script.specs.ReasonTexts.{one_line, reason_line, why_text}
+use Rattle.explanation.specs.ReasonTexts.{one_line, reason_line, why_text}
 use Rattle.mvs_model.specs.Owners.{is_among_ended}
 use Rattle.request_forms.specs.declared.facts.OwnedSubpool.{OwnedSubpool}
-use Rattle.job_script.specs.FactTexts.{fact_line, fact_text, freed_line, freed_text_of, stays_line, stays_text}
+use Rattle.explanation.specs.FactTexts.{fact_line, fact_text, freed_line, freed_text_of, stays_line, stays_text}
 use Rattle.mvs_job.specs.Facts.{IsFreeing, ended_by, fate, fate_line, freed_text, subpool_line}
 use Rattle.mvs_job.specs.declared.ends.Fate.{Fate}
 use Rattle.mvs_job.specs.declared.ends.Fate.TheVariants.{Freed, Remains, Unaffected}
 use Rattle.request_forms.specs.Facts.{owned_subpools}
 use Rattle.mvs_job.specs.declared.granting.Baseline.{Baseline}
 use Rattle.mvs_job.specs.Granting.{IsGranting, before_line, granted_facts, granted_text}
-use Rattle.job_script.specs.NamingTexts.{naming_words}
+use Rattle.explanation.specs.NamingTexts.{naming_words}
 use Rattle.mvs_job.specs.declared.name_origins.NamedAddress.{NamedAddress}
 use Rattle.mvs_job.specs.NamedAddress.{IsNamed, NameOrigins, naming_text}
 use Rattle.mvs_job.specs.Why.{spoken}

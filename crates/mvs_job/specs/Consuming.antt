@@ -4,7 +4,7 @@ use Rattle.std.specs.Io.KnownBytes.{Appends, Keeps}
 use Rattle.mvs_model.specs.declared.outcome.Outcome.{Outcome}
 use Rattle.mvs_model.specs.Job.{JobValue}
 use Rattle.mvs_model.specs.declared.watched.Failed.{Failed}
-use Rattle.job_script.specs.Writing.{AppendsFront}
+use Rattle.line_text.specs.Writing.{AppendsFront}
 use Rattle.mvs_job.specs.declared.printing.Stop.{Stop}
 use Rattle.mvs_job.specs.declared.printing.Stop.TheVariants as stop
 use Rattle.mvs_job.specs.declared.walk.LineEvent.{LineEvent}
@@ -134,7 +134,7 @@ Writes piece knows script text s (Err stop.Write) = IsFront piece knows script t
 abbrev pub Leaves : {S : Type 0} → Piece → Known S → Option (List ℕ) → Option (List ℕ) → List ℕ → S → Result Outcome Stop → Type 0
 Leaves piece knows before after script s result = (text : List ℕ) × Appends before after text × Writes piece knows script text s result
 
--- A consumer of which nothing is known may have been given any entries.
+-- If nothing is known of a consumer, it may have been given any entries.
 abbrev pub keeps_nothing : {S : Type 0} → S → Known S
 keeps_nothing first = record { has = λ s entries. Unit {0}; had = λ s entries. Unit {0} }
 

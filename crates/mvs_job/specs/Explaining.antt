@@ -16,7 +16,7 @@ use Rattle.mvs_model.specs.Reading.{LineOf, FaultOf}
 use Rattle.mvs_model.specs.Resolving.{resolved}
 use Rattle.mvs_model.specs.Runs.{IsPrinting}
 use Rattle.mvs_model.specs.Texts.{printing}
-use Rattle.job_script.specs.ReasonTexts.{reason_line}
+use Rattle.explanation.specs.ReasonTexts.{reason_line}
 use Rattle.mvs_job.specs.Facts.{IsFreeing, ended_by, freed_lines}
 use Rattle.mvs_job.specs.declared.explained.Explained.{Explained}
 use Rattle.mvs_job.specs.Granting.{IsGranting, granted_text}

@@ -11,7 +11,7 @@ use Rattle.request_forms.specs.declared.facts.OwnedSubpool.{OwnedSubpool}
 use Rattle.mvs_job.specs.declared.ends.EndedTasks.{EndedTasks}
 use Rattle.mvs_job.specs.declared.ends.Fate.{Fate}
 use Rattle.mvs_job.specs.declared.ends.Fate.TheVariants.{Freed, Remains, Unaffected}
-use Rattle.job_script.specs.FactTexts.{freed_line, stays_line}
+use Rattle.explanation.specs.FactTexts.{freed_line, stays_line}
 
 -- the task that an answer ends, and those that fall with it
 abbrev pub end_of : Name → Answer → Option (Name × List Name)

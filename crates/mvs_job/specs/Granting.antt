@@ -22,7 +22,7 @@ use Rattle.mvs_model.specs.Pools.{Pool}
 use Rattle.mvs_model.specs.Reading.{LineOf, FaultOf}
 use Rattle.mvs_model.specs.Reports.{each_below}
 use Rattle.mvs_model.specs.State.{State}
-use Rattle.job_script.specs.FactTexts.{fact_line}
+use Rattle.explanation.specs.FactTexts.{fact_line}
 use Rattle.request_forms.specs.Facts.{listed}
 use Rattle.request_forms.specs.SubpoolLabels.{free_above, free_below, entry_owner, resolved_owner}
 use Rattle.mvs_job.specs.declared.granting.Baseline.{Baseline}
@@ -76,7 +76,7 @@ before_line (Some job) (line.Statement t says.ReportMap) = None
 
 -- ---- what was done
 
--- an area that was obtained from the subpool that the task means by the number
+-- an area that was obtained, and the subpool that has it, by the task's number
 abbrev pub area_fact : JobValue → Name → ℕ → Name → ℕ → ℕ → Option Fact
 area_fact new t number area least most = option_and_then (λ p. option_map (λ l. Obtained area p least most l.0 l.1) (resolved_owner new.state.owners t number)) (get new.names area)
 
@@ -90,7 +90,7 @@ area_facts new t number (area ∷ areas) (n ∷ lengths) = listed (area_fact new
 abbrev pub greater_fact : Baseline → JobValue → Name → ℕ → Option Fact
 greater_fact b new area most = if has (λ p. nat_lt p.len (round8 most)) (get new.names area) then Some (NoGreater b.below b.above) else None
 
--- a subpool that the task did not mean by the number before
+-- a subpool for a number that the task did not have before
 abbrev pub subpool_fact : Baseline → JobValue → Name → ℕ → Option Fact
 subpool_fact b new t number = if b.had then None else option_map (λ l. NewSubpool l.0 l.1) (resolved_owner new.state.owners t number)
 
@@ -106,7 +106,7 @@ taken_fact b new = PagesTaken (b.below + b.above - free_in new)
 abbrev pub freed_fact : Baseline → JobValue → Option Fact
 freed_fact b new = if free_in new - (b.below + b.above) == 0 then None else Some (PagesFreed (free_in new - (b.below + b.above)))
 
--- the subpool that the task means by the number, which holds nothing any more
+-- the subpool that was released as a whole, by the task's number for it
 abbrev pub emptied_fact : JobValue → Name → ℕ → Option Fact
 emptied_fact new t number = option_map (λ l. Emptied l.0 l.1) (resolved_owner new.state.owners t number)
 

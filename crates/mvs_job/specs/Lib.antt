@@ -7,6 +7,7 @@ pub mod Granting
 pub mod Explaining
 pub mod Giving
 pub mod NamedAddress
+pub mod NameOrder
 pub mod Observing
 pub mod Serving
 pub mod Sessions

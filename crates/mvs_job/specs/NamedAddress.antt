@@ -1,5 +1,5 @@
 -- The line that set a name last, and the name that has the address of a reason.
-use Rattle.std.specs.Prelude.{◌≡◌, ◌⊎◌, ◌≢◌, ◌≤◌, ℕ, nat_lt, Bool, true, false, List, [], ◌∷◌, Option, Some, None, if◌then◌else◌}
+use Rattle.std.specs.Prelude.{◌≡◌, ◌⊎◌, ◌≢◌, ◌≤◌, ℕ, true, false, List, [], ◌∷◌, Option, Some, None, if◌then◌else◌}
 use Rattle.std.specs.Option.{option_and_then}
 use Rattle.std.specs.FinMap.{FinMap, get, insert, empty}
 use Rattle.mvs_model.specs.declared.line.Fault.{Fault}
@@ -21,8 +21,8 @@ use Rattle.mvs_model.specs.Place.{PlaceValue}
 use Rattle.mvs_model.specs.Reading.{LineOf, FaultOf}
 use Rattle.mvs_model.specs.Resolving.{names_set, resolved}
 use Rattle.mvs_model.specs.Storage.{has_address}
-use Rattle.job_script.specs.NamingTexts.{naming_line}
-use Rattle.job_script.specs.ReasonTexts.{cell_of}
+use Rattle.explanation.specs.NamingTexts.{naming_line}
+use Rattle.explanation.specs.ReasonTexts.{cell_of}
 use Rattle.mvs_job.specs.declared.name_origins.NamedAddress.{NamedAddress}
 use Rattle.mvs_job.specs.declared.walk.LineEvent.{LineEvent}
 use Rattle.mvs_job.specs.declared.walk.LineEvent.TheVariants as line_event
@@ -175,17 +175,3 @@ SetsSome line.Nothing = ⊥
 -- what a name says of an address, if it has it in its place
 abbrev pub naming_at : JobValue → ℕ → Name × ℕ → Option NamedAddress
 naming_at job a e = option_and_then (λ p. if has_address p a then Some (record { addr = a; name = e.0; place = p; number = e.1 }) else None) (get job.names e.0)
-
--- whether a line is after that of another name, if there is one
-abbrev pub comes_later : Option NamedAddress → ℕ → Bool
-comes_later None number = true
-comes_later (Some n) number = nat_lt n.number number
-
--- one of two
-abbrev pub first_of : Option NamedAddress → Option NamedAddress → Option NamedAddress
-first_of None other = other
-first_of (Some n) other = Some n
-
--- the later one of a name and the next
-abbrev pub later : JobValue → ℕ → Option NamedAddress → Name × ℕ → Option NamedAddress
-later job a latest e = if comes_later latest e.1 then first_of (naming_at job a e) latest else latest

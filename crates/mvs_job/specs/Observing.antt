@@ -78,7 +78,7 @@ is_refusal (answer.Subpools lines) = false
 is_refusal (answer.Map runs) = false
 is_refusal (answer.Region card) = false
 
--- whether an answer tells that its task ended
+-- whether an answer says that its task ended
 abbrev pub is_end : Answer → Bool
 is_end answer.Ended = true
 is_end (answer.Abended code fallen) = true
@@ -130,7 +130,7 @@ Observes heard before job t (says.Where name) answer after = after ≡ before
 Observes heard before job t says.ReportSubpools answer after = after ≡ before
 Observes heard before job t says.ReportMap answer after = after ≡ before
 
--- The observer hears of the request of a line of a step; a line that is not a statement makes none.
+-- The observer sees the request of a line of a step; a line that is not a statement makes none.
 abbrev pub ObservesLine : {O : Type 0} → Hearing O → O → Option JobValue → List ℕ → LineEvent → WalkValue → O → Type 0
 ObservesLine heard before step bytes line_event.Nothing new after = LineOf (is_first step) bytes line.Nothing × (after ≡ before)
 ObservesLine heard before step bytes (line_event.StepBegan end card) new after = (t : Name) × (s : Statement) × LineOf (is_first step) bytes (line.Statement t s) × (region_card t s ≡ Some card) × (after ≡ before)

@@ -5,13 +5,14 @@ ghost use Rattle.mvs_model.specs.FullAnswers.{full_answer};
 ghost use Rattle.mvs_model.specs.Owners.{is_among_ended};
 ghost use Rattle.mvs_model.specs.State.{State};
 ghost use Rattle.request_forms.specs.Facts.{owned_subpools};
-ghost use Rattle.job_script.specs.Writing.{Prints};
+ghost use Rattle.line_text.specs.Writing.{Prints};
 ghost use Rattle.mvs_job.specs.LineEvents.{IsAvailable, events_of_line};
 ghost use Rattle.mvs_job.specs.Facts.{end_of, ended_by, ended_pair, fate, freed_lines, subpool_line};
 
 use crate::job::Job;
 use crate::walk::{LineEvent, Walk};
-use job_script::{is_same_name, print_freed, print_stays};
+use explanation::{print_freed, print_stays};
+use line_text::is_same_name;
 use mvs_model::answer::Answer;
 use mvs_model::name::Name;
 use mvs_model::numbers::MOST_SUBPOOLS;
@@ -42,10 +43,11 @@ pub(crate) fn collect_owned_subpools(job: &Job, task: &Name, subpools: &mut Owne
     ensures { subpools.new ≡ owned_subpools job.now.state task.now }
 {
     let machine = job.step().machine();
+    let had = machine.subpools_of(task);
     subpools.clear();
     let mut from = 0;
     while let Some(next) = machine.next_owned(from) {
-        if let Some(subpool) = machine.owned(next, task) {
+        if let Some(subpool) = machine.owned_among(next, &had) {
             subpools.push(subpool);
         }
         from = next.get() + 1;

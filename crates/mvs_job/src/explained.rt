@@ -2,7 +2,7 @@
 
 ghost use Rattle.std.specs.Prelude.{◌≡◌, ◌<◌, ◌+◌, ◌^◌, ◌∷◌, [], ℕ, true, IfOk, IsErrOf, MatchResult, OnErr, OnOk};
 ghost use Rattle.std.specs.Option.{option_and_then};
-ghost use Rattle.job_script.specs.Writing.{Prints};
+ghost use Rattle.line_text.specs.Writing.{Prints};
 ghost use Rattle.mvs_job.specs.Looking.{IsLooking, KeepsExplained, knows_set};
 ghost use Rattle.mvs_model.specs.Memory.{StopsForMemory};
 ghost use Rattle.mvs_job.specs.Explained.{explained};

@@ -6,14 +6,15 @@ ghost use Rattle.mvs_model.specs.Numbers.{task_numbers};
 ghost use Rattle.mvs_model.specs.Reports.{each_below};
 ghost use Rattle.mvs_model.specs.State.{State};
 ghost use Rattle.mvs_model.specs.declared.name.Name.{Name as TaskName};
-ghost use Rattle.job_script.specs.FactTexts.{fact_line};
-ghost use Rattle.job_script.specs.Writing.{Prints};
+ghost use Rattle.explanation.specs.FactTexts.{fact_line};
+ghost use Rattle.line_text.specs.Writing.{Prints};
 ghost use Rattle.request_forms.specs.Facts.{listed};
 ghost use Rattle.request_forms.specs.SubpoolLabels.{entry_owner};
 ghost use Rattle.mvs_job.specs.Granting.{area_fact, area_facts, attach_facts, before_request, cell_fact, created_fact, emptied_fact, facts_of, free_in, freed_fact, greater_fact, is_grant, looked_at, means, numbers_of, part_fact, part_pages, parts_at, subpool_fact, subtask_fact, taken_fact};
 
 use crate::job::Job;
-use job_script::{is_same_name, print_fact};
+use explanation::print_fact;
+use line_text::is_same_name;
 use mvs_model::answer::Answer;
 use mvs_model::bounded::Length;
 use mvs_model::fact::Fact;
@@ -201,7 +202,7 @@ fn freed_fact(before: &Baseline, job: &Job) -> Option<Fact>
     Some(Fact::PagesFreed(freed))
 }
 
-// Returns the subpool of the number of the task, all of which was released.
+// Returns the subpool that was released as a whole, by the task's number for it.
 fn emptied_fact(job: &Job, task: &Name, number: u8) -> Option<Fact>
     ensures { result ≡ emptied_fact job.now task.now number }
 {

@@ -356,4 +356,15 @@ impl Job {
             Statement::Region { .. } => unreachable!(),
         }
     }
+
+    /// Returns a copy. It fails if memory is exhausted.
+    pub fn try_clone(&self) -> Result<Job, OutOfMemory>
+        ensures { IfOk result (λ copy. copy ≡ self.now) }
+    {
+        Ok(Job {
+            step: self.step.try_clone()?,
+            names: self.names.try_clone()?,
+            former: self.former,
+        })
+    }
 }

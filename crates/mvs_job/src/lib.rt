@@ -3,6 +3,7 @@
 
 mod apart;
 mod consumer;
+mod copying;
 mod driver;
 mod ends;
 mod explained;
@@ -12,6 +13,7 @@ mod hints;
 mod job;
 pub mod laws;
 mod lines;
+mod name_order;
 mod name_origins;
 mod observer;
 mod printer;

@@ -5,15 +5,18 @@ ghost use Rattle.std.specs.FinMap.{insert};
 ghost use Rattle.std.specs.Option.{option_and_then};
 ghost use Rattle.mvs_model.specs.Resolving.{names_set};
 ghost use Rattle.mvs_model.specs.Storage.{has_address};
-ghost use Rattle.job_script.specs.Writing.{Prints};
+ghost use Rattle.line_text.specs.Writing.{Prints};
 ghost use Rattle.mvs_job.specs.Granting.{reports_grant};
-ghost use Rattle.mvs_job.specs.NamedAddress.{HasLengths, IsNaming, SetsSome, reason_address, first_of, comes_later, later, lines_before, naming_at, naming_text, no_lines, names_after, set_by};
+ghost use Rattle.mvs_job.specs.NameOrder.{said_by};
+ghost use Rattle.mvs_job.specs.NamedAddress.{HasLengths, IsNaming, SetsSome, reason_address, lines_before, naming_at, naming_text, no_lines, names_after, set_by};
 ghost use Rattle.mvs_job.specs.LineEvents.{IsAvailable, WalkValue, events_of_line};
 
 use crate::job::Job;
+use crate::name_order::{drop_former, has_many_former, put_in_order};
 use crate::walk::{LineEvent, Walk};
 use crate::why::reports_grant;
-use job_script::{names_set, print_naming, subject_of};
+use explanation::{print_naming, subject_of};
+use job_script::names_set;
 use mvs_model::error::OutOfMemory;
 use mvs_model::line::{Line, SourceRequest, Statement};
 use mvs_model::name::Name;
@@ -41,6 +44,8 @@ pub struct NamedAddress {
 #[derive(Drop)]
 pub(crate) struct NameOrigins {
     numbers: HashMap<Name, u32>,
+    /// These names and numbers in the order of the numbers, among others that a later line replaced.
+    order: Vec<(Name, u32)>,
 }
 
 impl Model for NameOrigins {
@@ -48,12 +53,15 @@ impl Model for NameOrigins {
     ghost use Rattle.std.specs.Coded.{coded_ℕ};
     ghost use Rattle.std.specs.Prelude.{ℕ};
     ghost use Rattle.mvs_model.specs.Name.{name_cmp, name_code};
+    ghost use Rattle.mvs_job.specs.NameOrder.{HasLatest, IsInOrder};
 
     ghost Value = { map.FinMap name_cmp ℕ };
 
     ghost coded = { map.code name_code coded_ℕ };
 
     ghost view = { λ l. map.from_entries l.numbers.entries };
+
+    ghost invariant = { λ l. IsInOrder l.order.items × HasLatest (map.from_entries l.numbers.entries) l.order.items };
 }
 
 /// Returns the address in the reason of a request.
@@ -109,35 +117,6 @@ fn naming_at(job: &Job, addr: Addr, name: &Name, number: u32) -> Option<NamedAdd
     None
 }
 
-// Returns whether a line is after that of another name, if there is one.
-fn comes_later(latest: &Option<NamedAddress>, number: u32) -> bool
-    ensures { result ≡ comes_later latest.now number }
-{
-    match latest {
-        Some(naming) => naming.number < number,
-        None => true,
-    }
-}
-
-// Returns the later one of a name and the next, of those that have an address in their places.
-fn later(
-    latest: Option<NamedAddress>,
-    job: &Job,
-    addr: Addr,
-    name: &Name,
-    number: u32,
-) -> Option<NamedAddress>
-    ensures { result ≡ later job.now addr latest (name.now, number) }
-{
-    if !comes_later(&latest, number) {
-        return latest;
-    }
-    match naming_at(job, addr, name, number) {
-        Some(naming) => Some(naming),
-        None => latest,
-    }
-}
-
 // Shows that a requested list has a length, as its type says.
 fn has_lengths(written: &SourceRequest)
     ensures { HasLengths written.now }
@@ -154,6 +133,7 @@ impl NameOrigins {
     {
         NameOrigins {
             numbers: HashMap::new(alloc),
+            order: Vec::new(alloc),
         }
     }
 
@@ -162,6 +142,7 @@ impl NameOrigins {
         ensures { self.new ≡ no_lines }
     {
         self.numbers.clear();
+        self.order.clear();
     }
 
     /// Forgets all names before the first step of a job.
@@ -174,10 +155,22 @@ impl NameOrigins {
         }
     }
 
+    // Forgets the lines of names that a later line set again, if they are many.
+    fn forget_former(&mut self)
+        ensures { self.new ≡ self.old }
+    {
+        if !has_many_former(self.order.len(), self.numbers.len()) {
+            return;
+        }
+        drop_former(&mut self.order, &self.numbers);
+    }
+
     // Sets a name by the line of a number.
     fn put(&mut self, name: Name, number: u32) -> Result<(), OutOfMemory>
         ensures { OnOk result (self.new ≡ insert self.old name number) }
     {
+        self.forget_former();
+        put_in_order(&mut self.order, name, number)?;
         match self.numbers.insert(name, number) {
             Ok(_) => Ok(()),
             Err(_) => Err(OutOfMemory),
@@ -230,15 +223,32 @@ impl NameOrigins {
         }
     }
 
-    /// Returns the name that was set last, of those in whose places an address is.
+    // Returns what a name says of an address, if this line set it last and it has the address in its place.
+    fn said_by(&self, job: &Job, addr: Addr, name: &Name, number: u32) -> Option<NamedAddress>
+        ensures { result ≡ said_by job.now self.now addr (name.now, number) }
+    {
+        let latest = *self.numbers.get(name)?;
+        if latest == number {
+            return naming_at(job, addr, name, number);
+        }
+        None
+    }
+
+    /// Returns the name that was set last, of those in whose places an address is. It looks at the names from the latest one on, up to
+    /// that name.
     pub(crate) fn naming(&self, job: &Job, addr: Addr) -> Option<NamedAddress>
         ensures { IsNaming job.now self.now addr result }
     {
-        let mut latest = None;
-        for (name, number) in self.numbers.iter() {
-            latest = later(latest, job, addr, name, *number);
+        let mut at = self.order.len();
+        'names: while at > 0 {
+            at -= 1;
+            let (name, number) = self.order[at];
+            let naming = self.said_by(job, addr, &name, number);
+            if naming.is_some() {
+                return naming;
+            }
         }
-        latest
+        None
     }
 }
 

@@ -4,7 +4,7 @@ ghost use Rattle.std.specs.Prelude.{◌≡◌, ◌<◌, ◌+◌, ◌^◌, ◌∷
 ghost use Rattle.mvs_model.specs.declared.name.Name.{Name as TaskName};
 ghost use Rattle.mvs_model.specs.FullAnswers.{full_answer};
 ghost use Rattle.mvs_model.specs.Texts.{answer_text, printing};
-ghost use Rattle.job_script.specs.Writing.{Prints};
+ghost use Rattle.line_text.specs.Writing.{Prints};
 ghost use Rattle.mvs_job.specs.Replying.{plain_answer};
 ghost use Rattle.mvs_job.specs.Serving.{RunsLine};
 ghost use Rattle.mvs_job.specs.LineEvents.{IsAvailable, IsAvailableIn, closing, ended, events_of_line};
@@ -15,9 +15,8 @@ use crate::printer::Printer;
 use crate::reports::{print_map, print_subpools};
 use crate::stream::fault_of;
 use crate::walk::{LineEvent, Walk};
-use job_script::{
-    print_abend, print_data, print_fault, print_region, print_short_answer, print_step_end,
-};
+use job_script::{print_abend, print_data, print_short_answer};
+use line_text::{print_fault, print_region, print_step_end};
 use mvs_model::answer::Answer;
 use mvs_model::line::Fault;
 use mvs_model::name::Name;

@@ -6,7 +6,7 @@ ghost use Rattle.mvs_model.specs.Answers.{Map, Subpools};
 ghost use Rattle.mvs_model.specs.Reports.{page_map, subpool_lines_of};
 ghost use Rattle.mvs_model.specs.Texts.{answer_text, reply_line, subpool_text};
 ghost use Rattle.request_forms.specs.Reports.{IsSubpoolLine};
-ghost use Rattle.job_script.specs.Writing.{Prints};
+ghost use Rattle.line_text.specs.Writing.{Prints};
 
 use crate::job::Job;
 use job_script::{print_map_run, print_no_subpool, print_subpool_line};

@@ -17,6 +17,7 @@ ghost use Rattle.mvs_job.specs.Valued.{ObservesValues, RequestsOf, WritesOf};
 use crate::apart::Explainer;
 use crate::observer::{Observer, Unobserved};
 use crate::walk::{JobEnd, LineEvent, OutOfMemoryAt, Walk};
+use mvs_model::error::OutOfMemory;
 use mvs_model::name::Name;
 use mvs_model::place::Place;
 use mvs_model::reason::LineReason;
@@ -187,5 +188,16 @@ impl Session {
     {
         self.continues = false;
         self.walk.close()
+    }
+
+    /// Returns a copy, which continues as the original would. What one of them does later has no effect on the other. It fails if
+    /// memory is exhausted.
+    pub fn try_clone(&self) -> Result<Session, OutOfMemory>
+        ensures { IfOk result (λ copy. copy ≡ self.now) }
+    {
+        Ok(Session {
+            walk: self.walk.try_clone()?,
+            continues: self.continues,
+        })
     }
 }

@@ -14,6 +14,7 @@ ghost use Rattle.mvs_job.specs.LineEvents.{IsAvailable, IsAvailableIn, ServesAsU
 ghost use Rattle.mvs_job.specs.Valued.{ObservesValues, RequestsOf, WritesOf};
 ghost use Rattle.mvs_job.specs.Observing.{ObservesLine};
 
+use crate::copying::{copy_job, copy_reply};
 use crate::job::Job;
 use crate::observer::{Observer, Unobserved};
 use crate::run::RunFault;
@@ -311,5 +312,20 @@ impl Walk {
             ended: end_of(&self.job),
             outcome,
         }
+    }
+
+    /// Returns a copy, which continues as the original would. It fails if memory is exhausted.
+    pub fn try_clone(&self) -> Result<Walk, OutOfMemory>
+        ensures { IfOk result (λ copy. copy ≡ self.now) }
+    {
+        Ok(Walk {
+            alloc: self.alloc,
+            placement: self.placement,
+            job: copy_job(&self.job)?,
+            number: self.number,
+            read: Line::Nothing,
+            request: Request::Return,
+            reply: copy_reply(&self.reply),
+        })
     }
 }

@@ -1,7 +1,7 @@
 //! Why the line of a job is refused, and what it did otherwise.
 
 ghost use Rattle.std.specs.Prelude.{◌≡◌, [], ℕ, None, Some};
-ghost use Rattle.job_script.specs.Writing.{Prints};
+ghost use Rattle.line_text.specs.Writing.{Prints};
 ghost use Rattle.mvs_job.specs.Explaining.{reason_part};
 ghost use Rattle.mvs_job.specs.Granting.{IsReadIn, before_line, facts_after, granted_facts, granted_text, reports_grant};
 ghost use Rattle.mvs_job.specs.LineEvents.{IsAvailable, WalkValue, events_of_line};
@@ -16,7 +16,8 @@ use crate::job::Job;
 use crate::name_origins::reason_address;
 use crate::observer::Observer;
 use crate::walk::{LineEvent, Walk};
-use job_script::{print_reason, read_line};
+use explanation::print_reason;
+use job_script::read_line;
 use mvs_model::answer::Answer;
 use mvs_model::fact::Fact;
 use mvs_model::line::{Line, SourceRequest, Statement};

@@ -46,7 +46,9 @@ OwnerStays old a new = (s : ℕ) (t : Name) → holder old (a / 8) ≡ Some s �
 abbrev pub StatementSpares : ℕ → JobValue → Name → Statement → JobValue → Type 0
 StatementSpares a old t (says.Region below above fill residence) new = ⊥
 StatementSpares a old t (says.Request written) new = is_active old.state.owners t ≡ true → (request : Request) → resolved old.names written ≡ Some request → LeavesUntouched old.state t a request × OwnerStays old.state a new.state
-StatementSpares a old t s new = Unit {0}
+StatementSpares a old t (says.Where name) new = Unit {0}
+StatementSpares a old t says.ReportSubpools new = Unit {0}
+StatementSpares a old t says.ReportMap new = Unit {0}
 
 -- a line does not touch the byte
 abbrev pub LineSpares : ℕ → JobValue → List ℕ → JobValue → Type 0

@@ -40,7 +40,16 @@ places_used m (written.ReleaseList form n locations lengths) = zip locations (ma
 places_used m (written.Show location n) = (location, n) ∷ []
 places_used m (written.Put location bytes) = (location, length bytes) ∷ []
 places_used m (written.Move to from n) = (to, n) ∷ (from, n) ∷ []
-places_used m _ = []
+places_used m (written.Obtain form number ask variable area) = []
+places_used m (written.ObtainList form number lengths start areas) = []
+places_used m (written.ReleaseWhole form number) = []
+places_used m (written.Build pool number size primary secondary loc) = []
+places_used m (written.Get pool conditional cell) = []
+places_used m (written.Free pool cell) = []
+places_used m (written.Delete pool) = []
+places_used m (written.Attach name gifts residence) = []
+places_used m written.Return = []
+places_used m (written.Abend code) = []
 
 -- whether an address has no name that is not set
 abbrev pub is_set : Labels → Location → Bool
@@ -52,13 +61,28 @@ abbrev pub is_good : Labels → Location → ℕ → Bool
 is_good m (Absolute a) n = false
 is_good m (Named name k) n = has (λ l. is_there m (spot l k n)) (get m.names name)
 
+-- whether a request uses only good places, if its names are all set
+abbrev pub uses_good : Labels → SourceRequest → Bool
+uses_good m a = not (list_all (λ p. is_set m p.0) (places_used m a)) || list_all (λ p. is_good m p.0 p.1) (places_used m a)
+
 -- whether a request uses no cell pool, and where its names are all set, only good places
 abbrev pub tidy_written : Labels → SourceRequest → Bool
 tidy_written m (written.Build pool n size primary secondary loc) = false
 tidy_written m (written.Get pool conditional cell) = false
 tidy_written m (written.Free pool cell) = false
 tidy_written m (written.Delete pool) = false
-tidy_written m a = not (list_all (λ p. is_set m p.0) (places_used m a)) || list_all (λ p. is_good m p.0 p.1) (places_used m a)
+tidy_written m (written.Obtain form number ask variable area) = uses_good m (written.Obtain form number ask variable area)
+tidy_written m (written.ObtainList form number lengths start areas) = uses_good m (written.ObtainList form number lengths start areas)
+tidy_written m (written.Release form n location len) = uses_good m (written.Release form n location len)
+tidy_written m (written.ReleaseArea form n area) = uses_good m (written.ReleaseArea form n area)
+tidy_written m (written.ReleaseList form n locations lengths) = uses_good m (written.ReleaseList form n locations lengths)
+tidy_written m (written.ReleaseWhole form n) = uses_good m (written.ReleaseWhole form n)
+tidy_written m (written.Attach name gifts residence) = uses_good m (written.Attach name gifts residence)
+tidy_written m written.Return = uses_good m written.Return
+tidy_written m (written.Abend code) = uses_good m (written.Abend code)
+tidy_written m (written.Show location n) = uses_good m (written.Show location n)
+tidy_written m (written.Put location bytes) = uses_good m (written.Put location bytes)
+tidy_written m (written.Move to from n) = uses_good m (written.Move to from n)
 
 -- whether a statement is tidy: it also prints no address
 abbrev pub tidy_statement : Labels → Statement → Bool

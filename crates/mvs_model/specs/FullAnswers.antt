@@ -34,7 +34,17 @@ has_long_data (short.Data p) = true
 has_long_data (short.Abended code) = true
 has_long_data short.Subpools = true
 has_long_data short.Map = true
-has_long_data _ = false
+has_long_data short.NotRun = false
+has_long_data short.NoName = false
+has_long_data (short.At addr) = false
+has_long_data short.Rc0 = false
+has_long_data (short.Granted n) = false
+has_long_data short.Rc4 = false
+has_long_data short.Cell = false
+has_long_data short.NoCell = false
+has_long_data short.Attached = false
+has_long_data short.Ended = false
+has_long_data short.Done = false
 
 -- the tasks that ended with the one that abended
 abbrev pub ended_with_in : Reply → List Name

@@ -37,7 +37,19 @@ abbrev pub IsWritten : SourceRequest → Type 0
 IsWritten (written.Obtain form number ask variable area) = IsAsk ask
 IsWritten (written.Build pool number size primary secondary loc) = (4 ≤ size) × (1 ≤ primary) × (1 ≤ secondary)
 IsWritten (written.Attach name gifts residence) = IsGifts gifts
-IsWritten _ = Unit {0}
+IsWritten (written.ObtainList form number lengths start areas) = Unit {0}
+IsWritten (written.Release form number location len) = Unit {0}
+IsWritten (written.ReleaseArea form number area) = Unit {0}
+IsWritten (written.ReleaseList form number locations lengths) = Unit {0}
+IsWritten (written.ReleaseWhole form number) = Unit {0}
+IsWritten (written.Get pool conditional cell) = Unit {0}
+IsWritten (written.Free pool cell) = Unit {0}
+IsWritten (written.Delete pool) = Unit {0}
+IsWritten written.Return = Unit {0}
+IsWritten (written.Abend code) = Unit {0}
+IsWritten (written.Show location len) = Unit {0}
+IsWritten (written.Put location bytes) = Unit {0}
+IsWritten (written.Move to from len) = Unit {0}
 
 -- The first statement is REGION, the card of each is in its ranges, and so are the operands of a request.
 abbrev pub IsStatement : Bool → Name → Statement → Type 0

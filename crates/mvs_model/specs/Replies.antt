@@ -20,7 +20,22 @@ is_abend _ = false
 -- for a grant: a variable request also has its length
 abbrev pub grant_answer : SourceRequest → PlaceValue → Answer
 grant_answer (written.Obtain form number ask true area) p = Granted p.len
-grant_answer _ p = Rc0
+grant_answer (written.Obtain form number ask false area) p = Rc0
+grant_answer (written.ObtainList form number lengths start areas) p = Rc0
+grant_answer (written.Release form number location len) p = Rc0
+grant_answer (written.ReleaseArea form number area) p = Rc0
+grant_answer (written.ReleaseList form number locations lengths) p = Rc0
+grant_answer (written.ReleaseWhole form number) p = Rc0
+grant_answer (written.Build pool number size primary secondary loc) p = Rc0
+grant_answer (written.Get pool conditional cell) p = Rc0
+grant_answer (written.Free pool cell) p = Rc0
+grant_answer (written.Delete pool) p = Rc0
+grant_answer (written.Attach name gifts residence) p = Rc0
+grant_answer written.Return p = Rc0
+grant_answer (written.Abend code) p = Rc0
+grant_answer (written.Show location len) p = Rc0
+grant_answer (written.Put location bytes) p = Rc0
+grant_answer (written.Move to from len) p = Rc0
 
 -- the bytes of a place, 00 for one that may not be read (SHOW is then not done)
 unfoldable pub bytes_at : State → ℕ → ℕ → List ℕ

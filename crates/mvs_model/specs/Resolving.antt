@@ -60,7 +60,15 @@ looked_up (written.Free pool cell) = name_in cell
 looked_up (written.Show location n) = name_in location
 looked_up (written.Put location bytes) = name_in location
 looked_up (written.Move to from n) = flat_map name_in (to ∷ from ∷ [])
-looked_up _ = []
+looked_up (written.Obtain form number ask variable area) = []
+looked_up (written.ObtainList form number lengths start areas) = []
+looked_up (written.ReleaseWhole form number) = []
+looked_up (written.Build pool number size primary secondary loc) = []
+looked_up (written.Get pool conditional cell) = []
+looked_up (written.Delete pool) = []
+looked_up (written.Attach name gifts residence) = []
+looked_up written.Return = []
+looked_up (written.Abend code) = []
 
 -- the first of some names that is not set
 abbrev pub first_unset : FinMap name_cmp PlaceValue → List Name → Option Name
@@ -71,7 +79,19 @@ abbrev pub names_set : SourceRequest → List Name
 names_set (written.Obtain form number ask variable area) = area ∷ []
 names_set (written.ObtainList form number lengths start areas) = areas
 names_set (written.Get pool conditional cell) = cell ∷ []
-names_set _ = []
+names_set (written.Release form number location len) = []
+names_set (written.ReleaseArea form number area) = []
+names_set (written.ReleaseList form number locations lengths) = []
+names_set (written.ReleaseWhole form number) = []
+names_set (written.Build pool number size primary secondary loc) = []
+names_set (written.Free pool cell) = []
+names_set (written.Delete pool) = []
+names_set (written.Attach name gifts residence) = []
+names_set written.Return = []
+names_set (written.Abend code) = []
+names_set (written.Show location len) = []
+names_set (written.Put location bytes) = []
+names_set (written.Move to from len) = []
 
 -- the places that a reply gives to the names
 abbrev pub places_in : Reply → List PlaceValue

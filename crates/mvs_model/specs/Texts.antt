@@ -82,7 +82,10 @@ one_line_text Attached = codes "ATTACHED"
 one_line_text Ended = codes "ENDED"
 one_line_text Done = codes "OK"
 one_line_text (Region card) = region_text card
-one_line_text _ = []
+one_line_text (Data bytes) = []
+one_line_text (Abended code fallen) = []
+one_line_text (Subpools lines) = []
+one_line_text (Map runs) = []
 
 -- what is printed for an answer to a statement of the task
 abbrev pub answer_text : ℕ → Name → Answer → List ℕ
@@ -91,7 +94,18 @@ answer_text number t (Abended code fallen) = abend_lines number t code fallen
 answer_text number t (Subpools []) = reply_line number t (codes "SP NONE")
 answer_text number t (Subpools (l ∷ lines)) = flat_map (λ l. reply_line number t (subpool_text l)) (l ∷ lines)
 answer_text number t (Map runs) = flat_map (λ r. reply_line number t (map_text r)) runs
-answer_text number t answer = reply_line number t (one_line_text answer)
+answer_text number t NotRun = reply_line number t (one_line_text NotRun)
+answer_text number t NoName = reply_line number t (one_line_text NoName)
+answer_text number t (At addr) = reply_line number t (one_line_text (At addr))
+answer_text number t Rc0 = reply_line number t (one_line_text Rc0)
+answer_text number t (Granted n) = reply_line number t (one_line_text (Granted n))
+answer_text number t Rc4 = reply_line number t (one_line_text Rc4)
+answer_text number t Cell = reply_line number t (one_line_text Cell)
+answer_text number t NoCell = reply_line number t (one_line_text NoCell)
+answer_text number t Attached = reply_line number t (one_line_text Attached)
+answer_text number t Ended = reply_line number t (one_line_text Ended)
+answer_text number t Done = reply_line number t (one_line_text Done)
+answer_text number t (Region card) = reply_line number t (one_line_text (Region card))
 
 -- the end of a step
 abbrev pub step_ended : Bool → List ℕ

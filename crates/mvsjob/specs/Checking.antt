@@ -5,7 +5,7 @@ use Rattle.expected_answers.specs.declared.report.Counts.{Counts}
 use Rattle.expected_answers.specs.declared.report.ReportForm.{ReportForm}
 use Rattle.expected_answers.specs.ExpectedAnswers.{expected_of, statements}
 use Rattle.expected_answers.specs.Reports.{are_right, counts_of, report_of}
-use Rattle.job_script.specs.Writing.{AppendsFront}
+use Rattle.line_text.specs.Writing.{AppendsFront}
 use Rattle.mvs_model.specs.declared.outcome.Outcome.{Outcome}
 use Rattle.mvs_model.specs.declared.outcome.Outcome.TheVariants.{ScriptFault}
 use Rattle.mvs_model.specs.Runs.{IsPrinting}

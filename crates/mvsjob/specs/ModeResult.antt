@@ -5,7 +5,7 @@ use Rattle.std.specs.Io.KnownBytes.{Appends}
 use Rattle.area_history.specs.declared.account.Leftovers.{Leftovers}
 use Rattle.area_history.specs.Reporting.{IsReported, with_leaks}
 use Rattle.expected_answers.specs.Blank.{blank}
-use Rattle.job_script.specs.Writing.{AppendsFront}
+use Rattle.line_text.specs.Writing.{AppendsFront}
 use Rattle.judge.specs.declared.Finding.{Finding}
 use Rattle.judge.specs.declared.Finding.TheVariants as finding
 use Rattle.judge.specs.Judging.{IsFound}

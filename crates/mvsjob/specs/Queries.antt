@@ -20,7 +20,19 @@ abbrev pub questions_after : Name → SourceRequest → List ℕ
 questions_after t (written.Obtain form number ask variable area) = question t area
 questions_after t (written.ObtainList form number lengths start areas) = flat_map (question t) areas
 questions_after t (written.Get pool conditional cell) = question t cell
-questions_after t _ = []
+questions_after t (written.Release form number location len) = []
+questions_after t (written.ReleaseArea form number area) = []
+questions_after t (written.ReleaseList form number locations lengths) = []
+questions_after t (written.ReleaseWhole form number) = []
+questions_after t (written.Build pool number size primary secondary loc) = []
+questions_after t (written.Free pool cell) = []
+questions_after t (written.Delete pool) = []
+questions_after t (written.Attach name gifts residence) = []
+questions_after t written.Return = []
+questions_after t (written.Abend code) = []
+questions_after t (written.Show location len) = []
+questions_after t (written.Put location bytes) = []
+questions_after t (written.Move to from len) = []
 
 -- the questions after a line, by what it says
 abbrev pub questions : Option Line → List ℕ

@@ -13,7 +13,7 @@ use crate::options::Settings;
 use crate::queries::write_with_queries;
 use crate::served::{ModeResult, fault_of};
 use expected_answers::{Counts, report_answers, statement_at, statements, write_blank};
-use job_script::write_all;
+use line_text::write_all;
 use mvs_job::{Printer, RunFault, Stop, run_lines};
 use mvs_model::outcome::Outcome;
 use mvs_model::want::Placement;
@@ -64,7 +64,7 @@ fn hides_fault(is_hidden: bool, counts: &Counts, line_number: u32) -> bool
     (is_hidden || counts.missing != 0) && line_number <= counts.last
 }
 
-// Returns the line to report, if it is to be reported.
+// Returns the line to report, if there is one.
 fn reported<'a>(
     script: &'a [u8],
     is_hidden: bool,

@@ -49,7 +49,7 @@ pub fn is_blank_or_comment(read: &Line) -> bool
     }
 }
 
-// Returns the number of the line after n lines, the first of which has a number.
+// Returns the number of the line after n lines, from the number of the first.
 fn number_after(number: u32, passed: usize) -> u32
     ensures { number + passed < 2 ^ 32 → result ≡ number + passed }
 {

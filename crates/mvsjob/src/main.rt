@@ -18,6 +18,7 @@ mod exclusions;
 mod faulty;
 mod front;
 mod judging;
+mod kept_memory;
 mod opened;
 mod options;
 mod page_file;
@@ -38,7 +39,8 @@ use diagnosis::{PlainName, diagnose};
 use ending::{Cause, CliError, ExitReason};
 use event_json::EventLines;
 use faulty::FaultyLine;
-use job_script::write_all;
+use kept_memory::keep_freed_memory;
+use line_text::write_all;
 use mvs_job::{Explained, RunFault};
 use mvs_model::outcome::Outcome;
 use mvs_model::watched::Watched;
@@ -392,6 +394,7 @@ fn serve_words(rt: &HostRuntime, words: &[String]) -> ExitCode {
 
 // Reads the words, then opens the script, then runs it; the first failure ends the program.
 fn main(rt: HostRuntime) -> ExitCode {
+    keep_freed_memory(rt.alloc());
     match words(&rt) {
         Ok(words) => serve_words(&rt, &words),
         Err(why) => finish(&rt, "FILE", "-", ExitReason::GaveUp(why)),

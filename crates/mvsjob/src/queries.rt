@@ -2,14 +2,15 @@
 
 ghost use Rattle.std.specs.Prelude.{Some, true};
 ghost use Rattle.std.specs.List.{flat_map};
-ghost use Rattle.job_script.specs.Writing.{Prints};
+ghost use Rattle.line_text.specs.Writing.{Prints};
 ghost use Rattle.mvs_model.specs.Lines.{lines_of};
 ghost use Rattle.mvsjob.specs.Queries.{with_queries, question, questions, questions_after};
 
 use crate::faulty::is_blank_or_comment;
+use job_script::read_line;
 use job_script::split_once::split_once;
-use job_script::text::LineText;
-use job_script::{read_line, write_all};
+use line_text::text::LineText;
+use line_text::write_all;
 use mvs_model::line::{Line, SourceRequest, Statement};
 use mvs_model::name::Name;
 use mvs_model::watched::{Failed, Watched};

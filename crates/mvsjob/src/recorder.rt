@@ -102,7 +102,7 @@ impl RecordedLines {
         self.bytes.truncate(len - from);
     }
 
-    // Keeps what was read, as far as there is space.
+    // Keeps what was read while there is space.
     fn keep(&mut self, written: &[u8]) {
         let count = written.len().min(ROOM.saturating_sub(self.bytes.len()));
         let _ = self.bytes.extend_from_slice(&written[..count]);

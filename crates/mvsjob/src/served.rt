@@ -28,7 +28,7 @@ use area_history::{
     Historian, JsonReport, ReportFormat, TextReport, run_strictly_with_report, run_with_report,
 };
 use event_json::EventLines;
-use job_script::write_all;
+use line_text::write_all;
 use mvs_job::{
     Consumer, Explained, Printer, RunFault, SkipObserver, Strict, StrictOutcome, run_observed,
     run_strictly,

@@ -114,7 +114,7 @@ kind_number kind.Keyword = 5
 kind_number kind.Value = 12
 kind_number kind.Name = 6
 
--- what is written in place of the bytes of a span
+-- what replaces the bytes of a span
 abbrev pub edit_value : List ℕ → Span → List ℕ → Json
 edit_value text s new = object (member (codes "range") (range_value text s) (member (codes "newText") (string new) no_members))
 
@@ -123,7 +123,7 @@ proposal_value text s p =
     object (member (codes "label") (string p.text) (member (codes "kind") (number (decimal (kind_number p.kind))) (member (codes "detail") (string p.detail)
     (member (codes "textEdit") (edit_value text s p.text) no_members))))
 
--- each word that may be written in place of the same bytes
+-- each word that can replace the same bytes
 abbrev pub completion_value : List ℕ → CompletionValue → Json
 completion_value text c = list_of (proposal_value text c.span) c.proposals
 

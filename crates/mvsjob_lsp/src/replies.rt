@@ -221,7 +221,7 @@ fn kind_of(kind: ProposalKind) -> usize
     }
 }
 
-// Writes a change: what is written in place of the bytes of a span.
+// Writes a change: the text that replaces the bytes of a span.
 fn write_edit(
     objects: &mut Objects,
     places: &mut DocumentPlaces<'_>,
@@ -238,7 +238,7 @@ fn write_edit(
     objects.end()
 }
 
-// Writes a word that may be written in place of some bytes.
+// Writes a word that can replace some bytes.
 fn write_proposal(
     objects: &mut Objects,
     places: &mut DocumentPlaces<'_>,
@@ -258,7 +258,7 @@ fn write_proposal(
     objects.end()
 }
 
-// Writes each of some words that may be written in place of the same bytes.
+// Writes some words that can each replace the same bytes.
 fn write_each_proposal(
     objects: &mut Objects,
     places: &mut DocumentPlaces<'_>,

@@ -16,8 +16,8 @@ use Rattle.mvs_model.specs.Runs.{machine}
 use Rattle.mvs_model.specs.Texts.{printing}
 use Rattle.mvs_model.specs.Walk.{JobEnds, Walks}
 use Rattle.mvs_laws.proofs.Going.{printed_both}
-use Rattle.job_script.specs.Writing.{AppendsFront}
-use Rattle.job_script.proofs.Appending.{Appends-kept}
+use Rattle.line_text.specs.Writing.{AppendsFront}
+use Rattle.line_text.proofs.Appending.{Appends-kept}
 use Rattle.mvs_job.specs.declared.printing.Stop.{Stop}
 use Rattle.mvs_job.specs.declared.printing.Stop.TheVariants as stop
 use Rattle.mvs_job.specs.NamedAddress.{NameOrigins, no_lines}

@@ -14,7 +14,7 @@ use Rattle.mvs_model.specs.Job.{JobValue}
 use Rattle.mvs_model.specs.Reading.{FaultOf, IsReading, LineOf}
 use Rattle.mvs_model.specs.Walk.{Serves, ServesLine, is_first}
 use Rattle.job_script.specs.LineMeaning.{filled}
-use Rattle.job_script.specs.Writing.{AppendsFront}
+use Rattle.line_text.specs.Writing.{AppendsFront}
 use Rattle.mvs_job.specs.declared.printing.Stop.TheVariants as stop
 use Rattle.mvs_job.specs.declared.walk.LineEvent.{LineEvent}
 use Rattle.mvs_job.specs.declared.walk.LineEvent.TheVariants as line_event

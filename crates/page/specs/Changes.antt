@@ -28,7 +28,7 @@ use Rattle.page.specs.declared.change.Change.TheVariants as change
 
 -- ---- what was done
 
--- an area that was obtained from the subpool that the task means by the number
+-- an area that was obtained, and the subpool that has it, by the task's number
 abbrev pub area_change : JobValue → Name → ℕ → Name → Option Change
 area_change new t number area = option_and_then (λ p. option_map (λ l. change.Take p l.0 l.1 area) (resolved_owner new.state.owners t number)) (get new.names area)
 
@@ -42,7 +42,7 @@ abbrev pub free_changes : List PlaceValue → List Change
 free_changes [] = []
 free_changes (p ∷ ps) = change.Free p ∷ free_changes ps
 
--- the subpool of the number of the task, all of which was released
+-- the subpool that was released as a whole, by the task's number for it
 abbrev pub empty_change : JobValue → Name → ℕ → Option Change
 empty_change new t number = option_map (λ l. change.Empty l.0 l.1) (resolved_owner new.state.owners t number)
 

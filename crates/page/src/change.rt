@@ -6,7 +6,7 @@ ghost use Rattle.std.specs.List.{flat_map};
 ghost use Rattle.mvs_model.specs.Texts.{hex};
 ghost use Rattle.page.specs.Lines.{carried, change_line, change_lines, change_text, has_text, place_text, read_bytes, residence_text, subpool_text_of};
 
-use job_script::text::LineText;
+use line_text::text::LineText;
 use mvs_job::{Job, Walk};
 use mvs_model::name::Name;
 use mvs_model::place::{Addr, Place};
@@ -399,8 +399,9 @@ fn carried<'a>(walk: &'a Walk, change: &Change) -> &'a [u8]
 fn push_bytes(lines: &mut Vec<u8>, bytes: &[u8]) -> Result<(), AllocError>
     ensures { OnOk result (lines.new.items ≡ lines.old.items ++ flat_map (hex 2) bytes.now) }
 {
+    let mut text = LineText::new();
     for byte in bytes {
-        let mut text = LineText::new();
+        text.cut(0);
         text.push_byte(*byte);
         lines.extend_from_slice(text.as_slice())?;
     }

@@ -12,7 +12,7 @@ ghost use Rattle.mvs_job.specs.LineEvents.{IsAvailable, events_of_line};
 ghost use Rattle.page.specs.Changes.{answer_changes, area_change, area_changes, begin_changes, cell_change, changes_of, done_changes, empty_change, fall_changes, free_changes, held_change, part_change, pool_change, request_changes, statement_changes, where_changes};
 
 use crate::change::Change;
-use job_script::is_same_name;
+use line_text::is_same_name;
 use mvs_job::{Job, LineEvent, Walk};
 use mvs_model::answer::Answer;
 use mvs_model::card::Card;
@@ -28,6 +28,23 @@ const MOST_CHANGES: usize = 160;
 
 /// What a line did.
 pub type Changes = ShortList<Change, 0, MOST_CHANGES>;
+
+/// Buffers for the request of a line and for what it did. They are large.
+#[derive(Drop)]
+pub struct ChangeBuffers {
+    pub changes: Changes,
+    request: Request,
+}
+
+impl ChangeBuffers {
+    /// Makes empty buffers.
+    pub fn new() -> ChangeBuffers {
+        ChangeBuffers {
+            changes: no_changes(),
+            request: Request::Return,
+        }
+    }
+}
 
 // Makes an empty list of changes.
 fn no_changes() -> Changes
@@ -110,7 +127,7 @@ fn push_falls(changes: &mut Changes, task: &Name, fallen: &[Name])
     push_falls(changes, task, fallen);
 }
 
-// Returns the subpool of the number, all of which was released.
+// Returns the subpool that was released as a whole, by the task's number for it.
 fn empty_change(job: &Job, task: &Name, number: u8) -> Option<Change>
     ensures { result ≡ empty_change job.now task.now number }
 {
@@ -197,14 +214,14 @@ fn push_held(changes: &mut Changes, job: &Job, mother: &Name, subtask: &Name)
     }
 }
 
-// Returns what a request did that names places.
-fn request_changes(request: &Request) -> Changes
-    ensures { result ≡ request_changes (Some request.now) }
+// Puts what a request did that names places.
+fn put_request(changes: &mut Changes, request: &Request)
+    ensures { changes.new ≡ request_changes (Some request.now) }
 {
-    let mut changes = no_changes();
+    changes.clear();
     match request {
         Request::Release { place, .. } => changes.push(Change::Free { place: *place }),
-        Request::ReleaseList { places, .. } => push_frees(&mut changes, places.as_slice()),
+        Request::ReleaseList { places, .. } => push_frees(changes, places.as_slice()),
         Request::Free { pool, cell } => changes.push(Change::Back {
             pool: *pool,
             cell: *cell,
@@ -233,33 +250,33 @@ fn request_changes(request: &Request) -> Changes
         | Request::Return
         | Request::Abend(_) => {}
     }
-    changes
 }
 
-// Returns the changes of a request as written.
-fn named_changes(written: &SourceRequest, job: &Job, request: &mut Request) -> Changes
-    ensures { result ≡ request_changes (resolved job.now.names written.now) }
+// Puts the changes of a request as written.
+fn put_named(buffers: &mut ChangeBuffers, written: &SourceRequest, job: &Job)
+    ensures { buffers.new.changes ≡ request_changes (resolved job.now.names written.now) }
 {
-    match job.request_of(written, request) {
-        Some(()) => request_changes(request),
-        None => no_changes(),
+    match job.request_of(written, &mut buffers.request) {
+        Some(()) => put_request(&mut buffers.changes, &buffers.request),
+        None => buffers.changes.clear(),
     }
 }
 
-// Returns what a task's request did that was granted.
-fn done_changes(task: &Name, written: &SourceRequest, job: &Job, request: &mut Request) -> Changes
-    ensures { result ≡ done_changes task.now written.now job.now }
+// Puts what a task's request did that was granted.
+fn put_done(buffers: &mut ChangeBuffers, task: &Name, written: &SourceRequest, job: &Job)
+    ensures { buffers.new.changes ≡ done_changes task.now written.now job.now }
 {
-    let mut changes = no_changes();
+    let changes = &mut buffers.changes;
+    changes.clear();
     match written {
         SourceRequest::Obtain { number, area, .. } => {
-            push_some(&mut changes, area_change(job, task, *number, area));
+            push_some(changes, area_change(job, task, *number, area));
         }
         SourceRequest::ObtainList { number, areas, .. } => {
-            push_areas(&mut changes, job, task, *number, areas.as_slice());
+            push_areas(changes, job, task, *number, areas.as_slice());
         }
         SourceRequest::ReleaseWhole { number, .. } => {
-            push_some(&mut changes, empty_change(job, task, *number));
+            push_some(changes, empty_change(job, task, *number));
         }
         SourceRequest::Build {
             pool,
@@ -267,15 +284,12 @@ fn done_changes(task: &Name, written: &SourceRequest, job: &Job, request: &mut R
             size,
             ..
         } => {
-            push_some(
-                &mut changes,
-                pool_change(job, task, *number, pool, size.get()),
-            );
-            push_some(&mut changes, part_change(job, pool));
+            push_some(changes, pool_change(job, task, *number, pool, size.get()));
+            push_some(changes, part_change(job, pool));
         }
         SourceRequest::Get { pool, cell, .. } => {
-            push_some(&mut changes, part_change(job, pool));
-            push_some(&mut changes, cell_change(job, pool, cell));
+            push_some(changes, part_change(job, pool));
+            push_some(changes, cell_change(job, pool, cell));
         }
         SourceRequest::Delete { pool } => changes.push(Change::Delete { pool: *pool }),
         SourceRequest::Attach {
@@ -288,7 +302,7 @@ fn done_changes(task: &Name, written: &SourceRequest, job: &Job, request: &mut R
                 mother: *task,
                 residence: *residence,
             });
-            push_held(&mut changes, job, task, name);
+            push_held(changes, job, task, name);
         }
         SourceRequest::Release { .. }
         | SourceRequest::ReleaseArea { .. }
@@ -298,83 +312,79 @@ fn done_changes(task: &Name, written: &SourceRequest, job: &Job, request: &mut R
         | SourceRequest::Abend(_)
         | SourceRequest::Show { .. }
         | SourceRequest::Put { .. }
-        | SourceRequest::Move { .. } => return named_changes(written, job, request),
+        | SourceRequest::Move { .. } => put_named(buffers, written, job),
     }
-    changes
 }
 
-// Returns the change of a task that abended, and those that ended with it.
-fn abend_changes(task: &Name, fallen: &[Name]) -> Changes
+// Puts the change of a task that abended, and those that ended with it.
+fn put_abend(changes: &mut Changes, task: &Name, fallen: &[Name])
     requires { length fallen.now ≤ 31 }
-    ensures { result ≡ Change.Abend task.now ∷ fall_changes task.now fallen.now }
+    ensures { changes.new ≡ Change.Abend task.now ∷ fall_changes task.now fallen.now }
 {
-    let mut changes = no_changes();
+    changes.clear();
     changes.push(Change::Abend { task: *task });
-    push_falls(&mut changes, task, fallen);
-    changes
+    push_falls(changes, task, fallen);
 }
 
-// Returns the change of a task that returned.
-fn return_changes(task: &Name) -> Changes
-    ensures { result ≡ Change.Return task.now ∷ [] }
+// Puts the change of a task that returned.
+fn put_return(changes: &mut Changes, task: &Name)
+    ensures { changes.new ≡ Change.Return task.now ∷ [] }
 {
-    let mut changes = no_changes();
+    changes.clear();
     changes.push(Change::Return { task: *task });
-    changes
 }
 
-// Returns what a request did that is answered so.
-fn answer_changes(
+// Puts what a request did that is answered so.
+fn put_answered(
+    buffers: &mut ChangeBuffers,
     task: &Name,
     written: &SourceRequest,
     answer: &Answer,
     job: &Job,
     fallen: &[Name],
-    request: &mut Request,
-) -> Changes
+)
     requires { length fallen.now ≤ 31 }
     ensures { (st : State)
-        → result
+        → buffers.new.changes
         ≡ answer_changes task.now written.now (full_answer st fallen.now task.now answer.now) job.now }
 {
     match answer {
-        Answer::Ended => return_changes(task),
-        Answer::Abended(_) => abend_changes(task, fallen),
+        Answer::Ended => put_return(&mut buffers.changes, task),
+        Answer::Abended(_) => put_abend(&mut buffers.changes, task, fallen),
         Answer::Rc0
         | Answer::Granted(_)
         | Answer::Cell
         | Answer::Attached
         | Answer::Done
-        | Answer::Data(_) => done_changes(task, written, job, request),
+        | Answer::Data(_) => put_done(buffers, task, written, job),
         Answer::NotRun
         | Answer::NoName
         | Answer::At(_)
         | Answer::Rc4
         | Answer::NoCell
         | Answer::Subpools
-        | Answer::Map => no_changes(),
+        | Answer::Map => buffers.changes.clear(),
     }
 }
 
-// Returns the place that WHERE shows.
-fn where_changes(name: &Name, answer: &Answer, job: &Job) -> Changes
+// Puts the place that WHERE shows.
+fn put_where(changes: &mut Changes, name: &Name, answer: &Answer, job: &Job)
     ensures { (st : State) (fallen : List TaskName) (t : TaskName)
-        → result ≡ where_changes name.now (full_answer st fallen t answer.now) job.now }
+        → changes.new ≡ where_changes name.now (full_answer st fallen t answer.now) job.now }
 {
-    let mut changes = no_changes();
+    changes.clear();
     if let Answer::At(_) = answer {
         if let Some(place) = job.place_of(name) {
             changes.push(Change::Look { place });
         }
     }
-    changes
 }
 
-// Returns the change of a step that begins.
-fn begin_changes(card: &Card) -> Changes
-    ensures { result ≡ begin_changes card.now }
+// Puts the change of a step that begins.
+fn put_begin(changes: &mut Changes, card: &Card)
+    ensures { changes.new ≡ begin_changes card.now }
 {
-    let mut changes = no_changes();
+    changes.clear();
     changes.push(Change::Step {
         below: card.below(),
         above: card.above(),
@@ -384,30 +394,31 @@ fn begin_changes(card: &Card) -> Changes
         name: card.name(),
         residence: card.residence(),
     });
-    changes
 }
 
-// Returns what a statement did that is answered so.
-fn statement_changes(
+// Puts what a statement did that is answered so.
+fn put_statement(
+    buffers: &mut ChangeBuffers,
     task: &Name,
     statement: &Statement,
     answer: &Answer,
     job: &Job,
     fallen: &[Name],
-    request: &mut Request,
-) -> Changes
+)
     requires { length fallen.now ≤ 31 }
     ensures { (st : State)
-        → result
+        → buffers.new.changes
         ≡ statement_changes task.now statement.now (full_answer st fallen.now task.now answer.now)
         job.now }
 {
     match statement {
         Statement::Request(written) => {
-            answer_changes(task, written, answer, job, fallen, request)
+            put_answered(buffers, task, written, answer, job, fallen);
         }
-        Statement::Where(name) => where_changes(name, answer, job),
-        Statement::Region { .. } | Statement::ReportSubpools | Statement::ReportMap => no_changes(),
+        Statement::Where(name) => put_where(&mut buffers.changes, name, answer, job),
+        Statement::Region { .. } | Statement::ReportSubpools | Statement::ReportMap => {
+            buffers.changes.clear();
+        }
     }
 }
 
@@ -431,25 +442,21 @@ fn fallen(walk: &Walk) -> &[Name]
     }
 }
 
-/// Returns the changes of a line with this meaning and these events. Its request is written over `request`.
-pub fn changes_of(
-    read: &Line,
-    walk: &Walk,
-    line_event: &LineEvent,
-    request: &mut Request,
-) -> Changes
+/// Puts the changes of a line with this meaning and these events into the buffers.
+pub fn put_changes(buffers: &mut ChangeBuffers, read: &Line, walk: &Walk, line_event: &LineEvent)
     requires { IsAvailable walk.now line_event.now }
     ensures { (number : ℕ)
-        → result ≡ changes_of read.now (events_of_line number walk.now line_event.now) walk.now.step }
+        → buffers.new.changes
+        ≡ changes_of read.now (events_of_line number walk.now line_event.now) walk.now.step }
 {
     match line_event {
-        LineEvent::StepBegan { card, .. } => begin_changes(card),
+        LineEvent::StepBegan { card, .. } => put_begin(&mut buffers.changes, card),
         LineEvent::Answered { task, answer } => match (read, walk.job()) {
             (Line::Statement(_, statement), Some(job)) => {
-                statement_changes(task, statement, answer, job, fallen(walk), request)
+                put_statement(buffers, task, statement, answer, job, fallen(walk));
             }
-            (Line::Statement(..), None) | (Line::Nothing, _) => no_changes(),
+            (Line::Statement(..), None) | (Line::Nothing, _) => buffers.changes.clear(),
         },
-        LineEvent::Nothing | LineEvent::Faulted(_) => no_changes(),
+        LineEvent::Nothing | LineEvent::Faulted(_) => buffers.changes.clear(),
     }
 }

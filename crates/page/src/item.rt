@@ -12,12 +12,11 @@ ghost use Rattle.page.specs.Markup.{class_of, answer_class, head_of, reply_of, t
 ghost use Rattle.page.specs.Items.{item_of_event};
 
 use crate::change::push_lines;
-use crate::changes::changes_of;
+use crate::changes::{ChangeBuffers, put_changes};
 use crate::markup::{push_head, push_reply, push_tag, push_tail};
 use mvs_job::{LineEvent, Walk};
 use mvs_model::answer::Answer;
 use mvs_model::line::Line;
-use mvs_model::request::Request;
 use std::alloc::{AllocError, Global};
 
 /// A line of a script, without its end, and its number.
@@ -73,7 +72,7 @@ fn lines_of_change(
     read: &Line,
     walk: &Walk,
     line_event: &LineEvent,
-    request: &mut Request,
+    buffers: &mut ChangeBuffers,
 ) -> Result<Vec<u8>, AllocError>
     requires { IsAvailable walk.now line_event.now }
     ensures { IfOk result
@@ -82,12 +81,9 @@ fn lines_of_change(
         ≡ change_lines walk.now.step
         (changes_of read.now (events_of_line number walk.now line_event.now) walk.now.step)) }
 {
+    put_changes(buffers, read, walk, line_event);
     let mut lines = Vec::new(alloc);
-    push_lines(
-        &mut lines,
-        changes_of(read, walk, line_event, request).as_slice(),
-        walk,
-    )?;
+    push_lines(&mut lines, buffers.changes.as_slice(), walk)?;
     Ok(lines)
 }
 
@@ -126,15 +122,15 @@ fn stated(
     Ok(item)
 }
 
-/// Makes the item of a line that says this, and was served so: a statement, or a line with a fault. The request that it asks for is
-/// written over `request`.
+/// Makes the item of a line that says this, and was served so: a statement, or a line with a fault. Its request and its
+/// changes are written over those in the buffers.
 pub fn item_of(
     alloc: Global,
     numbered: &Numbered<'_>,
     read: &Line,
     walk: &Walk,
     served: &PrintedLine,
-    request: &mut Request,
+    buffers: &mut ChangeBuffers,
 ) -> Result<Vec<u8>, AllocError>
     requires full_answer { IsAvailable walk.now served.now.line_event }
     requires answered { served.now.line_event ≢ LineEvent.Nothing }
@@ -146,7 +142,7 @@ pub fn item_of(
         served.now.line_event served.now.explanation.items) }
 {
     let how = class_of(walk, &served.line_event);
-    let changes = lines_of_change(alloc, read, walk, &served.line_event, request)?;
+    let changes = lines_of_change(alloc, read, walk, &served.line_event, buffers)?;
     let lines = changes.as_slice();
     let printed = served.printed.as_slice();
     let explanation = served.explanation.as_slice();

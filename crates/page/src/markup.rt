@@ -1,11 +1,12 @@
 //! The text of the items of a page.
 
-ghost use Rattle.std.specs.Prelude.{◌≡◌, ◌≤◌, ◌+◌, ◌++◌, OnOk, decimal, drop, length, take};
-ghost use Rattle.job_script.specs.Writing.{Prints};
+ghost use Rattle.std.specs.Prelude.{◌≡◌, ◌≤◌, ◌<◌, ◌+◌, ◌++◌, ◌∷◌, [], true, IfOk, OnOk, decimal, drop, length, take};
+ghost use Rattle.line_text.specs.Writing.{Prints};
 ghost use Rattle.page.specs.Markup.{article_tag, escaped, escaped_byte, head_of, most_of_line, note_of, note_tag, reply_of, shown_line, tail_of, words_of};
 
-use job_script::text::LineText;
-use job_script::{MOST_LINE_BYTES, write_all};
+use job_script::MOST_LINE_BYTES;
+use line_text::text::LineText;
+use line_text::write_all;
 use mvs_job::line_end;
 use mvs_model::watched::{Failed, Watched};
 use std::alloc::AllocError;
@@ -33,12 +34,55 @@ fn escaped_byte(byte: &u8) -> &[u8]
     }
 }
 
+// Returns whether a byte is written as it is.
+fn is_unchanged(byte: u8) -> bool
+    ensures { result ≡ true → escaped_byte byte ≡ byte ∷ [] }
+{
+    match byte {
+        b'&' | b'<' | b'>' | b'"' => false,
+        b'\n' | b' '..=b'~' => true,
+        _ => false,
+    }
+}
+
+// Returns how many bytes at the beginning of a text are written as they are.
+fn unchanged_len(text: &[u8]) -> usize
+    ensures bound { result ≤ length text.now }
+    ensures unchanged { escaped (take result text.now) ≡ take result text.now }
+{
+    let mut len = 0;
+    'bytes: while len < text.len() {
+        if !is_unchanged(text[len]) {
+            return len;
+        }
+        len += 1;
+    }
+    len
+}
+
+// Appends the first byte of a text, escaped, and returns the others.
+fn push_first<'a>(item: &mut Vec<u8>, text: &'a [u8]) -> Result<&'a [u8], AllocError>
+    ensures items { IfOk result
+        (λ others. item.new.items ++ escaped others.now ≡ item.old.items ++ escaped text.now) }
+    ensures shorter { IfOk result
+        (λ others. (length others.now ≤ length text.now) × (0 < length text.now → length others.now < length text.now)) }
+{
+    let Some((first, others)) = text.split_first() else {
+        return Ok(text);
+    };
+    item.extend_from_slice(escaped_byte(first))?;
+    Ok(others)
+}
+
 // Appends a text, escaped.
 fn push_escaped(item: &mut Vec<u8>, text: &[u8]) -> Result<(), AllocError>
     ensures { OnOk result (item.new.items ≡ item.old.items ++ escaped text.now) }
 {
-    for byte in text {
-        item.extend_from_slice(escaped_byte(byte))?;
+    let mut rest = text;
+    'runs: while !rest.is_empty() {
+        let (unchanged, others) = rest.split_at(unchanged_len(rest));
+        item.extend_from_slice(unchanged)?;
+        rest = push_first(item, others)?;
     }
     Ok(())
 }

@@ -12,13 +12,14 @@ ghost use Rattle.page.specs.Markup.{closing_of};
 ghost use Rattle.page.specs.Pages.{IsReadAs, WritesItem, WritesPage, WritesShown};
 ghost use Rattle.page.specs.Items.{continues};
 
+use crate::changes::ChangeBuffers;
 use crate::item::{Numbered, PrintedLine, item_of};
 use crate::markup::{print_note, push_reply};
-use job_script::{read_line, write_all};
+use job_script::read_line;
+use line_text::write_all;
 use mvs_job::{Explainer, LineEvent, Stop, Walk, line_end, print_closing};
 use mvs_model::line::Line;
 use mvs_model::outcome::Outcome;
-use mvs_model::request::Request;
 use mvs_model::want::Placement;
 use mvs_model::watched::Watched;
 use std::alloc::{AllocError, Global};
@@ -29,7 +30,7 @@ use std::io::Write;
 struct PageMaker {
     explainer: Explainer,
     read: Line,
-    request: Request,
+    buffers: ChangeBuffers,
 }
 
 // Returns what was written to memory, where no growth was refused.
@@ -81,7 +82,7 @@ impl PageMaker {
         PageMaker {
             explainer: Explainer::new(alloc),
             read: Line::Nothing,
-            request: Request::Return,
+            buffers: ChangeBuffers::new(),
         }
     }
 
@@ -180,7 +181,7 @@ impl PageMaker {
             &self.read,
             walk,
             &served,
-            &mut self.request,
+            &mut self.buffers,
         ) else {
             return Err(Stop::Memory);
         };

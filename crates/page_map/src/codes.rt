@@ -1,23 +1,29 @@
 //! The subpools of pages as plain numbers, several of which are compared at once.
 
-ghost use Rattle.std.specs.Prelude.{◌≡◌, ◌<◌, ◌≤◌, ◌+◌, ◌⊎◌, ◌↔◌, ℕ, length, false, true, IsTrue, is_some, slice_index_or};
+ghost use Rattle.std.specs.Prelude.{◌≡◌, ◌<◌, ◌≤◌, ◌+◌, ◌⊎◌, ℕ, length, map, false, true, is_some, MatchOption};
 ghost use Rattle.mvs_model.specs.Finite.{has};
 ghost use Rattle.mvs_model.specs.Numbers.{most_subpools};
 ghost use Rattle.mvs_model.specs.Storage.{is_one_of};
+ghost use Rattle.std.specs.Simd.Lanes.{mask_l};
 ghost use Rattle.page_map.specs.Codes.{AreCodes, decoded, free_code, page_owners};
 ghost use Rattle.page_map.specs.Owners.{is_usable, owner_of, IsFirst};
+ghost use Rattle.page_map.specs.Several.{is_below_free, is_marked, HasNone, IsAt};
 
 use mvs_model::subpool::SubpoolId;
 use mvs_model::subpool_set::SubpoolSet;
+use std::simd::prelude::*;
 
 /// The number for a page without a subpool.
 pub(crate) const FREE: u16 = u16::MAX;
 
-// How many pages of other subpools are looked at at once.
-const SEVERAL: usize = 8;
+// A number that is above those of subpools, and not above FREE: a comparison with it tests one bit.
+const LEAST_FREE: u16 = 32768;
 
-// How many free pages are looked at at once.
-const SEVERAL_FREE: usize = 16;
+// How many pages are compared at once.
+const SEVERAL: usize = 16;
+
+// How many pages are compared at once in a long search.
+const MANY: usize = 64;
 
 // Returns the subpool of a number.
 pub(crate) fn subpool_of(code: u16) -> Option<SubpoolId>
@@ -31,117 +37,175 @@ pub(crate) fn subpool_of(code: u16) -> Option<SubpoolId>
     }
 }
 
-// Returns whether a page is free or the subpool's. Both are compared at once, so that several pages can be.
+// Returns whether a page is free or the subpool's.
 fn is_usable(code: u16, own: u16) -> bool
     requires code { (code < most_subpools) ⊎ (code ≡ free_code) }
     requires own { own < most_subpools }
     ensures { result ≡ is_usable own (decoded code) }
 {
-    (code == FREE) | (code == own)
+    code == FREE || code == own
 }
 
-// Returns whether one of some pages is free or the subpool's.
-fn is_one_usable(codes: &[u16], own: u16) -> bool
+// Returns which of some pages are free or the subpool's: bit n is set for page n.
+fn usable_bits<const N: usize>(codes: Simd<u16, N>, own: u16) -> u64
+    requires { N ≤ 64 }
+    ensures { result ≡ mask_l (map (is_marked own) codes.entry) }
+{
+    (codes.simd_eq(Simd::splat(own)) | codes.simd_ge(Simd::splat(LEAST_FREE))).to_bitmask()
+}
+
+// Returns the first of N pages from one on that is free or the subpool's. All are compared at once.
+fn usable_among<const N: usize>(codes: &[u16], own: u16, from: usize) -> Option<usize>
+    requires few { N ≤ 64 }
     requires codes { AreCodes codes.now }
     requires own { own < most_subpools }
-    ensures { result ≡ false → (p : ℕ) → p < length codes.now
-        → is_usable own (decoded (slice_index_or codes.now p free_code)) ≡ false }
+    requires within { from + N ≤ length codes.now }
+    ensures { MatchOption result
+        (HasNone (is_usable own) (page_owners codes.now) from (from + N))
+        (IsAt (is_usable own) (page_owners codes.now) from) }
 {
-    let mut found = false;
-    for code in codes {
-        found |= is_usable(*code, own);
+    let usable = usable_bits(Simd::<u16, N>::from_slice(&codes[from..]), own);
+    if usable == 0 {
+        None
+    } else {
+        Some(from + usable.trailing_zeros() as usize)
     }
-    found
 }
 
-// Skips several pages at once, none of which is free or belongs to the subpool.
-fn pass_several(codes: &[u16], own: u16, from: usize) -> usize
+// Returns the first page from one on that is free or the subpool's, or the number of pages. It compares them one by one.
+fn next_usable(codes: &[u16], own: u16, from: usize) -> usize
     requires codes { AreCodes codes.now }
     requires own { own < most_subpools }
     requires from { from ≤ length codes.now }
-    ensures after { from ≤ result }
-    ensures within { result ≤ length codes.now }
-    ensures passed { (p : ℕ) → from ≤ p → p < result
-        → is_usable own (owner_of (page_owners codes.now) p) ≡ false }
+    ensures { IsFirst (is_usable own) (page_owners codes.now) from result }
 {
     let mut page = from;
-    'several: while SEVERAL <= codes.len() - page {
-        if is_one_usable(&codes[page..page + SEVERAL], own) {
+    'pages: while page < codes.len() {
+        if is_usable(codes[page], own) {
             return page;
+        }
+        page += 1;
+    }
+    page
+}
+
+// Returns the first page from one on that is free or the subpool's, or the number of pages. It compares SEVERAL pages at once.
+fn near_usable(codes: &[u16], own: u16, from: usize) -> usize
+    requires codes { AreCodes codes.now }
+    requires own { own < most_subpools }
+    requires from { from ≤ length codes.now }
+    ensures { IsFirst (is_usable own) (page_owners codes.now) from result }
+{
+    let mut page = from;
+    'several: while page + SEVERAL <= codes.len() {
+        if let Some(found) = usable_among::<SEVERAL>(codes, own, page) {
+            return found;
         }
         page += SEVERAL;
     }
-    page
+    next_usable(codes, own, page)
 }
 
-// Returns the first page from one on that is free or the subpool's, and its subpool. Several pages are compared at once; those among
-// which it is are then compared one by one, which is the same look at them.
-pub(crate) fn first_usable(codes: &[u16], own: u16, from: usize) -> (usize, Option<SubpoolId>)
+// Returns the first page from one on that is free or the subpool's, or the number of pages. It compares MANY pages at once.
+// It is not inlined, so that its loop keeps one counter.
+#[inline(never)]
+fn far_usable(codes: &[u16], own: u16, from: usize) -> usize
     requires codes { AreCodes codes.now }
     requires own { own < most_subpools }
     requires from { from ≤ length codes.now }
-    ensures first { IsFirst (is_usable own) (page_owners codes.now) from result.0 }
-    ensures owner { result.1 ≡ owner_of (page_owners codes.now) result.0 }
-{
-    let mut page = pass_several(codes, own, from);
-    'pages: while page < codes.len() {
-        let code = codes[page];
-        if is_usable(code, own) {
-            return (page, subpool_of(code));
-        }
-        page += 1;
-    }
-    (page, None)
-}
-
-// Returns whether one of some pages is assigned.
-fn is_one_assigned(codes: &[u16]) -> bool
-    requires { AreCodes codes.now }
-    ensures { result ≡ false → (p : ℕ) → p < length codes.now
-        → is_some (decoded (slice_index_or codes.now p free_code)) ≡ false }
-{
-    let mut found = false;
-    for code in codes {
-        found |= *code != FREE;
-    }
-    found
-}
-
-// Passes several free pages at once, from one on.
-fn pass_free(codes: &[u16], from: usize) -> usize
-    requires codes { AreCodes codes.now }
-    requires from { from ≤ length codes.now }
-    ensures after { from ≤ result }
-    ensures within { result ≤ length codes.now }
-    ensures passed { (p : ℕ) → from ≤ p → p < result
-        → is_some (owner_of (page_owners codes.now) p) ≡ false }
+    ensures { IsFirst (is_usable own) (page_owners codes.now) from result }
 {
     let mut page = from;
-    'several: while SEVERAL_FREE <= codes.len() - page {
-        if is_one_assigned(&codes[page..page + SEVERAL_FREE]) {
+    'many: while page + MANY <= codes.len() {
+        if let Some(found) = usable_among::<MANY>(codes, own, page) {
+            return found;
+        }
+        page += MANY;
+    }
+    near_usable(codes, own, page)
+}
+
+// Returns the first page from one on that is free or the subpool's, or the number of pages. Often it is near.
+pub(crate) fn first_usable(codes: &[u16], own: u16, from: usize) -> usize
+    requires codes { AreCodes codes.now }
+    requires own { own < most_subpools }
+    requires from { from ≤ length codes.now }
+    ensures { IsFirst (is_usable own) (page_owners codes.now) from result }
+{
+    if codes.len() < from + SEVERAL {
+        return next_usable(codes, own, from);
+    }
+    match usable_among::<SEVERAL>(codes, own, from) {
+        Some(page) => page,
+        None => far_usable(codes, own, from + SEVERAL),
+    }
+}
+
+// Returns which of some pages are assigned: bit n is set for page n.
+fn assigned_bits(codes: u16x16) -> u64
+    ensures { result ≡ mask_l (map is_below_free codes) }
+{
+    codes.simd_lt(u16x16::splat(LEAST_FREE)).to_bitmask()
+}
+
+// Returns the first of several pages from one on that is assigned. All are compared at once.
+fn assigned_among(codes: &[u16], from: usize) -> Option<usize>
+    requires codes { AreCodes codes.now }
+    requires within { from + 16 ≤ length codes.now }
+    ensures { MatchOption result
+        (HasNone is_some (page_owners codes.now) from (from + 16))
+        (IsAt is_some (page_owners codes.now) from) }
+{
+    let assigned = assigned_bits(u16x16::from_slice(&codes[from..]));
+    if assigned == 0 {
+        None
+    } else {
+        Some(from + assigned.trailing_zeros() as usize)
+    }
+}
+
+// Returns the first page from one on that is assigned, or the number of pages. It compares them one by one.
+fn next_assigned(codes: &[u16], from: usize) -> usize
+    requires codes { AreCodes codes.now }
+    requires from { from ≤ length codes.now }
+    ensures { IsFirst is_some (page_owners codes.now) from result }
+{
+    let mut page = from;
+    'pages: while page < codes.len() {
+        if codes[page] != FREE {
             return page;
         }
-        page += SEVERAL_FREE;
+        page += 1;
     }
     page
 }
 
-// Returns the first page from one on that a subpool has, and the subpool; looked for in the same way.
-pub(crate) fn first_assigned(codes: &[u16], from: usize) -> (usize, Option<SubpoolId>)
+// Returns the first page from one on that is assigned, or the number of pages.
+pub(crate) fn first_assigned(codes: &[u16], from: usize) -> usize
     requires codes { AreCodes codes.now }
     requires from { from ≤ length codes.now }
-    ensures first { IsFirst is_some (page_owners codes.now) from result.0 }
-    ensures owner { result.1 ≡ owner_of (page_owners codes.now) result.0 }
+    ensures { IsFirst is_some (page_owners codes.now) from result }
 {
-    let mut page = pass_free(codes, from);
-    'pages: while page < codes.len() {
-        let code = codes[page];
-        if code != FREE {
-            return (page, subpool_of(code));
+    let mut page = from;
+    'several: while page + SEVERAL <= codes.len() {
+        if let Some(found) = assigned_among(codes, page) {
+            return found;
         }
-        page += 1;
+        page += SEVERAL;
     }
-    (page, None)
+    next_assigned(codes, page)
+}
+
+// Returns the subpool of a page, if there is such a page.
+pub(crate) fn owner_at(codes: &[u16], page: usize) -> Option<SubpoolId>
+    requires { AreCodes codes.now }
+    ensures { result ≡ owner_of (page_owners codes.now) page }
+{
+    if page < codes.len() {
+        subpool_of(codes[page])
+    } else {
+        None
+    }
 }
 
 // Returns whether the page's subpool is one of the set.
@@ -155,18 +219,33 @@ fn is_in(code: u16, subpools: &SubpoolSet) -> bool
     }
 }
 
+// Returns the page after one or, if that page is free, the first assigned page after it, or the number of pages.
+fn after(codes: &[u16], page: usize) -> usize
+    requires codes { AreCodes codes.now }
+    requires within { page < length codes.now }
+    ensures after { page < result }
+    ensures most { result ≤ length codes.now }
+    ensures passed { HasNone is_some (page_owners codes.now) (page + 1) result }
+{
+    if codes[page] == FREE {
+        first_assigned(codes, page + 1)
+    } else {
+        page + 1
+    }
+}
+
 // Returns the first page from one on whose subpool is one of the set.
 pub(crate) fn first_of(codes: &[u16], subpools: &SubpoolSet, from: usize) -> usize
     requires codes { AreCodes codes.now }
     requires from { from ≤ length codes.now }
     ensures { IsFirst (has (is_one_of subpools.now)) (page_owners codes.now) from result }
 {
-    let mut page = first_assigned(codes, from).0;
+    let mut page = from;
     'pages: while page < codes.len() {
         if is_in(codes[page], subpools) {
             return page;
         }
-        page = first_assigned(codes, page + 1).0;
+        page = after(codes, page);
     }
-    codes.len()
+    page
 }

@@ -7,7 +7,7 @@ ghost use Rattle.mvs_model.specs.Finite.{count_below, has};
 ghost use Rattle.mvs_model.specs.Storage.{is_one_of};
 ghost use Rattle.page_map.specs.Owners.{owner_of, is_of, is_usable, IsFirst};
 
-use crate::codes::{FREE, first_assigned, first_of, first_usable, subpool_of};
+use crate::codes::{FREE, first_assigned, first_of, first_usable, owner_at, subpool_of};
 use mvs_model::error::OutOfMemory;
 use mvs_model::subpool::SubpoolId;
 use mvs_model::subpool_set::SubpoolSet;
@@ -48,13 +48,11 @@ impl PageMap {
                 free: 0,
             });
         }
-        match vec![in alloc; FREE; pages] {
-            Ok(owners) => Ok(PageMap {
-                owners,
-                free: pages,
-            }),
-            Err(_) => Err(OutOfMemory),
-        }
+        let owners = vec![in alloc; FREE; pages].map_err(|_| OutOfMemory)?;
+        Ok(PageMap {
+            owners,
+            free: pages,
+        })
     }
 
     /// Returns how many pages there are.
@@ -141,7 +139,8 @@ impl PageMap {
         ensures first { IsFirst (is_usable subpool) self.now from result.0 }
         ensures owner { result.1 ≡ owner_of self.now result.0 }
     {
-        first_usable(&self.owners, subpool.get(), from)
+        let page = first_usable(&self.owners, subpool.get(), from);
+        (page, owner_at(&self.owners, page))
     }
 
     /// Returns the first page from one on that is assigned, or the number of pages; and the subpool that the page is assigned to.
@@ -150,7 +149,8 @@ impl PageMap {
         ensures first { IsFirst is_some self.now from result.0 }
         ensures owner { result.1 ≡ owner_of self.now result.0 }
     {
-        first_assigned(&self.owners, from)
+        let page = first_assigned(&self.owners, from);
+        (page, owner_at(&self.owners, page))
     }
 
     /// Returns the first page from one on that is assigned to a subpool of the set, or the number of pages.
@@ -159,5 +159,18 @@ impl PageMap {
         ensures { IsFirst (has (is_one_of subpools.now)) self.now from result }
     {
         first_of(&self.owners, subpools, from)
+    }
+
+    /// Returns a copy. It fails if memory is exhausted.
+    pub fn try_clone(&self) -> Result<PageMap, OutOfMemory>
+        ensures { IfOk result (λ copy. copy ≡ self.now) }
+    {
+        let owners = Vec::from_slice(*self.owners.allocator(), &self.owners).map_err(
+            |_| OutOfMemory,
+        )?;
+        Ok(PageMap {
+            owners,
+            free: self.free,
+        })
     }
 }

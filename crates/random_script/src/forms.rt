@@ -10,7 +10,7 @@ use crate::requests::ExpectedChange;
 use std::alloc::AllocError;
 use std::fmt::Write;
 
-/// A form: the texts in front of the length, between it and the area, and at the end.
+/// A form: the texts before the length, between it and the area, and at the end.
 type FormTexts = (&'static str, &'static str, &'static str);
 
 /// The forms of one length that obtain below: the conditional one twice, then the others.
@@ -61,7 +61,7 @@ static RELEASES: [FormTexts; 12] = [
     ("STORAGE RELEASE,LENGTH=", ",ADDR=", ""),
 ];
 
-/// The forms that release a whole subpool: what is in front of its number, and what follows it.
+/// The forms that release a whole subpool: the text before its number, and the text after it.
 static WHOLE: [(&'static str, &'static str); 8] = [
     ("FREEMAIN R", ""),
     ("FREEMAIN RC", ""),

@@ -243,7 +243,7 @@ impl ScriptMaker {
         self.profile == Profile::Faults && (self.dice.is_one_of(40) || is_last)
     }
 
-    // Returns whether the next line is to be one with a fault: the last one, or the first one, which is no REGION statement.
+    // Returns whether the next line gets a fault: the last one, or the first one, which is then no REGION statement.
     fn is_to_be_faulty(&mut self, is_last: bool) -> bool {
         self.profile == Profile::All
             && (is_last && self.dice.is_one_of(2)

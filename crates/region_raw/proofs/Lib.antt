@@ -5,6 +5,7 @@ mod Masks
 pub mod PageRows
 mod PageBytes
 mod Parts
+mod Copies
 -- Memory, which the walks of the functions with raw pointers cite.
 mod Walks
 mod Starts

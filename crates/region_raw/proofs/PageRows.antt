@@ -7,7 +7,7 @@ use Rattle.std.proofs.lemmas.Grind.{common_steps}
 use Rattle.region_raw.specs.Rows.{values}
 use Rattle.region_raw.specs.Pages.{Pages, page_row, spread, ArePages, page_of, pages_of, is_open}
 
-values-map : (xs : List ℕ) → values (map Some xs) ≡ xs
+pub values-map : (xs : List ℕ) → values (map Some xs) ≡ xs
 values-map [] = refl
 values-map (x ∷ xs) = ap (λ l. x ∷ l) (values-map xs)
 

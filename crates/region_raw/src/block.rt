@@ -87,6 +87,18 @@ impl Block {
         }
     }
 
+    /// Gives the blank bytes from `at` on the values of `bytes`, one after another.
+    pub fn open_with(&mut self, at: usize, bytes: &[u8])
+        requires blank { IsBlankRun self.old at (length bytes.now) }
+        requires small { at + length bytes.now < 2 ^ 64 }
+        ensures { self.new ≡ written self.old at (length bytes.now) bytes.now }
+    {
+        let start = self.start;
+        for i in 0..bytes.len() {
+            self.bytes.write(start, at + i, bytes[i]);
+        }
+    }
+
     /// Makes the `n` bytes from `at` on blank.
     pub fn close(&mut self, at: usize, n: usize)
         requires { at + n ≤ length self.old }

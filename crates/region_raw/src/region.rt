@@ -1,5 +1,5 @@
 //! A region: a list of pages, each blank or 4096 bytes.
-ghost use Rattle.std.specs.Prelude.{◌≡◌, ◌+◌, ◌<◌, ◌≤◌, ℕ, true, List, [], ◌∷◌, Some, None, length, replicate, slice_index, slice_set, IfOk, IsOk};
+ghost use Rattle.std.specs.Prelude.{◌≡◌, ◌+◌, ◌<◌, ◌≤◌, ℕ, true, List, [], ◌∷◌, Some, None, length, replicate, slice_index, slice_index_or, slice_set, IfOk, IsOk};
 ghost use Rattle.std.specs.Borrow.{sem};
 ghost use Rattle.std.specs.Int.{to_be_bytes, w32};
 ghost use Rattle.mvs_model.specs.Numbers.{page_bytes, most_pages_above};
@@ -57,6 +57,16 @@ impl Region {
         ensures { self.new ≡ slice_set self.old page (Some (replicate page_bytes fill)) }
     {
         self.block.open(page * PAGE, PAGE, fill);
+    }
+
+    /// Opens a blank page, with the bytes of the same page of another region.
+    pub fn copy_page(&mut self, page: usize, from: &Region)
+        requires blank { IsBlank self.old page }
+        requires open { is_open from.now page ≡ true }
+        ensures { self.new ≡ slice_set self.old page (slice_index_or from.now page None) }
+    {
+        let bytes = from.block.part(page * PAGE, PAGE);
+        self.block.open_with(page * PAGE, bytes);
     }
 
     /// Makes an open page blank. Its bytes are forgotten, which costs nothing.

@@ -1,5 +1,5 @@
 -- The greatest length that has a place, pages that hold nothing, and what stands for a thing that is wanted.
-use Rattle.std.proofs.Common.{◌≡◌, ℕ, suc, ◌+◌, ◌-◌, ◌*◌, ◌/◌, ◌%◌, ◌^◌, ◌<◌, ◌≤◌, inl, inr, Bool, true, false, cond, Option, Some, None, not, is_some, refl, sym, ap, ◌∙◌, subst, arith}
+use Rattle.std.proofs.Common.{◌≡◌, ℕ, ◌+◌, ◌-◌, ◌*◌, ◌/◌, ◌%◌, ◌^◌, ◌<◌, ◌≤◌, inl, inr, Option, Some, None, not, is_some, refl, sym, ap, ◌∙◌, subst, arith}
 use Rattle.std.specs.Prelude.{IfSome, MatchOption}
 use Rattle.std.proofs.lemmas.Bool.{cases_lt}
 use Rattle.std.specs.FinMap.{FinMap}
@@ -59,20 +59,6 @@ module _ (r : Regions) (held : ℕ → Option ℕ) (s : ℕ) (want : WantValue) 
   pub longest_correct : (eight : WantValue) (v : Option PlaceValue) → eight ≡ record want { least = 8 } → MatchOption v (NoPlace r held s eight) (Chosen r held s eight) → MatchOption v (IsLongest r held s want 0) (λ p. IsLongest r held s want p.len)
   longest_correct eight None e h = none_is (subst (NoPlace r held s) e h)
   longest_correct eight (Some p) e h = longest_is p (subst (λ w. Chosen r held s w p) e h)
-
--- no page
-pub no_pages : (test : ℕ → Bool) → 0 ≡ count_below 0 test
-unfolding count_below
-no_pages test = refl
-
--- one page more
-pub one_more : (n free : ℕ) (test : ℕ → Bool) → free ≡ count_below n test → test n ≡ true → free + 1 ≡ count_below (n + 1) test
-unfolding count_below
-one_more n free test e t = (let f : free + 1 ≡ 1 + count_below n test = omega arith in f) ∙ ap (λ b. cond b 1 0 + count_below n test) (sym t) ∙ ap (λ k. count_below k test) (let g : suc n ≡ n + 1 = omega arith in g)
-
-pub none_more : (n free : ℕ) (test : ℕ → Bool) → free ≡ count_below n test → test n ≡ false → free ≡ count_below (n + 1) test
-unfolding count_below
-none_more n free test e t = (let f : free ≡ 0 + count_below n test = omega arith in f) ∙ ap (λ b. cond b 1 0 + count_below n test) (sym t) ∙ ap (λ k. count_below k test) (let g : suc n ≡ n + 1 = omega arith in g)
 
 module _ (roots : FinMap name_cmp Root) (st : Storage) (o : Owners) (agree : Agree roots st) (s : ℕ) (want : WantValue) where
   holder_is : holder st ≡ state_holder (machine_state roots st o)

@@ -9,13 +9,14 @@ use Rattle.mvs_model.specs.Consistent.{OwnersConsistent}
 use Rattle.mvs_model.specs.Name.{name_cmp}
 use Rattle.mvs_model.specs.Owners.{Owners, entry, is_active, subpool_meant}
 use Rattle.mvs_model.specs.Reports.{label_of, number_of, page_subpool}
-use Rattle.mvs_model.specs.Storage.{Storage, held_bytes}
+use Rattle.mvs_model.specs.Storage.{Storage, held_bytes, holder}
 use Rattle.mvs_model.specs.Subpool.{is_subpool_number}
 use Rattle.mvs_model.proofs.SeenReports.{number_kept}
 use Rattle.cell_pool.specs.Agree.{Agree}
 use Rattle.cell_pool.specs.Roots.{Root}
 use Rattle.cell_pool.proofs.Tallied.{splits_bytes}
-use Rattle.request_forms.specs.Facts.{bytes_of, has_subpool, owned_at, pages_in, pages_of}
+use Rattle.subpool_store.specs.SubpoolCounts.{assigned_pages}
+use Rattle.request_forms.specs.Facts.{bytes_of, has_subpool, owned_at, pages_of}
 use Rattle.request_forms.specs.Machine.{machine_state}
 use Rattle.request_forms.specs.Reports.{page_holder}
 use Rattle.request_forms.specs.SubpoolLabels.{entry_owner, resolved_owner}
@@ -27,6 +28,15 @@ same_below : (n : ℕ) (test other : ℕ → Bool) → ((k : ℕ) → k < n → 
 unfolding any_below
 same_below zero test other same = refl
 same_below (suc n) test other same = ap (λ b. b || any_below test n) (same n (omega arith)) ∙ ap (λ b. other n || b) (same_below n test other (λ k low. same k (omega arith)))
+
+-- one entry more
+pub one_entry_more : (n : ℕ) (test : ℕ → Bool) (b v : Bool) → b ≡ any_below test n → v ≡ (test n || b) → v ≡ any_below test (n + 1)
+unfolding any_below
+one_entry_more n test b v before is = is ∙ ap (λ x. test n || x) before ∙ ap (any_below test) (let e : suc n ≡ n + 1 = omega arith in e)
+
+pub no_entry_yet : (test : ℕ → Bool) (b : Bool) → b ≡ false → b ≡ any_below test 0
+unfolding any_below
+no_entry_yet test b is = is
 
 -- the number and the owner of a subpool
 label_is : (o : Owners) (s number : ℕ) (owner : Name) → OwnersConsistent o → get o.owner s ≡ Some owner → entry o owner number ≡ Some s → label_of o (Some s) ≡ Some (number, owner)
@@ -69,15 +79,11 @@ module _ (roots : FinMap name_cmp Root) (st : Storage) (o : Owners) (agree : Agr
   none_owned t none = sym (ap (λ v. option_map (row t) (option_and_then (λ t. option_map (λ n. (n, t)) (number_of o t s)) v)) none)
 
   module _ (number : ℕ) (owner : Name) (kept : OwnersConsistent o) (owned : get o.owner s ≡ Some owner) (entered : entry o owner number ≡ Some s) where
-    pub some_owned : (t : Name) (had : Bool) (bytes below above b a : ℕ) → had ≡ has_subpool o t s → bytes ≡ held_bytes st s → b ≡ st.regions.below → a ≡ st.regions.above
-        → below ≡ count_below b (λ p. has (λ r. r == s) (page_holder st (6 + p))) → above ≡ count_below a (λ p. has (λ r. r == s) (page_holder st (4096 + p)))
-        → Some (record { number = number; owner = owner; bytes = bytes; pages = below + above; had = had }) ≡ owned_at (machine_state roots st o) t s
-    some_owned t had bytes below above b a has_is held eb ea fb fa = (λ i. Some (record { number = number; owner = owner; bytes = bytes_is i; pages = below_is i + above_is i; had = has_is i })) ∙ sym (ap (option_map (row t)) (label_is o s number owner kept owned entered)) where
+    pub some_owned : (t : Name) (had : Bool) (bytes pages : ℕ) → had ≡ has_subpool o t s → bytes ≡ held_bytes st s → pages ≡ assigned_pages st.regions (holder st) s
+        → Some (record { number = number; owner = owner; bytes = bytes; pages = pages; had = had }) ≡ owned_at (machine_state roots st o) t s
+    some_owned t had bytes pages has_is held assigned = (λ i. Some (record { number = number; owner = owner; bytes = bytes_is i; pages = pages_are i; had = has_is i })) ∙ sym (ap (option_map (row t)) (label_is o s number owner kept owned entered)) where
       bytes_is : bytes ≡ bytes_of (machine_state roots st o) s
       bytes_is = held ∙ sym (splits_bytes roots st s o agree)
 
-      below_is : below ≡ pages_in (machine_state roots st o) s 6 st.regions.below
-      below_is = fb ∙ (λ i. count_below (eb i) (λ p. has (λ r. r == s) (seen i (6 + p))))
-
-      above_is : above ≡ pages_in (machine_state roots st o) s 4096 st.regions.above
-      above_is = fa ∙ (λ i. count_below (ea i) (λ p. has (λ r. r == s) (seen i (4096 + p))))
+      pages_are : pages ≡ pages_of (machine_state roots st o) s
+      pages_are = assigned ∙ (λ i. count_below st.regions.below (λ p. has (λ r. r == s) (seen i (6 + p))) + count_below st.regions.above (λ p. has (λ r. r == s) (seen i (4096 + p))))

@@ -91,3 +91,8 @@ module _ (roots : FinMap name_cmp Root) (st : Storage) (o : Owners) (is : IsStep
         subst (λ b. NoneBegins (page_holder st) 6 from (6 + b)) below_is (none_from (page_holder st) 6 at from (6 + below) first_page lower),
         subst (λ b. NoneBegins (page_holder st) 4096 from (4096 + b)) above_is (none_from (page_holder st) 4096 at from (4096 + above) first_page upper),
       )
+
+-- the label of the subpool of a page
+pub page_label : (roots : FinMap name_cmp Root) (st : Storage) (o : Owners) (page : ℕ) (owner : Option ℕ) (label : Option (ℕ × Name)) → IsStorage st → owner ≡ page_holder st page → IsHolder o owner label → IsHolder o (page_subpool (machine_state roots st o) page) label
+page_label roots st o page owner label is owner_is h =
+    subst (λ (of_page : ℕ → Option ℕ). IsHolder o (of_page page) label) (pages_seen roots st o is) (subst (λ v. IsHolder o v label) owner_is h)

@@ -30,7 +30,7 @@ later_of (a ∷ more) = more
 abbrev pub TakesFirst : Storage → ℕ → WantValue → Option ℕ → PlaceValue → Type 0
 TakesFirst st s want hints p = (q : PlaceValue) → hints ≡ Some q.addr → Chosen st.regions (holder st) s want q → p ≡ q
 
--- Grants to a subpool one after another, one place for each request, each of which uses its hint.
+-- Grants to a subpool one after another, one place for each request, by its own hint.
 abbrev pub GrantsEach : Storage → ℕ → List WantValue → List ℕ → List PlaceValue → Storage → Type 0
 GrantsEach old s [] hints [] new = new ≡ old
 GrantsEach old s [] hints (p ∷ ps) new = ⊥
@@ -38,7 +38,7 @@ GrantsEach old s (want ∷ wants) hints [] new = ⊥
 GrantsEach old s (want ∷ wants) hints (p ∷ ps) new =
     (mid : Storage) × IsStorage mid × Grant old s want p mid × TakesFirst old s want (first_of hints) p × GrantsEach mid s wants (later_of hints) ps new
 
--- There is no place for something that is wanted, and this is what it lacks.
+-- There is no place for a requested area, and this is what it lacks.
 abbrev pub LacksIn : Storage → ℕ → WantValue → Shortfall → Type 0
 LacksIn st s want short = LacksPlace st s want short.room × (short.bytes ≡ want.least)
 

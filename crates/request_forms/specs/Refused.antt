@@ -1,4 +1,4 @@
--- What is so of a request that is refused, for each refusal of which a reason says more.
+-- What holds of a refused request, for each refusal whose reason says more.
 use Rattle.std.specs.Prelude.{◌≡◌, ℕ, true, false, List, map, Option, Some, None}
 use Rattle.std.specs.List.{AllByRecursion, list_all}
 use Rattle.std.specs.FinMap.{get}
@@ -7,7 +7,7 @@ use Rattle.mvs_model.specs.declared.name.Name.{Name}
 use Rattle.mvs_model.specs.declared.request.Request.{Request}
 use Rattle.mvs_model.specs.declared.request.Request.TheVariants.{Obtain, Build, Get, Free, Attach}
 use Rattle.mvs_model.specs.declared.refusal.Refusal.{Refusal}
-use Rattle.mvs_model.specs.declared.refusal.Refusal.TheVariants.{NotActive, Shortage, Member, NoPart, OffDoubleword, NoSubpool, NotHeld, Overlap, NoTakenCell, NotOwned, ActiveSubtask, Asked, NoAccess}
+use Rattle.mvs_model.specs.declared.refusal.Refusal.TheVariants.{NotActive, InvalidNumber, WholeOfZero, PoolInUse, TooManyPools, NoPool, NoFreeCell, TaskInUse, TooManyTasks, Shortage, Member, NoPart, OffDoubleword, NoSubpool, NotHeld, Overlap, NoTakenCell, NotOwned, ActiveSubtask, Asked, NoAccess}
 use Rattle.mvs_model.specs.Place.{PlaceValue}
 use Rattle.mvs_model.specs.Want.{WantValue, want_of, side_of}
 use Rattle.mvs_model.specs.Storage.{NoPlace}
@@ -19,7 +19,7 @@ use Rattle.mvs_model.specs.Requests.{all_granted, is_invalid, on_doubleword, res
 use Rattle.mvs_model.specs.Determined.{is_list}
 use Rattle.mvs_model.specs.Reasons.{accessed, requested_code, number_of, released}
 
--- The number may be named, and there is no place for what is wanted under it.
+-- The number is valid, and there is no place for the requested area.
 abbrev pub ShortUnder : State → Name → ℕ → WantValue → Type 0
 ShortUnder st t number want = (is_invalid number ≡ false) × ShortOf st (effective_task st.owners t number) number want
 
@@ -75,4 +75,11 @@ Concerns st t request NotOwned = (is_active st.owners t ≡ true) × GivesShared
 Concerns st t request ActiveSubtask = (is_active st.owners t ≡ true) × (has_subtask st.owners t ≡ true)
 Concerns st t request (Asked code) = code ≡ requested_code request
 Concerns st t request NoAccess = list_all (all_granted st) (accessed request) ≡ false
-Concerns st t request _ = Unit {0}
+Concerns st t request InvalidNumber = Unit {0}
+Concerns st t request WholeOfZero = Unit {0}
+Concerns st t request PoolInUse = Unit {0}
+Concerns st t request TooManyPools = Unit {0}
+Concerns st t request NoPool = Unit {0}
+Concerns st t request NoFreeCell = Unit {0}
+Concerns st t request TaskInUse = Unit {0}
+Concerns st t request TooManyTasks = Unit {0}

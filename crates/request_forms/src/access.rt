@@ -40,9 +40,7 @@ fn readable_end(store: &Store, pools: &Pools, addr: Addr) -> Option<u32>
     if let Some(cell) = pools.cell_at(store, addr) {
         return Some(cell.addr().get() + cell.len());
     }
-    let Some(subpool) = store.held(addr) else {
-        return None;
-    };
+    let subpool = store.held(addr)?;
     let first = addr.get() / 8 * 8;
     if !is_outside_pools(store, pools, subpool, Place::new(Addr::new(first), 8)) {
         return None;

@@ -59,8 +59,7 @@ impl Machine {
         }
     }
 
-    // Makes a pool in the subpool that the task means by a number, which is made where there was none, and only where the
-    // pool is made.
+    // Makes a pool in the subpool for a task's number. If there is no such subpool, it is made, but only if the pool is made.
     fn build_pool(
         &mut self,
         t: TaskId,

@@ -1,19 +1,17 @@
 //! What is freed with a task that ends, computed before it does: the subpools that tasks own.
 
-ghost use Rattle.std.specs.Prelude.{◌≡◌, ◌+◌, ◌≤◌, ◌==◌, None, length, slice_index_or};
-ghost use Rattle.mvs_model.specs.Finite.{any_below, count_below, has};
-ghost use Rattle.mvs_model.specs.Numbers.{first_page_above, most_pages_above, most_subpools};
-ghost use Rattle.mvs_model.specs.Storage.{IsStorage};
+ghost use Rattle.std.specs.Prelude.{◌≡◌, ◌≤◌, ◌==◌, ◌||◌, ℕ, None, length, slice_index_or};
+ghost use Rattle.mvs_model.specs.declared.name.Name.{Name as TheName};
+ghost use Rattle.mvs_model.specs.Finite.{any_below, has};
+ghost use Rattle.mvs_model.specs.Numbers.{most_subpools};
 ghost use Rattle.mvs_model.specs.NextOwned.{IsNextOwned};
+ghost use Rattle.mvs_model.specs.Storage.{is_one_of};
 ghost use Rattle.request_forms.specs.Facts.{has_subpool, owned_at};
-ghost use Rattle.request_forms.specs.Reports.{page_holder};
 
 use crate::machine::Machine;
-use crate::report::page_owner;
 use mvs_model::name::Name;
-use mvs_model::numbers::{FIRST_PAGE_ABOVE, FIRST_PAGE_BELOW};
 use mvs_model::subpool::{SubNo, SubpoolId};
-use subpool_store::Store;
+use mvs_model::subpool_set::SubpoolSet;
 
 /// A subpool that a task owns.
 #[derive(Clone, Copy, Debug, PartialEq, Eq)]
@@ -29,57 +27,28 @@ pub struct OwnedSubpool {
     pub had: bool,
 }
 
-// Returns whether a page is assigned to a subpool.
-fn has_page(store: &Store, subpool: SubpoolId, page: u32) -> bool
-    requires storage { IsStorage store.now.storage }
-    requires low { page + 1 ≤ first_page_above + most_pages_above }
-    ensures { result ≡ has (λ s. s == subpool) (page_holder store.now.storage page) }
+// Puts the subpool of an entry, if it has one, into a set.
+fn insert_entry(subpools: &mut SubpoolSet, entry: Option<SubpoolId>)
+    ensures { (s : ℕ)
+        → is_one_of subpools.new s ≡ (has (λ r. r == s) entry || is_one_of subpools.old s) }
 {
-    match page_owner(store, page) {
-        Some(owner) => owner == subpool,
-        None => false,
+    if let Some(subpool) = entry {
+        subpools.insert(subpool);
     }
 }
 
-// Returns the number of pages that are assigned to a subpool, among n pages from one on.
-fn count_pages(store: &Store, subpool: SubpoolId, first: u32, count: u32) -> u32
-    requires storage { IsStorage store.now.storage }
-    requires low { first + count ≤ first_page_above + most_pages_above }
-    ensures counted { result
-        ≡ count_below count (λ p. has (λ s. s == subpool) (page_holder store.now.storage (first + p))) }
-    ensures few { result ≤ count }
-{
-    let mut pages = 0;
-    for page in 0..count {
-        if has_page(store, subpool, first + page) {
-            pages += 1;
-        }
-    }
-    pages
-}
-
-// Returns whether the entry of a number is a subpool.
-fn is_subpool(entry: Option<SubpoolId>, subpool: SubpoolId) -> bool
-    ensures { result ≡ has (λ r. r == subpool) entry }
-{
-    match entry {
-        Some(other) => other == subpool,
-        None => false,
-    }
-}
-
-// Returns whether one of some numbers has a subpool.
-fn has_entry(entries: &[Option<SubpoolId>], subpool: SubpoolId) -> bool
-    ensures { result
-        ≡ any_below (λ n. has (λ r. r == subpool) (slice_index_or entries.now n None))
+// Returns the subpools of some entries.
+fn subpools_among(entries: &[Option<SubpoolId>]) -> SubpoolSet
+    ensures { (s : ℕ)
+        → is_one_of result s
+        ≡ any_below (λ n. has (λ r. r == s) (slice_index_or entries.now n None))
         (length entries.now) }
 {
-    for n in 0..entries.len() {
-        if is_subpool(entries[n], subpool) {
-            return true;
-        }
+    let mut subpools = SubpoolSet::empty();
+    for entry in entries {
+        insert_entry(&mut subpools, *entry);
     }
-    false
+    subpools
 }
 
 impl Machine {
@@ -91,39 +60,37 @@ impl Machine {
         self.tasks.next_owned(from)
     }
 
-    // Returns whether an active task has a subpool under some number.
-    fn has_subpool(&self, task: &Name, subpool: SubpoolId) -> bool
-        ensures { result ≡ has_subpool self.now.state.owners task.now subpool }
+    /// Returns the subpools that a task has under some number. A task that is not active has none.
+    pub fn subpools_of(&self, task: &Name) -> SubpoolSet
+        ensures { (s : ℕ)
+            → is_one_of result s ≡ has_subpool self.now.state.owners task.now s }
     {
         match self.tasks.find(task) {
-            Some(t) => has_entry(self.tasks.entries(t), subpool),
-            None => false,
+            Some(t) => subpools_among(self.tasks.entries(t)),
+            None => SubpoolSet::empty(),
         }
+    }
+
+    /// Returns a subpool if a task owns it, with whether it is among the subpools that another task has.
+    pub fn owned_among(&self, subpool: SubpoolId, had: &SubpoolSet) -> Option<OwnedSubpool>
+        ensures { (t : TheName)
+            → ((s : ℕ) → is_one_of had.now s ≡ has_subpool self.now.state.owners t s)
+            → result ≡ owned_at self.now.state t subpool }
+    {
+        let (number, owner) = self.tasks.label(subpool)?;
+        Some(OwnedSubpool {
+            number,
+            owner,
+            bytes: self.store.held_bytes(subpool),
+            pages: self.store.assigned_pages(subpool),
+            had: had.contains(subpool),
+        })
     }
 
     /// Returns a subpool if a task owns it, with whether another task has it.
     pub fn owned(&self, subpool: SubpoolId, task: &Name) -> Option<OwnedSubpool>
         ensures { result ≡ owned_at self.now.state task.now subpool }
     {
-        let (number, owner) = self.tasks.label(subpool)?;
-        let below = count_pages(
-            &self.store,
-            subpool,
-            FIRST_PAGE_BELOW,
-            self.store.pages_below(),
-        );
-        let above = count_pages(
-            &self.store,
-            subpool,
-            FIRST_PAGE_ABOVE,
-            self.store.pages_above(),
-        );
-        Some(OwnedSubpool {
-            number,
-            owner,
-            bytes: self.store.held_bytes(subpool),
-            pages: below + above,
-            had: self.has_subpool(task, subpool),
-        })
+        self.owned_among(subpool, &self.subpools_of(task))
     }
 }

@@ -62,4 +62,15 @@ impl Machine {
     {
         self.tasks.find(name)
     }
+
+    /// Returns a copy, in which each `TaskId` refers to the same task. It fails if memory is exhausted.
+    pub fn try_clone(&self) -> Result<Machine, OutOfMemory>
+        ensures { IfOk result (λ copy. copy ≡ self.now) }
+    {
+        Ok(Machine {
+            store: self.store.try_clone()?,
+            tasks: self.tasks.try_clone()?,
+            pools: self.pools.try_clone()?,
+        })
+    }
 }

@@ -20,10 +20,8 @@ impl Machine {
     pub fn mother(&self, name: &Name) -> Option<Option<Name>>
         ensures { result ≡ mother_of self.now.state.owners name.now }
     {
-        match self.tasks.find(name) {
-            Some(t) => Some(self.tasks.mother(t)),
-            None => None,
-        }
+        let t = self.tasks.find(name)?;
+        Some(self.tasks.mother(t))
     }
 
     /// Returns the name of the first pool in byte order after the given one, or of the first of all where none is given.

@@ -32,8 +32,8 @@ pub(crate) fn subpool_number(number: u8) -> Result<SubNo, Refusal>
 }
 
 impl Machine {
-    // Obtains an area of the subpool that the task means by a number, which is made where there was none, and only where the
-    // area is granted.
+    // Obtains an area in the subpool for a task's number. If there is no such subpool, it is made, but only if the area is
+    // granted.
     fn obtain_area(
         &mut self,
         t: TaskId,

@@ -152,8 +152,8 @@ fn grant_each(
 }
 
 impl Machine {
-    // Obtains areas of the subpool that the task means by a number, which is made where there was none, and only where all
-    // areas are granted. The error has the member that has no place.
+    // Obtains areas in the subpool for a task's number. If there is no such subpool, it is made, but only if all areas are
+    // granted. The error has the member that has no place.
     fn obtain_areas(
         &mut self,
         t: TaskId,

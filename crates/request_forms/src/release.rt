@@ -176,9 +176,7 @@ impl Machine {
         requires { IsWhole place }
         ensures { TriesPlaces self.old.state subpool (place ∷ []) result self.new.state }
     {
-        let Some(subpool) = subpool else {
-            return Err(Refusal::NoSubpool);
-        };
+        let subpool = subpool.ok_or(Refusal::NoSubpool)?;
         if !is_outside_pools(&self.store, &self.pools, subpool, place) {
             return Err(Refusal::NotHeld);
         }
@@ -193,9 +191,7 @@ impl Machine {
         requires { list_all step.on_doubleword places.now ≡ true }
         ensures { TriesPlaces self.old.state subpool (map step.whole places.now) result self.new.state }
     {
-        let Some(subpool) = subpool else {
-            return Err(Refusal::NoSubpool);
-        };
+        let subpool = subpool.ok_or(Refusal::NoSubpool)?;
         if !holds_each(&self.store, &self.pools, subpool, places) {
             return Err(Refusal::NotHeld);
         }

@@ -1,9 +1,10 @@
 //! The reports on subpools and pages, which are this project's own.
 
-ghost use Rattle.std.specs.Prelude.{◌≡◌, ◌<◌, ◌≤◌, ◌+◌, ◌*◌, Some, None, not, MatchBool, MatchOption};
+ghost use Rattle.std.specs.Prelude.{◌≡◌, ◌<◌, ◌≤◌, ◌+◌, ◌*◌, ◌/◌, Some, None, not, MatchBool, MatchOption};
 ghost use Rattle.mvs_model.specs.Numbers.{first_page_above, most_pages_above, page_bytes, subpool_numbers};
 ghost use Rattle.mvs_model.specs.Consistent.{OwnersConsistent};
 ghost use Rattle.mvs_model.specs.Owners.{entry};
+ghost use Rattle.mvs_model.specs.Reports.{page_subpool};
 ghost use Rattle.mvs_model.specs.Storage.{IsStorage};
 ghost use Rattle.task_owner.specs.Tasks.{IsTask, name_of};
 ghost use Rattle.request_forms.specs.Reports.{Begins, EndsAt, ContinuesRun, HasNone, IsHolder, IsMapEnd, IsMapRun, IsPages, IsSubpoolLine, NoneBegins, page_holder};
@@ -38,7 +39,7 @@ fn first_entry(tasks: &Tasks, t: TaskId, from: u8) -> Option<(SubNo, SubpoolId)>
 }
 
 // Returns the subpool that a page is assigned to.
-pub(crate) fn page_owner(store: &Store, page: u32) -> Option<SubpoolId>
+fn page_owner(store: &Store, page: u32) -> Option<SubpoolId>
     requires storage { IsStorage store.now.storage }
     requires low { page < first_page_above + most_pages_above }
     ensures { result ≡ page_holder store.now.storage page }
@@ -113,9 +114,7 @@ fn first_run(store: &Store, first: u32, end: u32, from: u32) -> Option<Pages>
         (λ r. IsPages (page_holder store.now.storage) first end r.page r.count × (from ≤ r.page)
         × NoneBegins (page_holder store.now.storage) first (page_bytes * from) r.page) }
 {
-    let Some(page) = first_start(store, first, from.max(first).min(end), end) else {
-        return None;
-    };
+    let page = first_start(store, first, from.max(first).min(end), end)?;
     Some(Pages {
         page,
         count: run_end(store, page, end) - page,
@@ -166,6 +165,15 @@ impl Machine {
         })
     }
 
+    /// Returns the subpool that the page of an address is assigned to, by its number and its owner. None if the page is free or the
+    /// address is in no region.
+    pub fn page_subpool(&self, addr: Addr) -> Option<(SubNo, Name)>
+        ensures { IsHolder self.now.state.owners
+            (page_subpool self.now.state (addr / page_bytes)) result }
+    {
+        holder(&self.tasks, self.store.page_owner(addr))
+    }
+
     /// Returns the first run of REPORT MAP that begins at or after an address. None where there is none.
     pub fn map_run(&self, from: Addr) -> Option<MapRun>
         ensures { MatchOption result (IsMapEnd self.now.state from) (IsMapRun self.now.state from) }
@@ -179,14 +187,12 @@ impl Machine {
         ) {
             return Some(map_line(&self.store, &self.tasks, pages));
         }
-        let Some(pages) = first_run(
+        let pages = first_run(
             &self.store,
             FIRST_PAGE_ABOVE,
             FIRST_PAGE_ABOVE + self.store.pages_above(),
             page,
-        ) else {
-            return None;
-        };
+        )?;
         Some(map_line(&self.store, &self.tasks, pages))
     }
 }

@@ -17,7 +17,7 @@ abbrev pub ReadsLine : Option (List ℕ) → Option (List ℕ) → Bool → List
 ReadsLine unread left false line = Consumes unread left (line ++ 10 ∷ [])
 ReadsLine unread left true line = Consumes unread left line
 
--- A line was read, of which these are the first 256 bytes.
+-- A line was read, and these are its first 256 bytes.
 abbrev pub Reads : Option (List ℕ) → Option (List ℕ) → Bool → List ℕ → Type 0
 Reads unread left ended first = (line : List ℕ) × IsUnended line × (first ≡ take 256 line) × ReadsLine unread left ended line
 

@@ -103,7 +103,7 @@ impl<R: Read> LineInput<R> {
         })
     }
 
-    /// Reads a line, of which the first 256 bytes are written over `line`. Returns false if there is none. Fails if a read failed, or
+    /// Reads a line, and writes its first 256 bytes over `line`. Returns false if there is none. Fails if a read failed, or
     /// if there are too many bytes.
     pub fn read_line(&mut self, line: &mut LineBuffer) -> Result<bool, Failed>
         ensures some { IfOk result (λ more. more ≡ true → (self.old.ended ≡ false)

@@ -23,6 +23,7 @@ pub mod Methods
 pub mod Both
 pub mod Choice
 pub mod Opened
+pub mod PagesCopied
 pub mod Parts
 pub mod LentRegion
 pub mod Value
@@ -31,3 +32,6 @@ pub mod PagesDropped
 pub mod FewRuns
 pub mod HintedPlace
 pub mod FreePages
+pub mod FreeBoth
+pub mod Recounting
+pub mod CountedStore

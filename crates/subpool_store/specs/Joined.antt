@@ -26,9 +26,13 @@ joined bound split m n = table bound (joined_at split m n)
 abbrev pub regions_of : RegionState → RegionState → ℕ → Regions
 regions_of b a fill = record { below = b.pages; above = a.pages; fill = fill }
 
+-- who holds each doubleword of the two regions
+abbrev pub all_held : RegionState → RegionState → FinMap nat_cmp ℕ
+all_held b a = joined all_doublewords first_doubleword_above b.held a.held
+
 -- the storage of the two regions
 abbrev pub store_of : RegionState → RegionState → ℕ → Storage
-store_of b a fill = record { regions = regions_of b a fill; held = joined all_doublewords first_doubleword_above b.held a.held; bytes = joined all_addresses above_begins b.bytes a.bytes }
+store_of b a fill = record { regions = regions_of b a fill; held = all_held b a; bytes = joined all_addresses above_begins b.bytes a.bytes }
 
 -- The region below and the region above.
 pub record IsStore (b a : RegionState) : Type 0 where

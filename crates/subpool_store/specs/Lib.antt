@@ -13,3 +13,4 @@ pub mod PageWalk
 pub mod WrittenBytes
 pub mod BorrowsRegion
 pub mod BorrowsBytes
+pub mod SubpoolCounts

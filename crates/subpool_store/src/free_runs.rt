@@ -1,7 +1,6 @@
 //! What is held, read off the free runs of the pages.
 
 ghost use Rattle.std.specs.Prelude.{◌≡◌, ◌<◌, ◌≤◌, ◌+◌, ◌*◌, ◌/◌, ◌↔◌, ℕ, IsTrue, false, true, slice_index_or};
-ghost use Rattle.mvs_model.specs.Finite.{count_below};
 ghost use Rattle.mvs_model.specs.Numbers.{most_pages_above, page_doublewords};
 ghost use Rattle.region_raw.specs.Pages.{is_open};
 ghost use Rattle.subpool_store.specs.Sizes.{most_doublewords};
@@ -73,23 +72,4 @@ pub fn are_held(memory: &Memory, run: Run) -> bool
         at = stop;
     }
     true
-}
-
-// Returns the number of held doublewords of an open page: those before each free run, and those after the last.
-pub fn count(memory: &Memory, page: usize) -> u32
-    requires few { page < most_pages_above }
-    requires there { is_open memory.now.bytes page ≡ true }
-    ensures { result
-        ≡ count_below page_doublewords
-        (λ i. slice_index_or memory.now.held (page_doublewords * page + i) false) }
-{
-    let mut count = 0;
-    let mut at = PAGE_DOUBLEWORDS * page;
-    let mut queue = memory.first(page);
-    'runs: while let Some((run, rest)) = memory.next_free(page, at, queue) {
-        count += (run.start - at) as u32;
-        at = run.end;
-        queue = rest;
-    }
-    count + (PAGE_DOUBLEWORDS * page + PAGE_DOUBLEWORDS - at) as u32
 }

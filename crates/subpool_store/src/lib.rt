@@ -1,6 +1,7 @@
 //! Storage of both regions: obtain and release.
 #![tactic(auto)]
 
+mod copying;
 mod counted;
 mod dropping;
 mod free_runs;
@@ -10,6 +11,7 @@ mod region_store;
 mod run;
 mod search;
 mod store;
+mod subpool_counts;
 mod walk;
 
 pub use search::SearchResult;

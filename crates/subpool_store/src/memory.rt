@@ -7,13 +7,16 @@ ghost use Rattle.region_raw.specs.Pages.{IsBlank, Writes, byte_of, is_open, with
 ghost use Rattle.region_raw.specs.Rows.{IsApart};
 ghost use Rattle.subpool_store.specs.Edits.{IsClear, IsMarked, IsFreeRun, HasNoBit, HasBit};
 ghost use Rattle.subpool_store.specs.Memory.{IsCursor, IsFilled, IsHeldPart, KeepsHeld, Stays, Turns};
+ghost use Rattle.subpool_store.specs.Region.{IsOpened};
 ghost use Rattle.subpool_store.specs.Sizes.{most_doublewords};
 ghost use Rattle.subpool_store.specs.PageWalk.{IsFoundRun};
 
+use crate::copying::copy_pages;
 use crate::run::Run;
 use free_queue::queue::{self, Head};
 use mvs_model::error::OutOfMemory;
 use mvs_model::numbers::PAGE_DOUBLEWORDS;
+use page_map::PageMap;
 use region_raw::region::Region;
 use std::alloc::Global;
 use std::marker::Model;
@@ -48,10 +51,8 @@ impl Memory {
         ensures blank { IfOk result (λ m. m.bytes ≡ replicate pages None) }
     {
         let region = Region::new(alloc, pages)?;
-        match vec![in alloc; Head::none(); pages] {
-            Ok(heads) => Ok(Memory { region, heads }),
-            Err(_) => Err(OutOfMemory),
-        }
+        let heads = vec![in alloc; Head::none(); pages].map_err(|_| OutOfMemory)?;
+        Ok(Memory { region, heads })
     }
 
     // Opens a blank page: some doublewords of it are held then, each byte of them the value, and the others are free.
@@ -187,9 +188,7 @@ impl Memory {
             (λ found. IsFreeRun self.now.held from (page_doublewords * page + page_doublewords)
             found.0.start found.0.end × IsCursor self.now page found.0.end found.1) }
     {
-        let Some((at, len)) = queue::next_free(&self.region, page, queue, 0) else {
-            return None;
-        };
+        let (at, len) = queue::next_free(&self.region, page, queue, 0)?;
         let start = PAGE_DOUBLEWORDS * page + (at / 8) as usize;
         let run = Run {
             start,
@@ -208,9 +207,7 @@ impl Memory {
             → slice_index_or self.now.held i false ≡ true)
             (λ found. IsFoundRun self.now page from found.0 found.1 found.2) }
     {
-        let Some((at, len)) = queue::next_free(&self.region, page, queue, 0) else {
-            return None;
-        };
+        let (at, len) = queue::next_free(&self.region, page, queue, 0)?;
         Some((at, at + len, queue::next_head(&self.region, page, queue)))
     }
 
@@ -262,5 +259,15 @@ impl Memory {
             → byte_of self.old.bytes (to + k) ≡ Some (slice_index result.1.now k) }
     {
         self.region.two_parts(from, to, n)
+    }
+
+    // Returns a copy of the pages, each of which is open while it is assigned. It fails if memory is exhausted.
+    pub fn try_clone(&self, pages: &PageMap) -> Result<Memory, OutOfMemory>
+        requires { IsOpened pages.now self.now.bytes }
+        ensures { IfOk result (λ copy. copy ≡ self.now) }
+    {
+        let region = copy_pages(*self.heads.allocator(), &self.region, pages)?;
+        let heads = Vec::from_slice(*self.heads.allocator(), &self.heads).map_err(|_| OutOfMemory)?;
+        Ok(Memory { region, heads })
     }
 }

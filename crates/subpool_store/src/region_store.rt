@@ -1,9 +1,8 @@
 //! One region.
 
-ghost use Rattle.std.specs.Prelude.{◌≡◌, ◌<◌, ◌≤◌, ◌+◌, ◌-◌, ◌*◌, ◌/◌, ◌%◌, ◌^◌, ◌↔◌, ◌⊎◌, Some, None, MatchBool, MatchOption, ℕ, length, Bool, true, false, ◌==◌, IfOk, IsSome, IsTrue, slice_index, slice_index_or, slice_set};
+ghost use Rattle.std.specs.Prelude.{◌≡◌, ◌<◌, ◌≤◌, ◌+◌, ◌-◌, ◌*◌, ◌/◌, ◌%◌, ◌^◌, ◌↔◌, ◌⊎◌, Some, None, ℕ, length, true, false, IfOk, IsSome, IsTrue, slice_index, slice_index_or, slice_set};
 ghost use Rattle.std.specs.Borrow.{sem};
 ghost use Rattle.std.specs.FinMap.{get, empty};
-ghost use Rattle.mvs_model.specs.Finite.{count_below, has};
 ghost use Rattle.mvs_model.specs.Numbers.{first_doubleword_above, most_pages_above, page_bytes, page_doublewords};
 ghost use Rattle.mvs_model.specs.Storage.{IsWhole, is_one_of};
 ghost use Rattle.mvs_model.specs.Want.{IsWant};
@@ -26,10 +25,9 @@ ghost use Rattle.subpool_store.specs.Region.{
 ghost use Rattle.subpool_store.specs.Memory.{IsFilled, Stays};
 ghost use Rattle.subpool_store.specs.Search.{IsCounted};
 ghost use Rattle.subpool_store.specs.BorrowsRegion.{BorrowsRegion};
-ghost use Rattle.subpool_store.specs.Sizes.{most_doublewords};
 
 use crate::dropping::drop_pages;
-use crate::free_runs::{self, are_held, are_held_in};
+use crate::free_runs::{are_held, are_held_in};
 use crate::hinted::may_take_run;
 use crate::memory::Memory;
 use crate::run::Run;
@@ -215,47 +213,6 @@ fn holds_run(memory: &Memory, pages: &PageMap, subpool: SubpoolId, run: Run) -> 
     are_held(memory, run)
 }
 
-// Returns whether the page is the subpool's.
-fn is_own(pages: &PageMap, subpool: SubpoolId, page: usize) -> bool
-    requires { page < length pages.now }
-    ensures { MatchBool result (owner_of pages.now page ≡ Some subpool)
-        (owner_of pages.now page ≡ Some subpool → ⊥) }
-{
-    pages.owner(page) == Some(subpool)
-}
-
-// Returns how many doublewords of a page the subpool holds.
-fn count_page(memory: &Memory, pages: &PageMap, subpool: SubpoolId, page: usize) -> u32
-    requires few { length pages.now ≤ most_pages_above }
-    requires within { page < length pages.now }
-    requires opened { IsOpened pages.now memory.now.bytes }
-    ensures { result
-        ≡ count_below page_doublewords
-        (λ i. has (λ t. t == subpool)
-        (cell memory.now.held pages.now (page_doublewords * page + i))) }
-{
-    if is_own(pages, subpool, page) {
-        free_runs::count(memory, page)
-    } else {
-        0
-    }
-}
-
-// Returns how many doublewords the subpool holds.
-fn count(memory: &Memory, pages: &PageMap, subpool: SubpoolId) -> u32
-    requires few { length pages.now ≤ most_pages_above }
-    requires opened { IsOpened pages.now memory.now.bytes }
-    ensures { result
-        ≡ count_below (page_doublewords * length pages.now)
-        (λ i. has (λ t. t == subpool) (cell memory.now.held pages.now i)) }
-{
-    let mut count = 0;
-    for page in 0..pages.pages() {
-        count += count_page(memory, pages, subpool, page);
-    }
-    count
-}
-
 // Returns who holds a doubleword.
 fn cell(memory: &Memory, pages: &PageMap, index: usize) -> Option<SubpoolId>
     requires within { index < page_doublewords * length pages.now }
@@ -407,16 +364,6 @@ impl RegionStore {
         cell(&self.memory, &self.pages, (at - self.first) as usize)
     }
 
-    // Returns how many doublewords the subpool holds.
-    pub fn count(&self, subpool: SubpoolId) -> u32
-        ensures count { result
-            ≡ count_below (page_doublewords * self.now.pages)
-            (λ i. has (λ t. t == subpool) (get self.now.held (self.now.first + i))) }
-        ensures most { result ≤ most_doublewords }
-    {
-        count(&self.memory, &self.pages, subpool)
-    }
-
     // Returns how many pages the region has.
     pub fn page_count(&self) -> u32
         ensures { result ≡ self.now.pages }
@@ -486,5 +433,16 @@ impl RegionStore {
         let source = (from.addr().get() - 8 * self.first) as usize;
         let target = (to.addr().get() - 8 * self.first) as usize;
         self.memory.two_parts(source, target, len)
+    }
+
+    // Returns a copy. It fails if memory is exhausted.
+    pub fn try_clone(&self) -> Result<RegionStore, OutOfMemory>
+        ensures { IfOk result (λ copy. copy ≡ self.now) }
+    {
+        Ok(RegionStore {
+            first: self.first,
+            pages: self.pages.try_clone()?,
+            memory: self.memory.try_clone(&self.pages)?,
+        })
     }
 }

@@ -28,12 +28,21 @@ ghost use Rattle.mvs_model.specs.Place.{PlaceValue};
 ghost use Rattle.mvs_model.specs.Want.{IsWant};
 ghost use Rattle.subpool_store.specs.Bound.{IsBound, page_entries};
 ghost use Rattle.subpool_store.specs.FreePages.{free_pages};
-ghost use Rattle.subpool_store.specs.Joined.{BestAbove, CountedAbove, Taken};
+ghost use Rattle.subpool_store.specs.Joined.{
+  BestAbove,
+  CountedAbove,
+  IsStore,
+  Taken,
+  regions_of,
+  store_of,
+};
+ghost use Rattle.subpool_store.specs.SubpoolCounts.{assigned_pages};
 ghost use Rattle.subpool_store.specs.BorrowsBytes.{BorrowsBytes};
 ghost use Rattle.subpool_store.specs.WrittenBytes.{Puts, written};
 
 use crate::region_store::RegionStore;
 use crate::search::{SearchResult, is_longest, longer};
+use crate::subpool_counts::{SubpoolCount, SubpoolCounts};
 use boundary_loc::at_in;
 use mvs_model::error::OutOfMemory;
 use mvs_model::numbers::{
@@ -58,13 +67,16 @@ pub struct NotHeld;
 pub struct Store {
     below: RegionStore,
     above: RegionStore,
+    counts: SubpoolCounts,
     fill: u8,
     placement: Placement,
     steps: u32,
 }
 
 impl Model for Store {
-    ghost use Rattle.subpool_store.specs.Joined.{IsStore};
+    ghost use Rattle.std.specs.FinMap.{get};
+    ghost use Rattle.subpool_store.specs.Joined.{IsStore, all_held, regions_of};
+    ghost use Rattle.subpool_store.specs.SubpoolCounts.{AreCounts};
     ghost use Rattle.subpool_store.specs.Value.{StoreValue, store_code, value_of};
 
     ghost Value = { StoreValue };
@@ -73,7 +85,7 @@ impl Model for Store {
 
     ghost view = { λ s. value_of s.below s.above s.fill s.steps };
 
-    ghost invariant = { λ s. IsStore s.below s.above };
+    ghost invariant = { λ s. IsStore s.below s.above × AreCounts (regions_of s.below s.above s.fill) (get (all_held s.below s.above)) s.counts };
 }
 
 // Returns whether the place is below 16 megabytes.
@@ -122,6 +134,59 @@ fn find_above(
     }
 }
 
+// Returns how many pages of both regions hold nothing.
+fn free_pages(below: &RegionStore, above: &RegionStore) -> u32
+    ensures free { (fill : ℕ) → IsStore below.now above.now
+        → result
+        ≡ free_pages (store_of below.now above.now fill) first_page_below below.now.pages
+        + free_pages (store_of below.now above.now fill) first_page_above above.now.pages }
+    ensures most { result ≤ 2 * most_pages_above }
+{
+    below.free_pages() + above.free_pages()
+}
+
+// Gives an open place in one of the regions to the subpool and fills it.
+fn take_in(
+    below: &mut RegionStore,
+    above: &mut RegionStore,
+    subpool: SubpoolId,
+    place: Place,
+    fill: u8,
+)
+    requires both { IsStore below.old above.old }
+    requires open { Open (regions_of below.old above.old fill)
+        (holder (store_of below.old above.old fill)) subpool place }
+    requires whole { IsWhole place }
+    requires some { 8 ≤ place.len }
+    ensures both { IsStore below.new above.new }
+    ensures taken { Taken (store_of below.old above.old fill) place (Some subpool) (Some fill)
+        (store_of below.new above.new fill) }
+{
+    if is_below(place) {
+        below.take(subpool, place, fill);
+    } else {
+        above.take(subpool, place, fill);
+    }
+}
+
+// Takes back a place in one of the regions that the subpool holds.
+fn give_in(below: &mut RegionStore, above: &mut RegionStore, subpool: SubpoolId, place: Place)
+    requires both { IsStore below.old above.old }
+    requires held { (fill : ℕ) → HeldBy (store_of below.old above.old fill) subpool place }
+    requires whole { IsWhole place }
+    ensures both { IsStore below.new above.new }
+    ensures given { (fill : ℕ)
+        → Taken (store_of below.old above.old fill) place None None
+        (store_of below.new above.new fill) }
+    ensures some { 1 ≤ place.len }
+{
+    if is_below(place) {
+        below.give(subpool, place);
+    } else {
+        above.give(subpool, place);
+    }
+}
+
 impl Store {
     /// Makes storage with a number of pages below and above, with nothing held. `fill` is the byte with which grants fill areas.
     pub fn new(
@@ -148,6 +213,7 @@ impl Store {
         Ok(Store {
             below: RegionStore::new(alloc, FIRST_DOUBLEWORD_BELOW, below as usize)?,
             above: RegionStore::new(alloc, FIRST_DOUBLEWORD_ABOVE, above as usize)?,
+            counts: SubpoolCounts::new(alloc)?,
             fill,
             placement,
             steps: 0,
@@ -284,11 +350,12 @@ impl Store {
         ensures storage { IsStorage self.new.storage }
         ensures steps { self.new.steps ≡ self.old.steps }
     {
-        if is_below(place) {
-            self.below.take(subpool, place, self.fill);
-        } else {
-            self.above.take(subpool, place, self.fill);
-        }
+        let free = free_pages(&self.below, &self.above);
+        take_in(&mut self.below, &mut self.above, subpool, place, self.fill);
+        let count = self.counts.get(subpool);
+        let pages = count.pages + free - free_pages(&self.below, &self.above);
+        let held = count.held + place.len() / 8;
+        self.counts.set(subpool, SubpoolCount { pages, held });
     }
 
     /// Obtains an area: the greatest requested length that fits, above 16 megabytes if that length fits above, else below. Of such
@@ -330,11 +397,12 @@ impl Store {
         ensures storage { IsStorage self.new.storage }
         ensures steps { self.new.steps ≡ self.old.steps }
     {
-        if is_below(place) {
-            self.below.give(subpool, place);
-        } else {
-            self.above.give(subpool, place);
-        }
+        let free = free_pages(&self.below, &self.above);
+        give_in(&mut self.below, &mut self.above, subpool, place);
+        let count = self.counts.get(subpool);
+        let pages = count.pages + free - free_pages(&self.below, &self.above);
+        let held = count.held - place.len() / 8;
+        self.counts.set(subpool, SubpoolCount { pages, held });
     }
 
     /// Releases a place of whole doublewords. It is refused where the subpool does not hold all of it, and then
@@ -374,6 +442,7 @@ impl Store {
     {
         self.below.release_each(subpools);
         self.above.release_each(subpools);
+        self.counts.clear_each(subpools);
     }
 
     /// Returns whether the subpool holds each doubleword that has a byte of the place.
@@ -449,7 +518,15 @@ impl Store {
     pub fn held_bytes(&self, subpool: SubpoolId) -> u32
         ensures { result ≡ held_bytes self.now.storage subpool }
     {
-        8 * (self.below.count(subpool) + self.above.count(subpool))
+        8 * self.counts.get(subpool).held
+    }
+
+    /// Returns how many pages are assigned to the subpool.
+    pub fn assigned_pages(&self, subpool: SubpoolId) -> u32
+        ensures { result
+            ≡ assigned_pages self.now.storage.regions (holder self.now.storage) subpool }
+    {
+        self.counts.get(subpool).pages
     }
 
     /// Returns the subpool that the page of an address is assigned to: the one that holds a doubleword of the page.
@@ -603,5 +680,19 @@ impl Store {
         } else {
             self.two_above(from, to)
         }
+    }
+
+    /// Returns a copy. It fails if memory is exhausted.
+    pub fn try_clone(&self) -> Result<Store, OutOfMemory>
+        ensures { IfOk result (λ copy. copy ≡ self.now) }
+    {
+        Ok(Store {
+            below: self.below.try_clone()?,
+            above: self.above.try_clone()?,
+            counts: self.counts.try_clone()?,
+            fill: self.fill,
+            placement: self.placement,
+            steps: self.steps,
+        })
     }
 }

@@ -28,3 +28,4 @@ pub mod Admitting
 pub mod Admitted
 pub mod Keeping
 pub mod Keepers
+pub mod SlotsCopied

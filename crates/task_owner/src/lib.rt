@@ -1,6 +1,7 @@
 //! Active tasks, the subpools that they have under their numbers, and the owners of the subpools.
 #![tactic(auto)]
 
+mod copying;
 mod family;
 mod freed;
 mod handing;

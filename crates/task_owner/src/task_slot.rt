@@ -164,3 +164,27 @@ pub(crate) fn no_owners(alloc: Global) -> Result<Vec<Option<Owned>>, AllocError>
     let owned = vec![in alloc; None; MOST_SUBPOOLS]?;
     Ok(owned)
 }
+
+// Returns a copy of the subpools under the numbers of a task.
+fn copy_numbers(numbers: &OwnNumbers) -> OwnNumbers
+    ensures { result ≡ numbers.now }
+{
+    let mut copy = [None; SLOTS];
+    copy.copy_from_slice(numbers);
+    copy
+}
+
+impl Clone for TaskSlot {
+    ghost use Rattle.std.specs.Prelude.{◌≡◌};
+
+    ghost is_clone = { λ task copy. copy ≡ task };
+
+    fn clone(&self) -> Result<TaskSlot, AllocError> {
+        Ok(TaskSlot {
+            name: self.name,
+            mother: self.mother,
+            residence: self.residence,
+            numbers: copy_numbers(&self.numbers),
+        })
+    }
+}

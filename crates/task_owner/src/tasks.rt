@@ -18,6 +18,7 @@ ghost use Rattle.mvs_model.specs.NextName.{IsNextName};
 ghost use Rattle.mvs_model.specs.NextOwned.{IsNextOwned};
 ghost use Rattle.task_owner.specs.Tasks.{name_at, IsTask, mother_of, name_of, residence_of};
 
+use crate::copying::copy_active;
 use crate::family::{remove_alone, remove_family};
 use crate::freed::free_subpools;
 use crate::handing::{hand_over, pass_on};
@@ -93,12 +94,8 @@ impl Tasks {
     pub fn new(alloc: Global, name: Name, residence: Residence) -> Result<Tasks, OutOfMemory>
         ensures { IfOk result (λ d. d.owners ≡ first_owners name residence) }
     {
-        let Ok(mut active) = Slab::with_capacity(alloc, MOST_TASKS) else {
-            return Err(OutOfMemory);
-        };
-        let Ok(owned) = no_owners(alloc) else {
-            return Err(OutOfMemory);
-        };
+        let mut active = Slab::with_capacity(alloc, MOST_TASKS).map_err(|_| OutOfMemory)?;
+        let owned = no_owners(alloc).map_err(|_| OutOfMemory)?;
         active.insert_reserved(TaskSlot {
             name,
             mother: None,
@@ -160,10 +157,8 @@ impl Tasks {
         requires { IsTask self.now t }
         ensures { mother_of self.now.owners (name_of self.now t) ≡ Some result }
     {
-        match seat_at(&self.active, t.key).mother {
-            Some(mother) => Some(seat_at(&self.active, mother).name),
-            None => None,
-        }
+        let mother = seat_at(&self.active, t.key).mother?;
+        Some(seat_at(&self.active, mother).name)
     }
 
     // Returns the task whose subpool a task means by a number: the job step task for 131 and 132, and else the task itself.
@@ -502,5 +497,14 @@ impl Tasks {
     {
         let first = first_owned(&self.owned, usize::from(from))?;
         Some(SubpoolId::new(first as u16))
+    }
+
+    /// Returns a copy, in which each `TaskId` refers to the same task. It fails if memory is exhausted.
+    pub fn try_clone(&self) -> Result<Tasks, OutOfMemory>
+        ensures { IfOk result (λ copy. copy ≡ self.now) }
+    {
+        let active = copy_active(&self.active)?;
+        let owned = Vec::from_slice(*self.owned.allocator(), &self.owned).map_err(|_| OutOfMemory)?;
+        Ok(Tasks { active, owned })
     }
 }

@@ -127,7 +127,7 @@ impl Origins {
         }
     }
 
-    // Keeps a task after the one that attached it, in place of a former task of the name.
+    // Keeps a task after the one that attached it. It replaces a former task of the name.
     fn attach(&mut self, task: Name, attaching_task: Name) -> Result<(), OutOfMemory> {
         self.tasks.retain(|other| other.task != task);
         let (at, depth) = self.place_below(attaching_task);
@@ -139,7 +139,7 @@ impl Origins {
         }
     }
 
-    // Keeps the line that set names, in place of a former one.
+    // Keeps the line that set names. It replaces a former one.
     fn set(&mut self, names: &[Name], line: u32) -> Result<(), OutOfMemory> {
         for name in names {
             let name = *name;

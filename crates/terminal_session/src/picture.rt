@@ -1,4 +1,4 @@
-//! A picture of the pages of a step: a line for each page, in which a sign stands for 64 bytes.
+//! A picture of the pages of a step: a line for each page, with one sign for 64 bytes.
 
 use job_step::Step;
 use mvs_job::Job;
@@ -14,7 +14,7 @@ use std::fmt;
 /// The signs of a page.
 const WIDTH: usize = 64;
 
-/// How many doublewords a sign stands for.
+/// How many doublewords a sign shows.
 const DOUBLEWORDS: u32 = 8;
 
 /// The last address.

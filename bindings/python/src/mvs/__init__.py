@@ -31,6 +31,7 @@ from typing import Union
 
 from ._library import (
     AskKind,
+    EffectKind,
     EventKind,
     Form,
     Holder,
@@ -39,6 +40,8 @@ from ._library import (
     Position,
     RawArea,
     RawAsk,
+    RawBytes,
+    RawEffect,
     RawEvent,
     RawHeld,
     RawPool,
@@ -59,6 +62,8 @@ from ._statements import statement
 __all__ = [
     "Area",
     "AskKind",
+    "Effect",
+    "EffectKind",
     "Error",
     "Event",
     "EventKind",
@@ -238,6 +243,29 @@ class Reason:
 
 
 @dataclass(frozen=True)
+class Effect:
+    """What a request changed. include/mvs.h says which fields each kind has; the others are 0 or empty.
+
+    `rule` is a rule of docs/RULES.md.
+    """
+
+    kind: EffectKind
+    rule: int
+    address: int = 0
+    length: int = 0
+    least: int = 0
+    most: int = 0
+    pages: int = 0
+    pages_above: int = 0
+    cells: int = 0
+    cell_size: int = 0
+    number: int = 0
+    owner: str = ""
+    task: str = ""
+    pool: str = ""
+
+
+@dataclass(frozen=True)
 class RunResult:
     """What `run` printed, and the status of the job."""
 
@@ -312,6 +340,14 @@ class Session:
         self._session = RawSession()
         self._lines: list[str] = []
         self._check(library.mvs_new(self._session, place))
+
+    def clone(self) -> Session:
+        """Returns a copy, which continues as this session would. What one of them does later does not change the other."""
+        copy = Session.__new__(Session)
+        copy._session = RawSession()
+        copy._lines = list(self._lines)
+        self._check(library.mvs_clone(self._session, copy._session))
+        return copy
 
     def __enter__(self) -> Session:
         return self
@@ -396,6 +432,27 @@ class Session:
         fields["position"] = Position(raw.position) if raw.position else None
         fields["holder"] = Holder(raw.holder) if raw.holder else None
         return Reason(**fields)
+
+    def record(self) -> None:
+        """Records each request from now on, so that `effects` returns what it changed. That costs time."""
+        self._check(Status(library.mvs_record(self._session)))
+
+    def effects(self) -> list[Effect]:
+        """Returns what the last request changed, and what the end of its task freed, in the order of mvsjob --explain.
+
+        The list is empty if the session does not record.
+        """
+        found = []
+        while True:
+            raw = RawEffect(size=ctypes.sizeof(RawEffect))
+            status = Status(library.mvs_effect(self._session, len(found), raw))
+            if status is Status.NO_MORE:
+                return found
+            self._check(status)
+            fields = {name: getattr(raw, name) for name, _ in RawEffect._fields_ if name != "size"}
+            fields.update((name, fields[name].decode("ascii").rstrip()) for name in ("owner", "task", "pool"))
+            fields["kind"] = EffectKind(raw.kind)
+            found.append(Effect(**fields))
 
     def end(self) -> tuple[Status, Event]:
         """Ends the job. Returns its status, OK, SOME_ABEND, or SCRIPT_FAULT if there was no step, and how its last step ended.
@@ -538,6 +595,18 @@ class Session:
             raise StorageError(address, length)
         self._check(status)
         return out.raw
+
+    def readable(self, address: int) -> bytes:
+        """Returns the bytes from an address on, as many as can be read without a break. Raises StorageError if the first one cannot."""
+        none = ctypes.c_ubyte()
+        raw = RawBytes(ctypes.addressof(none), 0)
+        if not 0 <= address < 1 << 32:
+            raise StorageError(address, 1)
+        status = Status(library.mvs_lend_bytes(self._session, address, raw))
+        if status is Status.NO_ACCESS:
+            raise StorageError(address, 1)
+        self._check(status)
+        return ctypes.string_at(raw.bytes, raw.length)
 
     def write(self, address: int, data: _Bytes) -> None:
         """Writes bytes from an address on. Raises StorageError, and writes nothing, if one of them cannot be accessed."""

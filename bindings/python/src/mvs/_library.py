@@ -7,7 +7,7 @@ import ctypes.util
 import enum
 import os
 
-VERSION = 2003
+VERSION = 2006
 """The version of the calls that this module was written for."""
 
 
@@ -107,6 +107,23 @@ class ReasonKind(enum.IntEnum):
     ACTIVE_SUBTASK = 19
     ASKED = 20
     NO_ACCESS = 21
+
+
+class EffectKind(enum.IntEnum):
+    """What a request changed: mvs_effect_kind."""
+
+    OBTAINED = 1
+    NO_GREATER = 2
+    NEW_SUBPOOL = 3
+    PAGES_ASSIGNED = 4
+    PAGES_FREED = 5
+    EMPTIED = 6
+    CELL = 7
+    PART = 8
+    GIVEN = 9
+    SHARED = 10
+    FREED = 11
+    REMAINS = 12
 
 
 class Holder(enum.IntEnum):
@@ -266,6 +283,22 @@ class RawReason(ctypes.Structure):
     ]
 
 
+class RawEffect(ctypes.Structure):
+    """mvs_effect_line."""
+
+    _fields_ = [
+        *((name, ctypes.c_uint32) for name in ("size", "kind", "rule", "address", "length", "least", "most")),
+        *((name, ctypes.c_uint32) for name in ("pages", "pages_above", "cells", "cell_size", "number")),
+        *((name, ctypes.c_char * 8) for name in ("owner", "task", "pool")),
+    ]
+
+
+class RawBytes(ctypes.Structure):
+    """mvs_bytes."""
+
+    _fields_ = [("bytes", ctypes.c_void_p), ("length", ctypes.c_size_t)]
+
+
 class RawSession(ctypes.Structure):
     """mvs_session."""
 
@@ -287,6 +320,7 @@ _SESSION, _EVENT, _SIZE = _POINTER(RawSession), _POINTER(RawEvent), _POINTER(cty
 _FUNCTIONS = {
     "mvs_version": [],
     "mvs_new": [_SESSION, ctypes.c_uint32],
+    "mvs_clone": [_SESSION, _SESSION],
     "mvs_line": [_SESSION, ctypes.c_char_p, ctypes.c_size_t, _EVENT],
     "mvs_try": [_SESSION, ctypes.c_char_p, ctypes.c_size_t, _EVENT],
     "mvs_begin": [_SESSION, _POINTER(RawRegion), _EVENT],
@@ -297,6 +331,7 @@ _FUNCTIONS = {
     "mvs_why_into": [_SESSION, ctypes.c_char_p, ctypes.c_size_t, _SIZE],
     "mvs_why_fields": [_SESSION, _POINTER(RawReason)],
     "mvs_read": [_SESSION, ctypes.c_uint32, ctypes.c_char_p, ctypes.c_size_t],
+    "mvs_lend_bytes": [_SESSION, ctypes.c_uint32, _POINTER(RawBytes)],
     "mvs_write": [_SESSION, ctypes.c_uint32, ctypes.c_char_p, ctypes.c_size_t],
     "mvs_fallen": [_SESSION, ctypes.c_size_t, ctypes.c_char_p],
     "mvs_subpool": [_SESSION, ctypes.c_char_p, ctypes.c_uint8, _POINTER(RawSubpool)],
@@ -306,6 +341,9 @@ _FUNCTIONS = {
     "mvs_next_task": [_SESSION, ctypes.c_char_p, _POINTER(RawTask)],
     "mvs_next_pool": [_SESSION, ctypes.c_char_p, ctypes.c_char_p],
     "mvs_statement_into": [_POINTER(RawAsk), ctypes.c_char_p, ctypes.c_char_p, ctypes.c_size_t, _SIZE],
+    "mvs_list_statement_into": [_POINTER(RawAsk), _POINTER(RawArea), ctypes.c_size_t, ctypes.c_char_p, ctypes.c_char_p, ctypes.c_size_t, _SIZE],
+    "mvs_record": [_SESSION],
+    "mvs_effect": [_SESSION, ctypes.c_size_t, _POINTER(RawEffect)],
     "mvs_free_session": [_SESSION],
     "mvs_run_into": [ctypes.c_uint32, ctypes.c_char_p, ctypes.c_size_t, ctypes.c_char_p, ctypes.c_size_t, _SIZE],
 }

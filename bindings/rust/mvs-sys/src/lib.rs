@@ -5,7 +5,7 @@ use core::ffi::{c_char, c_void};
 use core::mem::size_of;
 
 /// The version of the calls that these declarations are for: `MVS_VERSION`.
-pub const MVS_VERSION: u32 = 2_003;
+pub const MVS_VERSION: u32 = 2_006;
 
 pub const MVS_STATUS_OK: u32 = 0;
 pub const MVS_STATUS_SOME_ABEND: u32 = 8;
@@ -102,6 +102,19 @@ pub const MVS_REASON_NOT_OWNED: u32 = 18;
 pub const MVS_REASON_ACTIVE_SUBTASK: u32 = 19;
 pub const MVS_REASON_ASKED: u32 = 20;
 pub const MVS_REASON_NO_ACCESS: u32 = 21;
+
+pub const MVS_EFFECT_OBTAINED: u32 = 1;
+pub const MVS_EFFECT_NO_GREATER: u32 = 2;
+pub const MVS_EFFECT_NEW_SUBPOOL: u32 = 3;
+pub const MVS_EFFECT_PAGES_ASSIGNED: u32 = 4;
+pub const MVS_EFFECT_PAGES_FREED: u32 = 5;
+pub const MVS_EFFECT_EMPTIED: u32 = 6;
+pub const MVS_EFFECT_CELL: u32 = 7;
+pub const MVS_EFFECT_PART: u32 = 8;
+pub const MVS_EFFECT_GIVEN: u32 = 9;
+pub const MVS_EFFECT_SHARED: u32 = 10;
+pub const MVS_EFFECT_FREED: u32 = 11;
+pub const MVS_EFFECT_REMAINS: u32 = 12;
 
 pub const MVS_HOLDER_NOBODY: u32 = 1;
 pub const MVS_HOLDER_OUTSIDE: u32 = 2;
@@ -407,6 +420,60 @@ impl Default for mvs_reason {
     }
 }
 
+/// `mvs_effect_line` of `mvs.h`.
+#[repr(C)]
+#[derive(Clone, Copy, Debug, PartialEq, Eq)]
+#[allow(non_camel_case_types)]
+pub struct mvs_effect_line {
+    pub size: u32,
+    pub kind: u32,
+    pub rule: u32,
+    pub address: u32,
+    pub length: u32,
+    pub least: u32,
+    pub most: u32,
+    pub pages: u32,
+    pub pages_above: u32,
+    pub cells: u32,
+    pub cell_size: u32,
+    pub number: u32,
+    pub owner: [u8; 8],
+    pub task: [u8; 8],
+    pub pool: [u8; 8],
+}
+
+impl Default for mvs_effect_line {
+    /// All fields are 0, except the size.
+    fn default() -> Self {
+        Self {
+            size: size_of::<Self>() as u32,
+            kind: 0,
+            rule: 0,
+            address: 0,
+            length: 0,
+            least: 0,
+            most: 0,
+            pages: 0,
+            pages_above: 0,
+            cells: 0,
+            cell_size: 0,
+            number: 0,
+            owner: [0; 8],
+            task: [0; 8],
+            pool: [0; 8],
+        }
+    }
+}
+
+/// `mvs_bytes` of `mvs.h`.
+#[repr(C)]
+#[derive(Clone, Copy, Debug)]
+#[allow(non_camel_case_types)]
+pub struct mvs_bytes {
+    pub bytes: *const u8,
+    pub length: usize,
+}
+
 /// `mvs_region` of `mvs.h`.
 #[repr(C)]
 #[derive(Clone, Copy, Debug, PartialEq, Eq)]
@@ -445,6 +512,7 @@ pub struct mvs_session {
 unsafe extern "C" {
     pub fn mvs_version() -> u32;
     pub fn mvs_new(session: *mut mvs_session, place: u32) -> u32;
+    pub fn mvs_clone(from: *mut mvs_session, to: *mut mvs_session) -> u32;
     pub fn mvs_line(session: *mut mvs_session, line: *const c_char, length: usize, event: *mut mvs_event) -> u32;
     pub fn mvs_try(session: *mut mvs_session, line: *const c_char, length: usize, event: *mut mvs_event) -> u32;
     pub fn mvs_begin(session: *mut mvs_session, region: *const mvs_region, event: *mut mvs_event) -> u32;
@@ -455,6 +523,7 @@ unsafe extern "C" {
     pub fn mvs_why_into(session: *mut mvs_session, out: *mut c_char, room: usize, wanted: *mut usize) -> u32;
     pub fn mvs_why_fields(session: *mut mvs_session, reason: *mut mvs_reason) -> u32;
     pub fn mvs_read(session: *mut mvs_session, address: u32, out: *mut u8, length: usize) -> u32;
+    pub fn mvs_lend_bytes(session: *mut mvs_session, address: u32, lent: *mut mvs_bytes) -> u32;
     pub fn mvs_write(session: *mut mvs_session, address: u32, bytes: *const u8, length: usize) -> u32;
     pub fn mvs_fallen(session: *mut mvs_session, index: usize, name: *mut [u8; 8]) -> u32;
     pub fn mvs_subpool(session: *mut mvs_session, task: *const [u8; 8], from: u8, line: *mut mvs_subpool_line) -> u32;
@@ -464,6 +533,17 @@ unsafe extern "C" {
     pub fn mvs_next_task(session: *mut mvs_session, after: *const [u8; 8], task: *mut mvs_task_line) -> u32;
     pub fn mvs_next_pool(session: *mut mvs_session, after: *const [u8; 8], name: *mut [u8; 8]) -> u32;
     pub fn mvs_statement_into(ask: *const mvs_ask, area: *const [u8; 8], out: *mut c_char, room: usize, wanted: *mut usize) -> u32;
+    pub fn mvs_list_statement_into(
+        ask: *const mvs_ask,
+        areas: *const mvs_area,
+        count: usize,
+        base: *const [u8; 8],
+        out: *mut c_char,
+        room: usize,
+        wanted: *mut usize,
+    ) -> u32;
+    pub fn mvs_record(session: *mut mvs_session) -> u32;
+    pub fn mvs_effect(session: *mut mvs_session, index: usize, effect: *mut mvs_effect_line) -> u32;
     pub fn mvs_free_session(session: *mut mvs_session);
     pub fn mvs_run_into(place: u32, script: *const c_char, length: usize, out: *mut c_char, room: usize, wanted: *mut usize) -> u32;
 }

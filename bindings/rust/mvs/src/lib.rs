@@ -24,9 +24,9 @@ mod numbers;
 mod request;
 mod session;
 
-pub use numbers::{EventKind, Form, Location, Place, Position, ReasonKind, Status, StepEnd};
+pub use numbers::{EffectKind, EventKind, Form, Location, Place, Position, ReasonKind, Status, StepEnd};
 pub use request::{Area, Name, Obtain, Pool, Region, Request, Subtask};
 pub use session::{
-    run, statement, version, AddressHolder, Error, Event, HeldRun, HeldRuns, Holder, Pages, PoolNames, PoolState, Reason, Run, Session,
-    Subpool, Subpools, Task, Tasks,
+    run, statement, version, AddressHolder, Effect, Error, Event, HeldRun, HeldRuns, Holder, Pages, PoolNames, PoolState, Reason, Run,
+    Session, Subpool, Subpools, Task, Tasks,
 };

@@ -179,6 +179,36 @@ numbers! {
 }
 
 numbers! {
+    /// What a request changed.
+    EffectKind {
+        /// An area was obtained.
+        Obtained = MVS_EFFECT_OBTAINED,
+        /// No greater length had a place.
+        NoGreater = MVS_EFFECT_NO_GREATER,
+        /// A subpool was made.
+        NewSubpool = MVS_EFFECT_NEW_SUBPOOL,
+        /// Free pages were assigned.
+        PagesAssigned = MVS_EFFECT_PAGES_ASSIGNED,
+        /// Pages became free.
+        PagesFreed = MVS_EFFECT_PAGES_FREED,
+        /// All of a subpool was released.
+        Emptied = MVS_EFFECT_EMPTIED,
+        /// A cell was allocated.
+        Cell = MVS_EFFECT_CELL,
+        /// A cell pool has a new part.
+        Part = MVS_EFFECT_PART,
+        /// A subtask now owns a subpool.
+        Given = MVS_EFFECT_GIVEN,
+        /// A subtask shares a subpool.
+        Shared = MVS_EFFECT_SHARED,
+        /// A subpool was freed with its owner.
+        Freed = MVS_EFFECT_FREED,
+        /// A subpool remains that the task shared, which ended.
+        Remains = MVS_EFFECT_REMAINS,
+    }
+}
+
+numbers! {
     /// Where an address is, if no allocated cell of the pool begins there.
     Position {
         /// A free cell begins there.

@@ -1,13 +1,13 @@
 //! A session, and what it returns.
 
-use crate::numbers::{EventKind, Form, Place, Position, ReasonKind, Status, StepEnd};
+use crate::numbers::{EffectKind, EventKind, Form, Place, Position, ReasonKind, Status, StepEnd};
 use crate::request::{Area, Name, Region, Request};
 use mvs_sys::{
-    mvs_area, mvs_ask, mvs_event, mvs_held_run, mvs_map_run, mvs_pool_line, mvs_reason, mvs_region, mvs_session, mvs_subpool_line,
-    mvs_task_line,
+    mvs_area, mvs_ask, mvs_bytes, mvs_effect_line, mvs_event, mvs_held_run, mvs_map_run, mvs_pool_line, mvs_reason, mvs_region, mvs_session,
+    mvs_subpool_line, mvs_task_line,
 };
 use std::ffi::c_char;
-use std::{fmt, mem, ptr};
+use std::{fmt, mem, ptr, slice};
 
 /// A call that was refused.
 #[derive(Clone, Copy, Debug, PartialEq, Eq)]
@@ -216,6 +216,51 @@ pub struct Reason {
     pub name: Option<Name>,
 }
 
+/// What a request changed. The fields that a kind does not have are 0 or None.
+#[derive(Clone, Copy, Debug, PartialEq, Eq)]
+pub struct Effect {
+    /// The kind.
+    pub kind: EffectKind,
+    /// The rule of RULES.md.
+    pub rule: u32,
+    /// The address of an area, a cell or a part of a cell pool.
+    pub address: u32,
+    /// Its length; of a subpool that was freed the bytes that it held.
+    pub length: u32,
+    /// The least and the greatest length that were requested.
+    pub requested: (u32, u32),
+    /// A number of pages; of the free ones, below and above.
+    pub pages: (u32, u32),
+    /// The cells of a part, and the bytes of each.
+    pub cells: (u32, u32),
+    /// The number that the owner has for a subpool.
+    pub number: u32,
+    /// The owner of a subpool.
+    pub owner: Option<Name>,
+    /// A subtask that has a subpool, or the task that had it.
+    pub task: Option<Name>,
+    /// A cell pool.
+    pub pool: Option<Name>,
+}
+
+impl Effect {
+    fn of(raw: &mvs_effect_line) -> Result<Effect, Error> {
+        Ok(Effect {
+            kind: EffectKind::of(raw.kind).ok_or(Error::Unknown(raw.kind))?,
+            rule: raw.rule,
+            address: raw.address,
+            length: raw.length,
+            requested: (raw.least, raw.most),
+            pages: (raw.pages, raw.pages_above),
+            cells: (raw.cells, raw.cell_size),
+            number: raw.number,
+            owner: some_name(raw.owner),
+            task: some_name(raw.task),
+            pool: some_name(raw.pool),
+        })
+    }
+}
+
 /// Returns a name, or None if it is blank.
 fn some_name(bytes: [u8; 8]) -> Option<Name> {
     (bytes != [b' '; 8]).then_some(Name::of(bytes))
@@ -320,6 +365,14 @@ impl Session {
         let mut raw = mvs_session { held: ptr::null_mut() };
         // SAFETY: `raw` holds no session, and only this call uses it.
         served(unsafe { mvs_sys::mvs_new(&mut raw, place.number()) })?;
+        Ok(Session { raw })
+    }
+
+    /// Returns a copy, which continues as this session would. What one of them does later does not change the other.
+    pub fn try_clone(&mut self) -> Result<Session, Error> {
+        let mut raw = mvs_session { held: ptr::null_mut() };
+        // SAFETY: `raw` holds no session, and only this call uses the two.
+        served(unsafe { mvs_sys::mvs_clone(&mut self.raw, &mut raw) })?;
         Ok(Session { raw })
     }
 
@@ -434,6 +487,26 @@ impl Session {
         }
     }
 
+    /// Records each request from now on, so that `effects` returns what it changed. That costs time.
+    pub fn record(&mut self) -> Result<(), Error> {
+        // SAFETY: as above.
+        served(unsafe { mvs_sys::mvs_record(&mut self.raw) })
+    }
+
+    /// Returns what the last request changed, and what the end of its task freed; nothing if the session does not record.
+    pub fn effects(&mut self) -> Result<Vec<Effect>, Error> {
+        let mut found = Vec::new();
+        loop {
+            let mut raw = mvs_effect_line::default();
+            // SAFETY: as above.
+            match status_of(unsafe { mvs_sys::mvs_effect(&mut self.raw, found.len(), &mut raw) })? {
+                Status::Ok => found.push(Effect::of(&raw)?),
+                Status::NoMore => return Ok(found),
+                status => return Err(Error::Status(status)),
+            }
+        }
+    }
+
     /// Returns the cell pool of a name; None if there is none.
     pub fn pool(&mut self, name: Name) -> Result<Option<PoolState>, Error> {
         let mut raw = mvs_pool_line::default();
@@ -465,6 +538,16 @@ impl Session {
     pub fn read_into(&mut self, address: u32, out: &mut [u8]) -> Result<(), Error> {
         // SAFETY: as above.
         served(unsafe { mvs_sys::mvs_read(&mut self.raw, address, out.as_mut_ptr(), out.len()) })
+    }
+
+    /// Returns the bytes from an address on, where they are in the memory of the session: as many as can be read without a break, or
+    /// [`Status::NoAccess`] if the first one cannot.
+    pub fn lend(&mut self, address: u32) -> Result<&[u8], Error> {
+        let none = [0; 0];
+        let mut lent = mvs_bytes { bytes: none.as_ptr(), length: 0 };
+        // SAFETY: as above. The bytes stay as they are until the next call, which needs this borrow to have ended.
+        served(unsafe { mvs_sys::mvs_lend_bytes(&mut self.raw, address, &mut lent) })?;
+        Ok(unsafe { slice::from_raw_parts(lent.bytes, lent.length) })
     }
 
     /// Writes bytes from an address on, or returns [`Status::NoAccess`] and writes none.

@@ -1,7 +1,7 @@
 //! Each call of the crate, and what it refuses. The replies of the library itself are tested in C.
 use mvs::{
-    AddressHolder, Area, Error, EventKind, Form, HeldRun, Holder, Location, Name, Obtain, Place, Pool, ReasonKind, Region, Request,
-    Session, Status, StepEnd, Subtask, Task,
+    AddressHolder, Area, EffectKind, Error, EventKind, Form, HeldRun, Holder, Location, Name, Obtain, Place, Pool, ReasonKind, Region,
+    Request, Session, Status, StepEnd, Subtask, Task,
 };
 
 fn job() -> Name {
@@ -43,6 +43,52 @@ fn lines() {
 }
 
 #[test]
+fn copies() {
+    let mut session = begun();
+    session.line("JOB GETMAIN R,LV=8,A=X").unwrap();
+    let mut copy = session.try_clone().unwrap();
+    let address = copy.line("JOB WHERE X").unwrap().address;
+    assert_eq!(session.line("JOB WHERE X").unwrap().address, address);
+    session.write(address, b"abc").unwrap();
+    copy.write(address, b"xyz").unwrap();
+    assert_eq!(session.read(address, 3).unwrap(), b"abc");
+    drop(session);
+    assert_eq!(copy.read(address, 3).unwrap(), b"xyz");
+}
+
+#[test]
+fn effects() {
+    let mut session = begun();
+    session.record().unwrap();
+    let event = session
+        .request(
+            job(),
+            &Request::Obtain(Obtain {
+                subpool: 3,
+                ..Obtain::new(Form::Rc, 20)
+            }),
+        )
+        .unwrap();
+    let found = session.effects().unwrap();
+    let kinds: Vec<_> = found.iter().map(|effect| (effect.kind, effect.rule)).collect();
+    assert_eq!(
+        kinds,
+        [
+            (EffectKind::Obtained, 3),
+            (EffectKind::NewSubpool, 42),
+            (EffectKind::PagesAssigned, 5)
+        ]
+    );
+    assert_eq!(
+        (found[0].address, found[0].length, found[0].requested),
+        (event.address, 24, (20, 20))
+    );
+    assert_eq!((found[1].number, found[1].owner, found[2].pages), (3, Some(job()), (1, 0)));
+    session.request(job(), &Request::Return).unwrap();
+    assert_eq!(session.effects().unwrap().last().unwrap().kind, EffectKind::Freed);
+}
+
+#[test]
 fn storage() {
     let mut session = begun();
     let wanted = Obtain {
@@ -60,6 +106,9 @@ fn storage() {
     session.write(event.address, b"abc").unwrap();
     assert_eq!(session.read(event.address, 3).unwrap(), b"abc");
     assert_eq!(session.read(event.address + 4095, 2), Err(Error::Status(Status::NoAccess)));
+    assert_eq!(session.lend(event.address + 4094).unwrap(), [0, 0]);
+    assert_eq!(session.lend(event.address).unwrap()[..4], *b"abc\0");
+    assert_eq!(session.lend(event.address + 4096), Err(Error::Status(Status::NoAccess)));
     let subpools: Vec<_> = session.subpools(job()).map(|line| (line.number, line.owned, line.plain)).collect();
     assert_eq!(subpools, [(7, true, 4096)]);
     let owners: Vec<_> = session.pages().map(|run| (run.area, run.owner)).collect();
@@ -192,10 +241,7 @@ fn pools_and_tasks() {
     let found = session.pool(pool).unwrap().unwrap();
     assert_eq!((found.cell, found.parts, found.cells, found.owner), (12, 1, 1, Some((job(), 0))));
     assert_eq!(session.pools().collect::<Vec<_>>(), [pool]);
-    let job_step = Task {
-        name: job(),
-        mother: None,
-    };
+    let job_step = Task { name: job(), mother: None };
     assert_eq!(session.tasks().collect::<Vec<_>>(), [job_step]);
     let get = Request::Get { pool, conditional: true };
     let cell = session.request(job(), &get).unwrap();

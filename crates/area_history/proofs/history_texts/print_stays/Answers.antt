@@ -1,6 +1,6 @@
 use Rattle.std.proofs.Common.{Err}
 use Rattle.std.proofs.lemmas.Result.{err_from_is_err_and}
-use Rattle.job_script.proofs.Appending.{front_longer}
+use Rattle.line_text.proofs.Appending.{front_longer}
 use Rattle.mvs_job.proofs.Serving.{both_written}
 use Rattle.area_history.proofs.history_texts.print_stays.Goals as goal
 

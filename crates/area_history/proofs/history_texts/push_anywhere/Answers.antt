@@ -1,5 +1,5 @@
 use Rattle.std.proofs.Common.{◌++◌, codes, decimal}
-use Rattle.job_script.proofs.Appending.{trailing}
+use Rattle.line_text.proofs.Appending.{trailing}
 use Rattle.area_history.proofs.history_texts.push_anywhere.Goals as goal
 
 pub returns-clause-text : goal.returns-clause-text

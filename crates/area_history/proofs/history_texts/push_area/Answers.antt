@@ -1,8 +1,8 @@
 use Rattle.std.proofs.Common.{◌≡◌, ◌++◌, ◌∙◌, ap, codes, decimal, rules}
 use Rattle.mvs_model.specs.Name.{trimmed}
 use Rattle.mvs_model.specs.Texts.{hex}
-use Rattle.job_script.specs.FactTexts.{subpool_words}
-use Rattle.job_script.proofs.Appending.{trailing}
+use Rattle.explanation.specs.FactTexts.{subpool_words}
+use Rattle.line_text.proofs.Appending.{trailing}
 use Rattle.area_history.proofs.history_texts.push_area.Goals as goal
 
 pub returns-clause-text : goal.returns-clause-text

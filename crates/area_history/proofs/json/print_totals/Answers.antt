@@ -1,7 +1,7 @@
 use Rattle.std.proofs.Common.{[], ◌∙◌}
 use Rattle.std.proofs.lemmas.Result.{err_from_is_err_and}
 use Rattle.area_history.specs.JsonReports.{total_object}
-use Rattle.job_script.proofs.Appending.{lines_more, lines_front}
+use Rattle.line_text.proofs.Appending.{lines_more, lines_front}
 use Rattle.area_history.proofs.json.print_totals.Goals as goal
 
 pub returns-in_err-print_total : goal.returns-in_err-print_total

@@ -1,7 +1,7 @@
 use Rattle.std.proofs.Common.{◌++◌, codes, decimal}
 use Rattle.mvs_model.specs.Name.{trimmed}
 use Rattle.area_history.specs.JsonReports.{bytes_member, origin_members, place_members, subpool_members}
-use Rattle.job_script.proofs.Appending.{trailing}
+use Rattle.line_text.proofs.Appending.{trailing}
 use Rattle.area_history.proofs.json.push_leak.Goals as goal
 
 pub returns-clause-text : goal.returns-clause-text

@@ -2,7 +2,7 @@ use Rattle.std.proofs.Common.{◌≡◌, ◌++◌, ◌∙◌, ap, codes, decimal
 use Rattle.mvs_model.specs.Name.{trimmed}
 use Rattle.area_history.specs.Pools.{pool_bytes}
 use Rattle.area_history.specs.JsonReports.{capped, origin_members, subpool_members}
-use Rattle.job_script.proofs.Appending.{trailing}
+use Rattle.line_text.proofs.Appending.{trailing}
 use Rattle.area_history.proofs.json.push_pool.Goals as goal
 
 pub returns-clause-text : goal.returns-clause-text

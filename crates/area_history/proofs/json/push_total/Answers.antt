@@ -1,6 +1,6 @@
 use Rattle.std.proofs.Common.{◌≡◌, ◌++◌, ◌∙◌, ap, codes, decimal}
 use Rattle.area_history.specs.JsonReports.{capped, group_members}
-use Rattle.job_script.proofs.Appending.{trailing}
+use Rattle.line_text.proofs.Appending.{trailing}
 use Rattle.area_history.proofs.json.push_total.Goals as goal
 
 pub returns-clause-text : goal.returns-clause-text

@@ -1,6 +1,6 @@
 use Rattle.std.proofs.Common.{◌++◌, codes, decimal}
 use Rattle.mvs_model.specs.Name.{trimmed}
-use Rattle.job_script.proofs.Appending.{trailing}
+use Rattle.line_text.proofs.Appending.{trailing}
 use Rattle.area_history.proofs.json_history.push_end.Goals as goal
 
 pub returns-clause-text : goal.returns-clause-text

@@ -1,6 +1,6 @@
 use Rattle.std.proofs.Common.{◌≡◌, ◌++◌, ◌∙◌, ap, codes, decimal, rules}
 use Rattle.area_history.specs.JsonHistories.{area_members}
-use Rattle.job_script.proofs.Appending.{trailing}
+use Rattle.line_text.proofs.Appending.{trailing}
 use Rattle.area_history.proofs.json_history.push_fate_members.Goals as goal
 
 pub returns-clause-text : goal.returns-clause-text

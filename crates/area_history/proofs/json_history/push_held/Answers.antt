@@ -1,6 +1,6 @@
 use Rattle.std.proofs.Common.{◌≡◌, ◌++◌, ◌∙◌, ap, codes}
 use Rattle.area_history.specs.JsonHistories.{counts_members, side_word}
-use Rattle.job_script.proofs.Appending.{trailing}
+use Rattle.line_text.proofs.Appending.{trailing}
 use Rattle.area_history.proofs.json_history.push_held.Goals as goal
 
 pub returns-clause-text : goal.returns-clause-text

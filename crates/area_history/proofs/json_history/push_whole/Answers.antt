@@ -1,7 +1,7 @@
 use Rattle.std.proofs.Common.{◌++◌, codes}
 use Rattle.area_history.specs.JsonHistories.{by_members}
 use Rattle.area_history.specs.JsonReports.{subpool_members}
-use Rattle.job_script.proofs.Appending.{trailing}
+use Rattle.line_text.proofs.Appending.{trailing}
 use Rattle.area_history.proofs.json_history.push_whole.Goals as goal
 
 pub returns-clause-text : goal.returns-clause-text

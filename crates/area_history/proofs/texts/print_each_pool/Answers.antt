@@ -1,7 +1,7 @@
 use Rattle.std.proofs.Common.{[], ◌∙◌}
 use Rattle.std.proofs.lemmas.Result.{err_from_is_err_and}
 use Rattle.area_history.specs.LeakTexts.{pool_line}
-use Rattle.job_script.proofs.Appending.{lines_more, lines_front}
+use Rattle.line_text.proofs.Appending.{lines_more, lines_front}
 use Rattle.area_history.proofs.texts.print_each_pool.Goals as goal
 
 pub returns-in_err-print_pool : goal.returns-in_err-print_pool

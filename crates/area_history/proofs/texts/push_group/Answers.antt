@@ -1,7 +1,7 @@
 use Rattle.std.proofs.Common.{◌++◌, ◌∙◌, ap, codes, sym}
 use Rattle.mvs_model.specs.Name.{trimmed}
 use Rattle.area_history.specs.LeakTexts.{group_text}
-use Rattle.job_script.proofs.Appending.{trailing}
+use Rattle.line_text.proofs.Appending.{trailing}
 use Rattle.area_history.proofs.texts.push_group.Goals as goal
 
 pub returns-in-Task-clause-text : goal.returns-in-Task-clause-text

@@ -1,6 +1,6 @@
 use Rattle.std.proofs.Common.{◌++◌, codes, decimal}
 use Rattle.area_history.specs.LeakTexts.{areas_text, number_text}
-use Rattle.job_script.proofs.Appending.{trailing}
+use Rattle.line_text.proofs.Appending.{trailing}
 use Rattle.area_history.proofs.texts.push_heading.Goals as goal
 
 pub returns-clause-text : goal.returns-clause-text

@@ -1,9 +1,9 @@
 use Rattle.std.proofs.Common.{◌≡◌, ◌++◌, ◌∙◌, ap, codes, decimal}
 use Rattle.mvs_model.specs.Name.{trimmed}
-use Rattle.job_script.specs.FactTexts.{subpool_words}
+use Rattle.explanation.specs.FactTexts.{subpool_words}
 use Rattle.area_history.specs.Pools.{pool_bytes}
 use Rattle.area_history.specs.LeakTexts.{built_text, number_text, parts_text}
-use Rattle.job_script.proofs.Appending.{trailing}
+use Rattle.line_text.proofs.Appending.{trailing}
 use Rattle.area_history.proofs.texts.push_pool.Goals as goal
 
 pub returns-clause-text : goal.returns-clause-text

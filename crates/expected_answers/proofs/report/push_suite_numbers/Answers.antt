@@ -1,6 +1,6 @@
 use Rattle.std.proofs.Common.{◌++◌, ◌∙◌, ap, codes, decimal}
 use Rattle.expected_answers.specs.Reports.{failures, tests}
-use Rattle.job_script.proofs.Appending.{trailing}
+use Rattle.line_text.proofs.Appending.{trailing}
 use Rattle.expected_answers.proofs.report.push_suite_numbers.Goals as goal
 
 pub returns : goal.returns

@@ -2,7 +2,7 @@ use Rattle.std.proofs.Common.{◌++◌, codes, ◌∙◌}
 use Rattle.std.proofs.lemmas.Result.{err_from_is_err_and}
 use Rattle.mvs_model.specs.Name.{trimmed}
 use Rattle.mvs_model.specs.Texts.{reply_line, code_text}
-use Rattle.job_script.proofs.Appending.{front_longer, lines_more, lines_front}
+use Rattle.line_text.proofs.Appending.{front_longer, lines_more, lines_front}
 use Rattle.job_script.proofs.answers.print_abend.Goals as goal
 
 pub returns-in_err-print_code : goal.returns-in_err-print_code

@@ -1,6 +1,6 @@
 use Rattle.std.proofs.Common.{◌≡◌, ◌<◌, length, arith, ◌∙◌, ◌++◌, append-nil, sym, ap, rules}
 use Rattle.std.proofs.lemmas.Result.{err_from_is_err_and}
-use Rattle.job_script.specs.Writing.{data_text}
+use Rattle.line_text.specs.Writing.{data_text}
 use Rattle.job_script.proofs.Showing.{after_head, cut_front, cut_back, data_front, data_more, lines_done}
 use Rattle.job_script.proofs.data_lines.print_data.Goals as goal
 

@@ -4,7 +4,7 @@ use Rattle.request_forms.specs.Facts.{listed, owned_at}
 use Rattle.mvs_job.proofs.Freeing.{none_more, one_more, passed}
 use Rattle.mvs_job.proofs.Numbers.{each_none}
 use Rattle.mvs_job.proofs.ends.collect_owned_subpools.Goals as goal
-use Rattle.mvs_job.proofs.ends.collect_owned_subpools.Goals.{in-Some-owned, in_default-owned}
+use Rattle.mvs_job.proofs.ends.collect_owned_subpools.Goals.{in-Some-owned_among, in_default-owned_among}
 
 pub loop-next-init : goal.loop-next-init
 loop-next-init c = record {
@@ -24,10 +24,11 @@ loop-next-preserved c =
     let below = found.0 in
     let few : length c.loop-next.subpools ≤ next = omega (arith, c.loop-next.invariant.few, below) in
     let each = passed st t c.loop-next.from next c.loop-next.subpools below found.2 c.loop-next.invariant.each in
+    let owned = rw (whole) at (c.owned_among.ensures t c.subpools_of-had.ensures) in
     let row = λ (k : ℕ). each_below (k + 1) (λ s. listed (owned_at st t s)) in
-    elim c.match-owned.branch [
-      | in-Some-owned w ↦ (let m = one_more st t next c.loop-next.subpools few each _ _ (sym (rw (whole) at c.owned.ensures) ∙ w.in-Some-owned.is) (w.subpools-is ∙ w.push.ensures) in record { low = omega (arith, c.get-from.ensures.low); few = omega (arith, m.0, is); each = m.1 ∙ ap row (sym is) })
-      | in_default-owned w ↦ (let m = none_more st t next c.loop-next.subpools few each _ (sym (rw (whole) at c.owned.ensures) ∙ w.in_default-owned.is) w.subpools-is in record { low = omega (arith, c.get-from.ensures.low); few = omega (arith, m.0, is); each = m.1 ∙ ap row (sym is) })
+    elim c.match-owned_among.branch [
+      | in-Some-owned_among w ↦ (let m = one_more st t next c.loop-next.subpools few each _ _ (sym owned ∙ w.in-Some-owned_among.is) (w.subpools-is ∙ w.push.ensures) in record { low = omega (arith, c.get-from.ensures.low); few = omega (arith, m.0, is); each = m.1 ∙ ap row (sym is) })
+      | in_default-owned_among w ↦ (let m = none_more st t next c.loop-next.subpools few each _ (sym owned ∙ w.in_default-owned_among.is) w.subpools-is in record { low = omega (arith, c.get-from.ensures.low); few = omega (arith, m.0, is); each = m.1 ∙ ap row (sym is) })
     ]
 
 pub returns : goal.returns

@@ -2,7 +2,7 @@ use Rattle.std.proofs.Common.{ℕ, List, Option, Some, ap, refl, subst, sym, ◌
 use Rattle.std.proofs.KnownBytes.{Appends-nil}
 use Rattle.std.specs.Option.{option_map}
 use Rattle.mvs_model.specs.declared.name.Name.{Name}
-use Rattle.job_script.specs.Writing.{Prints}
+use Rattle.line_text.specs.Writing.{Prints}
 use Rattle.mvs_job.specs.Facts.{ended_pair, freed_lines}
 use Rattle.mvs_job.proofs.ends.print_frees.Goals as goal
 

@@ -1,7 +1,7 @@
 use Rattle.std.proofs.Common.{[], ◌∙◌}
 use Rattle.std.proofs.lemmas.Result.{err_from_is_err_and}
-use Rattle.job_script.specs.FactTexts.{fact_line}
-use Rattle.job_script.proofs.Appending.{lines_more, lines_front}
+use Rattle.explanation.specs.FactTexts.{fact_line}
+use Rattle.line_text.proofs.Appending.{lines_more, lines_front}
 use Rattle.mvs_job.proofs.granting.print_facts.Goals as goal
 
 pub returns-in_err-print_fact : goal.returns-in_err-print_fact

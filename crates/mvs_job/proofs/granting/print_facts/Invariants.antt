@@ -1,7 +1,7 @@
 use Rattle.std.proofs.Common.{take, ◌≡◌}
 use Rattle.std.specs.List.{flat_map}
 use Rattle.std.specs.Io.KnownBytes.{Appends}
-use Rattle.job_script.specs.FactTexts.{fact_line}
+use Rattle.explanation.specs.FactTexts.{fact_line}
 use Rattle.mvs_job.proofs.granting.print_facts.Given as goal
 
 abbrev pub invariant-loop-fact : goal.invariant-loop-fact

@@ -1,6 +1,6 @@
 use Rattle.std.proofs.Common.{ℕ, List, length, ◌+◌, ◌/◌, subst}
 use Rattle.mvs_model.specs.Texts.{data_lines}
-use Rattle.job_script.specs.Writing.{Prints}
+use Rattle.line_text.specs.Writing.{Prints}
 use Rattle.mvs_job.proofs.Resolved.{place_read}
 use Rattle.mvs_job.proofs.printing.print_shown.Goals as goal
 

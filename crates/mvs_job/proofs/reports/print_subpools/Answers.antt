@@ -1,5 +1,5 @@
 use Rattle.std.proofs.Common.{ℕ, List, subst}
-use Rattle.job_script.specs.Writing.{Prints}
+use Rattle.line_text.specs.Writing.{Prints}
 use Rattle.mvs_job.proofs.Numbers.{none_text, some_text}
 use Rattle.mvs_job.proofs.reports.print_subpools.Goals as goal
 

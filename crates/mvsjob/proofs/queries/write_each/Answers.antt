@@ -1,6 +1,6 @@
 use Rattle.std.proofs.Common.{[], ◌∙◌}
 use Rattle.std.proofs.lemmas.Result.{err_from_is_err_and}
-use Rattle.job_script.proofs.Appending.{lines_more, lines_front}
+use Rattle.line_text.proofs.Appending.{lines_more, lines_front}
 use Rattle.mvsjob.specs.Queries.{question}
 use Rattle.mvsjob.proofs.queries.write_each.Goals as goal
 

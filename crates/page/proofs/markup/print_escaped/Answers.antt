@@ -1,7 +1,7 @@
 use Rattle.std.proofs.Common.{get_or, []}
 use Rattle.std.proofs.lemmas.Result.{err_from_is_err_and}
 use Rattle.std.proofs.lemmas.List.{get_or_default}
-use Rattle.job_script.proofs.Appending.{lines_front}
+use Rattle.line_text.proofs.Appending.{lines_front}
 use Rattle.page.specs.Markup.{escaped_byte}
 use Rattle.page.proofs.markup.print_escaped.Goals as goal
 

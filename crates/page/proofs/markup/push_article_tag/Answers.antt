@@ -1,6 +1,6 @@
 use Rattle.std.proofs.Common.{◌++◌, codes, decimal}
 use Rattle.page.specs.Markup.{escaped}
-use Rattle.job_script.proofs.Appending.{trailing}
+use Rattle.line_text.proofs.Appending.{trailing}
 use Rattle.page.proofs.markup.push_article_tag.Goals as goal
 
 pub returns : goal.returns

@@ -1,7 +1,9 @@
-use Rattle.std.proofs.Common.{◌≡◌, ◌++◌, take}
-use Rattle.std.specs.List.{flat_map}
-use Rattle.page.specs.Markup.{escaped_byte}
+use Rattle.std.proofs.Common.{◌≡◌, ◌++◌, length}
+use Rattle.page.specs.Markup.{escaped}
 use Rattle.page.proofs.markup.push_escaped.Given as goal
 
-abbrev pub invariant-loop-byte : goal.invariant-loop-byte
-invariant-loop-byte l = l.item.items ≡ l.initial.item.items ++ flat_map escaped_byte (take l.byte-index l.text)
+abbrev pub invariant-runs : goal.invariant-runs
+invariant-runs l = l.item.items ++ escaped l.rest ≡ l.initial.item.items ++ escaped l.text
+
+abbrev pub decreases-runs : goal.decreases-runs
+decreases-runs l = length l.rest

@@ -1,6 +1,6 @@
 use Rattle.std.proofs.Common.{◌++◌, codes, decimal, ap, ◌∙◌}
 use Rattle.page.specs.Markup.{article_tag, escaped, shown_line}
-use Rattle.job_script.proofs.Appending.{trailing}
+use Rattle.line_text.proofs.Appending.{trailing}
 use Rattle.page.proofs.markup.push_head.Goals as goal
 
 pub returns : goal.returns

@@ -1,6 +1,6 @@
 use Rattle.std.proofs.Common.{◌++◌, codes}
 use Rattle.page.specs.Markup.{escaped, words_of}
-use Rattle.job_script.proofs.Appending.{trailing}
+use Rattle.line_text.proofs.Appending.{trailing}
 use Rattle.page.proofs.markup.push_tail.Goals as goal
 
 pub returns : goal.returns

@@ -3,7 +3,7 @@ use Rattle.std.proofs.KnownBytes.{Keeps-refl}
 use Rattle.std.proofs.lemmas.List.{take_rest}
 use Rattle.std.specs.Io.KnownBytes.{Appends}
 use Rattle.mvs_model.specs.declared.outcome.Outcome.TheVariants.{ScriptFault}
-use Rattle.job_script.specs.Writing.{AppendsFront}
+use Rattle.line_text.specs.Writing.{AppendsFront}
 use Rattle.mvs_job.specs.LineEvents.{closing}
 use Rattle.mvs_job.proofs.LineEnd.{none_left}
 use Rattle.page.proofs.Paged.{line_fault, line_gave_up, line_on, shows, so_far_end, so_far_in_end, so_far_no_end, so_far_start}

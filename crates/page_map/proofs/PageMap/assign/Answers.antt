@@ -1,5 +1,4 @@
-use Rattle.std.proofs.Common.{◌≡◌, ◌<◌, ◌+◌, Some, length, sym, ap, ◌∙◌, arith}
-use Rattle.page_map.specs.Codes.{free_codes, page_owners}
+use Rattle.std.proofs.Common.{Some, length, sym, ap, ◌∙◌, arith}
 use Rattle.page_map.specs.Owners.{owner_of}
 use Rattle.page_map.proofs.Counting.{are_set, free_code_of, one_less}
 use Rattle.page_map.proofs.Decoding.{decoded_some, length_is, owner_set}

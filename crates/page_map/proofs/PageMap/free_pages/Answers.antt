@@ -1,4 +1,4 @@
-use Rattle.std.proofs.Common.{◌≡◌, ◌∙◌, arith}
+use Rattle.std.proofs.Common.{◌∙◌, arith}
 use Rattle.page_map.proofs.Counting.{free_counted, few_free}
 use Rattle.page_map.proofs.PageMap.free_pages.Goals as goal
 

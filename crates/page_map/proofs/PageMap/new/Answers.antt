@@ -1,7 +1,9 @@
-use Rattle.std.proofs.Common.{ap, ◌∙◌}
+use Rattle.std.proofs.Common.{◌≡◌, ap, ◌∙◌, replicate, rules}
 use Rattle.page_map.specs.Codes.{page_owners}
 use Rattle.page_map.proofs.Decoding.{all_free}
 use Rattle.page_map.proofs.PageMap.new.Goals as goal
 
-pub returns-in-Ok-clause-free : goal.returns-in-Ok-clause-free
-returns-in-Ok-clause-free c = ap page_owners (c.in-Ok.ensures.items_if_clones_equal (λ y e. e)) ∙ all_free c.args.pages
+pub returns-clause-free : goal.returns-clause-free
+returns-clause-free c =
+    let free : c.in_ok-owners.owners.items ≡ replicate c.args.pages 65535 = search rules in
+    ap page_owners free ∙ all_free c.args.pages

@@ -1,7 +1,7 @@
 use Rattle.std.proofs.Common.{◌≡◌, ◌++◌, ◌∙◌, ap, inl, inr, refl, sym, subst, []}
 use Rattle.std.proofs.KnownBytes.{Appends-trans, Keeps-refl}
 use Rattle.std.proofs.lemmas.Result.{err_from_is_err_and}
-use Rattle.job_script.proofs.Appending.{front_more}
+use Rattle.line_text.proofs.Appending.{front_more}
 use Rattle.mvs_job.specs.LineEvents.{events_of_line}
 use Rattle.mvs_job.proofs.Serving.{err_of}
 use Rattle.area_history.specs.Chronicles.{IsHistory, history_of}

@@ -9,5 +9,5 @@ invariant-loop-k l = record {
   releases : (d : ℕ) → releases_at l.self d ≡ later_releases (nat_le l.first d && nat_lt d (l.first + l.k)) l.number (releases_at l.initial.self d);
   room : (d : ℕ) → has_room l.self.releases d ≡ has_room l.initial.self.releases d;
   count : l.self.count ≡ l.initial.self.count;
-  kept : l.self.others ≡ l.initial.self.others;
+  kept : l.self.owners ≡ l.initial.self.owners;
 }

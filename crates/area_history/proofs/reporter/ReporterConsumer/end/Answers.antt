@@ -2,7 +2,7 @@ use Rattle.std.proofs.Common.{◌≡◌, ◌++◌, ◌∙◌, Some, ap, inl, inr
 use Rattle.std.specs.Prelude.{is_some}
 use Rattle.std.proofs.KnownBytes.{Appends-trans}
 use Rattle.std.proofs.lemmas.Result.{err_from_is_err_and}
-use Rattle.job_script.proofs.Appending.{front_longer, front_more}
+use Rattle.line_text.proofs.Appending.{front_longer, front_more}
 use Rattle.mvs_job.specs.declared.consumer.End.TheVariants as end
 use Rattle.mvs_job.specs.Consuming.{EndsIn, IsEnd}
 use Rattle.mvs_job.proofs.Strictly.{result_maps}

@@ -1,7 +1,9 @@
-use Rattle.std.proofs.Common.{ap}
+use Rattle.std.proofs.Common.{◌≡◌, [], ap, rules}
 use Rattle.cell_pool.specs.Entries.{roots_of}
 use Rattle.cell_pool.proofs.pools.Pools.new.Goals as goal
 
-pub returns-in-Ok : goal.returns-in-Ok
+pub returns : goal.returns
 unfolding roots_of
-returns-in-Ok c = ap roots_of c.in-Ok.ensures.empty
+returns c =
+    let empty : c.in_ok-entries.entries.slots ≡ [] = search rules in
+    ap roots_of empty

@@ -1,7 +1,7 @@
 use Rattle.std.proofs.Common.{List, ℕ, subst, sym}
 use Rattle.std.proofs.lemmas.Result.{err_from_is_err_and}
-use Rattle.job_script.specs.Writing.{AppendsFront}
-use Rattle.job_script.proofs.Appending.{front_longer}
+use Rattle.line_text.specs.Writing.{AppendsFront}
+use Rattle.line_text.proofs.Appending.{front_longer}
 use Rattle.mvs_job.proofs.ExplainedLine.{text_after_printing, text_of_fault, text_begins_with_printing}
 use Rattle.mvs_job.proofs.Serving.{both_written}
 use Rattle.mvs_job.proofs.explained.Explained.print.Goals as goal

@@ -1,8 +1,8 @@
 use Rattle.std.proofs.Common.{List, ap, subst, ◌∙◌}
 use Rattle.std.specs.List.{flat_map}
 use Rattle.mvs_model.specs.declared.fact.Fact.{Fact}
-use Rattle.job_script.specs.FactTexts.{fact_line}
-use Rattle.job_script.specs.Writing.{Prints}
+use Rattle.explanation.specs.FactTexts.{fact_line}
+use Rattle.line_text.specs.Writing.{Prints}
 use Rattle.mvs_job.specs.declared.why.Why.{Why}
 use Rattle.mvs_job.proofs.why.Why.print_done.Goals as goal
 

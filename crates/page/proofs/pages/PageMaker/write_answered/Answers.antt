@@ -1,6 +1,6 @@
 use Rattle.std.proofs.Common.{subst}
 use Rattle.std.specs.Io.KnownBytes.{Appends}
-use Rattle.job_script.specs.Writing.{AppendsFront}
+use Rattle.line_text.specs.Writing.{AppendsFront}
 use Rattle.page.proofs.Served.{item_cut, item_written}
 use Rattle.page.proofs.pages.PageMaker.write_answered.Goals as goal
 

@@ -13,7 +13,7 @@ next_free-requires-clause-queue c =
 pub overflow_add-result : goal.overflow_add-result
 overflow_add-result c =
     let walk = c.requires.queue in let m = c.args.self.now in let page = c.args.page in let from = c.args.from in
-    let found = first_run walk.0 c.in-Some.at c.in-Some.len (c.in-Some.ensures walk.0 (subst (λ (g : MemoryState). Queue 0 (page_of g.bytes c.args.page) c.args.queue walk.0) (sym c.self.view_is) (walk_queue c.args.self.now c.args.page c.args.from c.args.queue c.requires.from walk))) in
+    let found = first_run walk.0 c.in_ok-at.at c.in_ok-at.len (c.in_ok-at.ensures walk.0 (subst (λ (g : MemoryState). Queue 0 (page_of g.bytes c.args.page) c.args.queue walk.0) (sym c.self.view_is) (walk_queue c.args.self.now c.args.page c.args.from c.args.queue c.requires.from walk))) in
     let r = found.0 in let splits = walk_splits m page from c.args.queue c.requires.from walk r found.1 found.2 in
     let up = splits.0 in
     record { fits = omega (arith, up.2, found.3, found.4) }
@@ -21,22 +21,22 @@ overflow_add-result c =
 pub next_head-requires-clause-queue : goal.next_head-requires-clause-queue
 next_head-requires-clause-queue c =
     let walk = c.requires.queue in let m = c.args.self.now in let page = c.args.page in let from = c.args.from in
-    let found = first_run walk.0 c.in-Some.at c.in-Some.len (c.in-Some.ensures walk.0 (subst (λ (g : MemoryState). Queue 0 (page_of g.bytes c.args.page) c.args.queue walk.0) (sym c.self.view_is) (walk_queue c.args.self.now c.args.page c.args.from c.args.queue c.requires.from walk))) in
+    let found = first_run walk.0 c.in_ok-at.at c.in_ok-at.len (c.in_ok-at.ensures walk.0 (subst (λ (g : MemoryState). Queue 0 (page_of g.bytes c.args.page) c.args.queue walk.0) (sym c.self.view_is) (walk_queue c.args.self.now c.args.page c.args.from c.args.queue c.requires.from walk))) in
     let r = found.0 in let splits = walk_splits m page from c.args.queue c.requires.from walk r found.1 found.2 in
     (8 * from - 4096 * page, r, found.1, subst (λ (g : MemoryState). Queue (8 * from - 4096 * page) (page_of g.bytes page) c.args.queue (r ∷ found.1)) (sym c.self.view_is) splits)
 
-pub returns-in_default : goal.returns-in_default
-returns-in_default c =
+pub returns-in_err-at : goal.returns-in_err-at
+returns-in_err-at c =
     let walk = c.requires.queue in
-    walk_ends c.args.self.now c.args.page c.args.from c.args.queue c.requires.from walk
-    (c.in_default.ensures walk.0 (subst (λ (g : MemoryState). Queue 0 (page_of g.bytes c.args.page) c.args.queue walk.0) (sym c.self.view_is) (walk_queue c.args.self.now c.args.page c.args.from c.args.queue c.requires.from walk)))
+    rw c.from_residual.ensures (walk_ends c.args.self.now c.args.page c.args.from c.args.queue c.requires.from walk
+    (c.in_err-at.ensures walk.0 (subst (λ (g : MemoryState). Queue 0 (page_of g.bytes c.args.page) c.args.queue walk.0) (sym c.self.view_is) (walk_queue c.args.self.now c.args.page c.args.from c.args.queue c.requires.from walk))))
 
 pub returns : goal.returns
 returns c =
     let walk = c.requires.queue in let m = c.args.self.now in let page = c.args.page in let from = c.args.from in
-    let found = first_run walk.0 c.in-Some.at c.in-Some.len (c.in-Some.ensures walk.0 (subst (λ (g : MemoryState). Queue 0 (page_of g.bytes c.args.page) c.args.queue walk.0) (sym c.self.view_is) (walk_queue c.args.self.now c.args.page c.args.from c.args.queue c.requires.from walk))) in
+    let found = first_run walk.0 c.in_ok-at.at c.in_ok-at.len (c.in_ok-at.ensures walk.0 (subst (λ (g : MemoryState). Queue 0 (page_of g.bytes c.args.page) c.args.queue walk.0) (sym c.self.view_is) (walk_queue c.args.self.now c.args.page c.args.from c.args.queue c.requires.from walk))) in
     let r = found.0 in let splits = walk_splits m page from c.args.queue c.requires.from walk r found.1 found.2 in
-    let up = splits.0 in let at = c.in-Some.at in let len = c.in-Some.len in
+    let up = splits.0 in let at = c.in_ok-at.at in let len = c.in_ok-at.len in
     let queue = c.next_head.ensures (8 * from - 4096 * page) r found.1 (subst (λ (g : MemoryState). Queue (8 * from - 4096 * page) (page_of g.bytes page) c.args.queue (r ∷ found.1)) (sym c.self.view_is) splits) in
     let on = walk_on m page from c.args.queue c.requires.from walk r found.1 found.2 c.next_head.result (subst (λ (g : MemoryState). Queue (r.from + r.len + 1) (page_of g.bytes page) c.next_head.result found.1) c.self.view_is queue) in
     let is : 512 * page + r.from / 8 + r.len / 8 ≡ 512 * page + (at + len) / 8 = omega (arith, up.4, up.5, found.3, found.4) in

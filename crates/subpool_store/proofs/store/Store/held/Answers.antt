@@ -8,7 +8,7 @@ pub returns-then-get-lt-ABOVE_BEGINS-clause-held : goal.returns-then-get-lt-ABOV
 returns-then-get-lt-ABOVE_BEGINS-clause-held c = let s = c.self.inside in c.holder.ensures ∙ sym (low_holder s.below s.above s.fill (c.args.addr / 8) (omega arith)) ∙ ap (λ t. holder t (c.args.addr / 8)) (stored c.self.view_is)
 
 pub returns-then-get-lt-ABOVE_BEGINS-clause-storage : goal.returns-then-get-lt-ABOVE_BEGINS-clause-storage
-returns-then-get-lt-ABOVE_BEGINS-clause-storage c = let s = c.self.inside in subst IsStorage (stored c.self.view_is) (storage_of s.below s.above s.fill c.self.invariant)
+returns-then-get-lt-ABOVE_BEGINS-clause-storage c = let s = c.self.inside in subst IsStorage (stored c.self.view_is) (storage_of s.below s.above s.fill c.self.invariant.0)
 
 pub returns-else-get-lt-ABOVE_BEGINS-clause-held : goal.returns-else-get-lt-ABOVE_BEGINS-clause-held
 returns-else-get-lt-ABOVE_BEGINS-clause-held c =
@@ -18,4 +18,4 @@ returns-else-get-lt-ABOVE_BEGINS-clause-held c =
     c.holder-else-get-lt-ABOVE_BEGINS.ensures ∙ sym (high_holder s.below s.above s.fill (c.args.addr / 8) (omega arith) (omega arith)) ∙ ap (λ t. holder t (c.args.addr / 8)) (stored c.self.view_is)
 
 pub returns-else-get-lt-ABOVE_BEGINS-clause-storage : goal.returns-else-get-lt-ABOVE_BEGINS-clause-storage
-returns-else-get-lt-ABOVE_BEGINS-clause-storage c = let s = c.self.inside in subst IsStorage (stored c.self.view_is) (storage_of s.below s.above s.fill c.self.invariant)
+returns-else-get-lt-ABOVE_BEGINS-clause-storage c = let s = c.self.inside in subst IsStorage (stored c.self.view_is) (storage_of s.below s.above s.fill c.self.invariant.0)

@@ -11,11 +11,11 @@ returns-then-not-has_addresses-clause-holds c =
     let some : 1 ≤ p.len = c.has_addresses.ensures.some in
     let past : 2147483648 < p.addr + p.len = c.if-not-has_addresses.ensures.within in (
       λ yes. absurd (let e : false ≡ true = yes in cc),
-      λ held. absurd (let low : last < 268435456 = held_small s.below s.above s.fill c.args.self.now.storage c.self.invariant (stored c.self.view_is) last c.args.subpool (held last (omega arith, omega arith)) in omega arith),
+      λ held. absurd (let low : last < 268435456 = held_small s.below s.above s.fill c.args.self.now.storage c.self.invariant.0 (stored c.self.view_is) last c.args.subpool (held last (omega arith, omega arith)) in omega arith),
     )
 
 pub returns-then-not-has_addresses-clause-storage : goal.returns-then-not-has_addresses-clause-storage
-returns-then-not-has_addresses-clause-storage c = let s = c.self.inside in subst IsStorage (stored c.self.view_is) (storage_of s.below s.above s.fill c.self.invariant)
+returns-then-not-has_addresses-clause-storage c = let s = c.self.inside in subst IsStorage (stored c.self.view_is) (storage_of s.below s.above s.fill c.self.invariant.0)
 
 pub returns-clause-holds : goal.returns-clause-holds
 returns-clause-holds c = (

@@ -1,34 +1,57 @@
-use Rattle.std.proofs.Common.{◌<◌, ◌≡◌, ap, subst, Some, arith}
-use Rattle.subpool_store.specs.Joined.{Taken, store_of}
-use Rattle.subpool_store.proofs.Both.{storage_of, new_below, new_above}
-use Rattle.subpool_store.proofs.Choice.{open_in_below, open_in_above, open_high, below_taken, above_taken}
+use Rattle.std.proofs.Common.{◌≡◌, ◌+◌, ◌≤◌, sym, ap, ◌∙◌, subst, arith}
+use Rattle.std.specs.FinMap.{get}
+use Rattle.mvs_model.specs.Storage.{Open, holder}
+use Rattle.subpool_store.specs.Joined.{all_held, regions_of}
+use Rattle.subpool_store.specs.SubpoolCounts.{assigned_pages}
+use Rattle.subpool_store.proofs.Both.{storage_of}
+use Rattle.subpool_store.proofs.CountedStore.{taken_pages, taken_held, taken_counts}
+use Rattle.subpool_store.proofs.Recounting.{few_held, few_pages}
 use Rattle.subpool_store.proofs.Value.{stored}
 use Rattle.subpool_store.proofs.store.Store.take.Goals as goal
+use Rattle.subpool_store.proofs.store.Store.take.Goals.{After-take_in, After-free_pages}
 
-pub take-requires-clause-open : goal.take-requires-clause-open
-take-requires-clause-open c = let s = c.self.inside in let low : c.args.place.addr < 0x1000000 = omega (arith, c.if-is_below.ensures.below) in open_in_below s.below s.above s.fill c.args.self.now.storage c.self.invariant (stored c.self.view_is) c.args.subpool c.args.place c.requires.some low c.requires.open
+-- the place is open in the two regions
+is_open : (c : After-take_in) → Open (regions_of c.self.inside.below c.self.inside.above c.self.inside.fill) (get (all_held c.self.inside.below c.self.inside.above)) c.args.subpool c.args.place
+is_open c = subst (λ t. Open t.regions (holder t) c.args.subpool c.args.place) (sym (stored c.self.view_is)) c.requires.open
 
-pub take-requires-else-is_below-clause-open : goal.take-requires-else-is_below-clause-open
-take-requires-else-is_below-clause-open c = let s = c.self.inside in let high = open_high s.below s.above s.fill c.args.self.now.storage c.self.invariant (stored c.self.view_is) c.args.subpool c.args.place c.requires.some c.if-is_below.ensures.below c.requires.open in open_in_above s.below s.above s.fill c.args.self.now.storage c.self.invariant (stored c.self.view_is) c.args.subpool c.args.place c.requires.some high c.requires.open
-
-pub returns-then-is_below-clause-taken : goal.returns-then-is_below-clause-taken
-returns-then-is_below-clause-taken c =
+-- the pages of the subpool afterwards
+pages_are : (c : After-free_pages) → assigned_pages (regions_of c.self.inside.below c.self.inside.above c.self.inside.fill) (get (all_held c.take_in.new.below c.take_in.new.above)) c.args.subpool + c.free_pages.result ≡ c.get-count.result.pages + c.free_pages-free.result
+pages_are c =
     let s = c.self.inside in
-    let low : c.args.place.addr < 0x1000000 = omega (arith, c.if-is_below.ensures.below) in
-    let fill : s.fill ≡ c.args.self.now.storage.regions.fill = ap (λ t. t.regions.fill) (stored c.self.view_is) in
-    subst (λ f. Taken c.args.self.now.storage c.args.place (Some c.args.subpool) (Some f) (store_of c.take.new.self s.above s.fill)) fill
-    (below_taken s.below s.above s.fill c.args.self.now.storage c.self.invariant (stored c.self.view_is) c.args.subpool c.args.place c.requires.some _ _ _ (open_in_below s.below s.above s.fill c.args.self.now.storage c.self.invariant (stored c.self.view_is) c.args.subpool c.args.place c.requires.some low c.requires.open).inside c.take.ensures.taken)
+    let n = c.take_in.new in
+    let some : 1 ≤ c.args.place.len = omega arith in
+    let sums = taken_pages s.below s.above n.below n.above s.fill c.args.subpool c.args.place c.self.invariant.0 c.take_in.ensures.both c.requires.whole some s.counts c.self.invariant.1 (is_open (goal.at.After-free_pages c).After-take_in) c.take_in.ensures.taken
+    c.free_pages-free.result c.free_pages.result (c.free_pages-free.ensures.free s.fill c.self.invariant.0) (c.free_pages.ensures.free s.fill c.take_in.ensures.both) in
+    sums ∙ ap (λ t. t.pages + c.free_pages-free.result) (sym c.get-count.ensures)
 
-pub returns-then-is_below-clause-storage : goal.returns-then-is_below-clause-storage
-returns-then-is_below-clause-storage c = let s = c.self.inside in storage_of c.take.new.self s.above s.fill (new_below s.below s.above c.take.new.self c.self.invariant c.take.ensures.taken.first c.take.ensures.taken.pages c.take.ensures.sound)
-
-pub returns-else-is_below-clause-taken : goal.returns-else-is_below-clause-taken
-returns-else-is_below-clause-taken c =
+pub overflow_add-pages : goal.overflow_add-pages
+overflow_add-pages c =
     let s = c.self.inside in
-    let high = open_high s.below s.above s.fill c.args.self.now.storage c.self.invariant (stored c.self.view_is) c.args.subpool c.args.place c.requires.some c.if-is_below.ensures.below c.requires.open in
-    let fill : s.fill ≡ c.args.self.now.storage.regions.fill = ap (λ t. t.regions.fill) (stored c.self.view_is) in
-    subst (λ f. Taken c.args.self.now.storage c.args.place (Some c.args.subpool) (Some f) (store_of s.below c.take-else-is_below.new.self s.fill)) fill
-    (above_taken s.below s.above s.fill c.args.self.now.storage c.self.invariant (stored c.self.view_is) c.args.subpool c.args.place c.requires.some _ _ _ (open_in_above s.below s.above s.fill c.args.self.now.storage c.self.invariant (stored c.self.view_is) c.args.subpool c.args.place c.requires.some high c.requires.open).inside c.take-else-is_below.ensures.taken)
+    let few : s.above.pages ≤ 8192 = c.self.invariant.0.few_above in
+    let few_low : s.below.pages ≤ 2048 = c.self.invariant.0.few_below in
+    omega (arith, ap (λ t. t.pages) c.get-count.ensures, c.self.invariant.1.pages c.args.subpool, few_pages (regions_of s.below s.above s.fill) (get (all_held s.below s.above)) c.args.subpool, c.free_pages-free.ensures.most)
 
-pub returns-else-is_below-clause-storage : goal.returns-else-is_below-clause-storage
-returns-else-is_below-clause-storage c = let s = c.self.inside in let t = c.take-else-is_below in storage_of s.below c.take-else-is_below.new.self s.fill (new_above s.below s.above c.take-else-is_below.new.self c.self.invariant c.take-else-is_below.ensures.taken.first c.take-else-is_below.ensures.taken.pages c.take-else-is_below.ensures.sound)
+pub overflow_sub-pages : goal.overflow_sub-pages
+overflow_sub-pages c = omega (arith, pages_are c)
+
+pub overflow_add-held : goal.overflow_add-held
+overflow_add-held c =
+    let s = c.self.inside in
+    let few : s.above.pages ≤ 8192 = c.self.invariant.0.few_above in
+    omega (arith, ap (λ t. t.held) c.get-count.ensures, c.self.invariant.1.held c.args.subpool, few_held (regions_of s.below s.above s.fill) (get (all_held s.below s.above)) c.args.subpool)
+
+pub invariant_of-self : goal.invariant_of-self
+invariant_of-self c =
+    let s = c.self.inside in
+    let n = c.take_in.new in
+    let some : 1 ≤ c.args.place.len = omega arith in
+    let opened = is_open (goal.at.invariant_of-self c).After-take_in in
+    let sums = pages_are (goal.at.invariant_of-self c).After-free_pages in
+    let held = taken_held s.below s.above n.below n.above s.fill c.args.subpool c.args.place c.self.invariant.0 c.take_in.ensures.both c.requires.whole some s.counts c.self.invariant.1 opened c.take_in.ensures.taken in (
+      c.take_in.ensures.both,
+      taken_counts s.below s.above n.below n.above s.fill c.args.subpool c.args.place c.self.invariant.0 c.take_in.ensures.both c.requires.whole some s.counts c.self.invariant.1 opened c.take_in.ensures.taken
+          c.set.new.self _ c.set.ensures (omega (arith, sums)) (omega (arith, held, ap (λ t. t.held) c.get-count.ensures, c.len.ensures.len)),
+    )
+
+pub returns-clause-storage : goal.returns-clause-storage
+returns-clause-storage c = storage_of c.take_in.new.below c.take_in.new.above c.self.inside.fill c.take_in.ensures.both

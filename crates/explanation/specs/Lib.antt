@@ -1,0 +1,3 @@
+pub mod ReasonTexts
+pub mod FactTexts
+pub mod NamingTexts

@@ -1,4 +1,0 @@
-use Rattle.job_script.proofs.text.LineText.+push_last.Given as goal
-
-abbrev pub decreases-push_last : goal.decreases-push_last
-decreases-push_last l = l.digits

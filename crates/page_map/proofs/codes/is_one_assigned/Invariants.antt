@@ -1,6 +1,0 @@
-use Rattle.std.proofs.Common.{is_some, ◌≡◌, ◌<◌, ℕ, false, slice_index_or}
-use Rattle.page_map.specs.Codes.{decoded, free_code}
-use Rattle.page_map.proofs.codes.is_one_assigned.Given as goal
-
-abbrev pub invariant-loop-code : goal.invariant-loop-code
-invariant-loop-code l = l.found ≡ false → (p : ℕ) → p < l.code-index → is_some (decoded (slice_index_or l.codes p free_code)) ≡ false
