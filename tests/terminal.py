@@ -527,51 +527,56 @@ PASTED = 2000
 
 def edited(window, columns):
     """A session of mvsjob-shell, in a window of this width."""
-    yield f"{columns} columns, the banner", window.shows("or Ctrl-D to end")
-    for name, (keys, texts) in EDITED.items():
+    yield window.shows("or Ctrl-D to end")
+    for keys, texts in EDITED.values():
         window.keys(*keys)
-        yield f"{columns} columns, {name}", all(map(window.shows, texts))
+        yield all(map(window.shows, texts))
     history = window.folder / "state/mvsjob/history"
-    yield f"{columns} columns, the history file", soon(lambda: history.exists() and "JOB REGION BELOW=1\n" in history.read_text())
-    yield f"{columns} columns, nothing is left", soon(window.has_ended)
+    yield soon(lambda: history.exists() and "JOB REGION BELOW=1\n" in history.read_text())
+    yield soon(window.has_ended)
 
 
-def pasted_in(window):
+def pasted_in(window, _):
     """A paste of many lines."""
     window.shows("1>")
     window.paste("JOB REGION BELOW=1\n" + "* a comment\n" * (PASTED - 2) + "JOB WHERE X\n")
-    yield "a paste in mvsjob-shell", window.shows(f"{PASTED} JOB NO NAME")
+    yield window.shows(f"{PASTED} JOB NO NAME")
     window.keys("C-d")
-    yield "Ctrl-D in mvsjob-shell", window.shows("STEP ENDED RC 0")
+    yield window.shows("STEP ENDED RC 0")
 
 
-def killed(window):
+def killed(window, _):
     """A window that is closed while a line is typed."""
     window.shows("1>")
     window.keys("JOB REGION")
     window.shows("JOB REGION")
     window.close()
-    yield "a closed window of mvsjob-shell", soon(window.has_ended)
+    yield soon(window.has_ended)
 
 
-WINDOWS = {
-    "80 columns": (80, lambda window: edited(window, 80)),
-    "40 columns": (40, lambda window: edited(window, 40)),
-    "a paste": (80, pasted_in),
-    "a closed window": (80, killed),
-}
+def edited_cases(columns):
+    return [f"{columns} columns, {case}" for case in ("the banner", *EDITED, "the history file", "nothing is left")]
+
+
+# The windows: their widths, what is tried in them, and the names of the cases.
+WINDOWS = (
+    (80, edited, edited_cases(80)),
+    (40, edited, edited_cases(40)),
+    (80, pasted_in, ["a paste in mvsjob-shell", "Ctrl-D in mvsjob-shell"]),
+    (80, killed, ["a closed window of mvsjob-shell"]),
+)
 
 
 def windows(program):
-    for name, (columns, tries) in WINDOWS.items():
-        lacks = next((tool for tool in ("tmux", "rlwrap") if not shutil.which(tool)), None)
+    lacks = next((tool for tool in ("tmux", "rlwrap") if not shutil.which(tool)), None)
+    for columns, tries, cases in WINDOWS:
         if lacks:
-            yield f"{name} of mvsjob-shell", Lacking(lacks)
+            yield from ((case, Lacking(lacks)) for case in cases)
             continue
         with tempfile.TemporaryDirectory() as folder:
             window = Window(program, folder, columns)
             try:
-                yield from tries(window)
+                yield from zip(cases, tries(window, columns), strict=True)
             finally:
                 window.close()
 
