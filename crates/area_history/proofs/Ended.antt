@@ -29,8 +29,7 @@ use Rattle.mvs_model.proofs.Tests.{false_true, true_false}
 use Rattle.mvs_job.specs.declared.walk.LineEvent.{LineEvent}
 use Rattle.mvs_job.specs.declared.walk.LineEvent.TheVariants as events
 use Rattle.mvs_job.specs.Consuming.{IsEntry}
-use Rattle.mvs_job.specs.Granting.{IsReadIn}
-use Rattle.mvs_job.specs.LineEvents.{ServesAs, WalkValue, ended, events_of_line, full_answer_in}
+use Rattle.mvs_job.specs.LineEvents.{IsReadIn, ServesAs, WalkValue, ended, events_of_line, full_answer_in}
 use Rattle.mvs_job.specs.Observing.{Fails, Hearing, Observes, ObservesLine, Passes, is_end}
 use Rattle.mvs_job.specs.Trace.{Entry}
 use Rattle.mvs_job.proofs.AfterLines.{answered_does}
@@ -51,7 +50,7 @@ read_is step job bytes read said is reads of = at (subst (λ o. IsReadIn o bytes
   at (inl h) = one_reading.one_line false bytes read said h of
   at (inr (fault, here, nothing)) = absurd (one_reading.not_both false bytes said fault of here)
 
-module _ (job later : JobValue) (bytes : List ℕ) (t : Name) (mid after : Account) (sees : Sees mid (Some job) bytes) (y : Answer) (ends : is_end y ≡ true) (root : has (same_name t) mid.root ≡ true) where
+module _ (job later : JobValue) (bytes : List ℕ) (read : Line) (reads : IsReadIn (Some job) bytes read) (t : Name) (mid after : Account) (sees : Sees mid (Some job) read) (y : Answer) (ends : is_end y ≡ true) (root : has (same_name t) mid.root ≡ true) where
   abbrev Settled : Type 0
   Settled = IsSettled after (Some job)
 
@@ -60,9 +59,9 @@ module _ (job later : JobValue) (bytes : List ℕ) (t : Name) (mid after : Accou
 
   passes : (q : SourceRequest) (r : Request) → LineOf false bytes (line.Statement t (says.Request q)) → resolved job.names q ≡ Some r → Passes mid job t r y after → Settled
   passes q r of is h =
-      let read = read_is (Some job) job bytes mid.read (line.Statement t (says.Request q)) refl sees.read of in
+      let same = read_is (Some job) job bytes read (line.Statement t (says.Request q)) refl reads of in
       let returns = is_return job.names q (is ∙ ap (λ x. Some x) (h.3 ends)) in
-      subst (λ (a : Account). IsSettled a (Some job)) (sym h.0) (sees.found (ap (may_end mid.root) read ∙ ap (λ x. may_end mid.root (line.Statement t (says.Request x))) returns ∙ root))
+      subst (λ (a : Account). IsSettled a (Some job)) (sym h.0) (sees (ap (may_end mid.root) same ∙ ap (λ x. may_end mid.root (line.Statement t (says.Request x))) returns ∙ root))
 
   asked : (q : SourceRequest) → LineOf false bytes (line.Statement t (says.Request q)) → (v : Option Request) → resolved job.names q ≡ v → Asks Any job t q v y later → MatchOption v (after ≡ mid) (λ r. Passes mid job t r y after ⊎ Fails observed mid job t r y after) → Settled
   asked q of None is does same = never answer.NoName does.0 refl
@@ -100,17 +99,20 @@ both_true : (a b : Bool) → (a && b) ≡ true → (a ≡ true) × (b ≡ true)
 both_true true b h = (refl, h)
 both_true false b h = false_true h
 
-module _ (n : ℕ) (bytes : List ℕ) (w : WalkValue) (e : Entry) (mid after : Account) (sees : Sees mid e.before bytes) where
-  answered : (t : Name) (s : Statement) (job later : JobValue) (y : Answer) → e.before ≡ Some job → w.step ≡ Some later → LineOf (is_first e.before) bytes (line.Statement t s) → Observes observed mid job t s y after
+module _ (n : ℕ) (bytes : List ℕ) (w : WalkValue) (e : Entry) (mid after : Account) (sees : Sees mid e.before w.read) where
+  answered : IsReadIn e.before bytes w.read → (t : Name) (s : Statement) (job later : JobValue) (y : Answer) → e.before ≡ Some job → w.step ≡ Some later → LineOf (is_first e.before) bytes (line.Statement t s) → Observes observed mid job t s y after
       → Serves machine n e.before (line.Statement t s) (AnswerTo n t y ∷ []) w.step → is_end y ≡ true → has (same_name t) mid.root ≡ true → IsSettled after e.before
-  answered t s job later y is new of heard serves ends root =
+  answered reads t s job later y is new of heard serves ends root =
       let does = answered_does n job later t s y (subst (λ o. Serves machine n o (line.Statement t s) (AnswerTo n t y ∷ []) (Some later)) is (subst (λ o. Serves machine n e.before (line.Statement t s) (AnswerTo n t y ∷ []) o) new serves)) in
       subst (λ o. IsSettled after o) (sym is)
-      (statement_settled job later bytes t mid after (subst (λ o. Sees mid o bytes) is sees) y ends root s (subst (λ o. LineOf (is_first o) bytes (line.Statement t s)) is of) does.0 heard)
+      (statement_settled job later bytes w.read (subst (λ o. IsReadIn o bytes w.read) is reads) t mid after (subst (λ o. Sees mid o w.read) is sees) y ends root s (subst (λ o. LineOf (is_first o) bytes (line.Statement t s)) is of) does.0 heard)
 
   -- whatever the line led to
   pub settled_at_end : (t : LineEvent) → IsEntry n bytes w t e → ObservesLine observed mid e.before bytes t w after → ends_task mid.root e.events ≡ true → IsSettled after e.before
-  settled_at_end t is heard ends = at t (entry_serves n bytes w e t is) heard (subst (λ v. ends_task mid.root v ≡ true) is.events ends) where
+  settled_at_end t entry heard ends = at t (entry_serves n bytes w e t entry) heard (subst (λ v. ends_task mid.root v ≡ true) entry.events ends) where
+    reads : IsReadIn e.before bytes w.read
+    reads = entry.read
+
     at : (t : LineEvent) → ServesAs (before_it n bytes w e) bytes t w → ObservesLine observed mid e.before bytes t w after → ends_task mid.root (events_of_line n w t) ≡ true → IsSettled after e.before
     at events.Nothing serves h f = false_true f
     at (events.StepBegan None card) serves h f = false_true f
@@ -121,4 +123,4 @@ module _ (n : ℕ) (bytes : List ℕ) (w : WalkValue) (e : Entry) (mid after : A
         let same : full_answer_in w.step (ended_with_in w.reply) t a ≡ y = ap (λ o. full_answer_in o (ended_with_in w.reply) t a) new in
         let parts = both_true (is_end (full_answer_in w.step (ended_with_in w.reply) t a)) (has (same_name t) mid.root) f in
         let serves_it = subst (λ l. Serves machine n e.before l (AnswerTo n t (full_answer_in w.step (ended_with_in w.reply) t a) ∷ []) w.step) (one_reading.one_line (is_first e.before) bytes serves.0 (line.Statement t s) serves.1 of) serves.2 in
-        answered t s job later y is new of heard (subst (λ x. Serves machine n e.before (line.Statement t s) (AnswerTo n t x ∷ []) w.step) same serves_it) (sym (ap is_end same) ∙ parts.0) parts.1
+        answered reads t s job later y is new of heard (subst (λ x. Serves machine n e.before (line.Statement t s) (AnswerTo n t x ∷ []) w.step) same serves_it) (sym (ap is_end same) ∙ parts.0) parts.1

@@ -25,7 +25,6 @@ use Rattle.mvs_job.specs.declared.walk.LineEvent.TheVariants as events
 use Rattle.mvs_job.specs.declared.consumer.End.{End}
 use Rattle.mvs_job.specs.declared.consumer.End.TheVariants as end
 use Rattle.mvs_job.specs.Consuming.{IsEnd, IsEntry, IsOfLine, Piece, WritesUntil}
-use Rattle.mvs_job.specs.Granting.{IsReadIn}
 use Rattle.mvs_model.specs.declared.answer.Answer.{Answer as Short}
 use Rattle.mvs_job.specs.LineEvents.{WalkValue, events_of_line, full_answer_in, region_card}
 use Rattle.mvs_job.specs.Observing.{Fails, Hearing, Observes, ObservesLine, Passes}
@@ -33,7 +32,7 @@ use Rattle.mvs_job.specs.Trace.{Closed, Entry, Executed, Exhausted, Faulty, IsEx
 use Rattle.mvs_job.proofs.Hearing.{line_part, line_stays}
 use Rattle.area_history.specs.declared.chronicle.Chronicle.{Chronicle}
 use Rattle.area_history.specs.declared.historian.Historian.{Historian}
-use Rattle.area_history.specs.Chronicles.{HearsHistory, IsHistory, IsKept, SeesLine, history_of}
+use Rattle.area_history.specs.Chronicles.{HearsHistory, IsHistory, IsKept, history_of}
 use Rattle.line_text.proofs.Appending.{front_longer}
 use Rattle.mvs_job.specs.declared.printing.Stop.{Stop}
 use Rattle.mvs_job.specs.declared.printing.Stop.TheVariants as stop
@@ -137,16 +136,13 @@ module _ (mid after : Chronicle) (nothing : found_in mid.found ≡ nothing_found
 
 -- ---- a line that is kept
 
-module _ (n : ℕ) (bytes : List ℕ) (w : WalkValue) (t : LineEvent) (e : Entry) (is : IsEntry n bytes w t e) (mid self : Chronicle) (sees : SeesLine mid e.before bytes) (h : ObservesLine hears mid e.before bytes t w self) where
+module _ (n : ℕ) (bytes : List ℕ) (w : WalkValue) (t : LineEvent) (e : Entry) (is : IsEntry n bytes w t e) (mid self : Chronicle) (h : ObservesLine hears mid e.before bytes t w self) where
   pub history_stays : history_of self ≡ history_of mid
   history_stays = line_stays mid self (λ (c : Chronicle). history_of c) hears (λ job t request refusal left k. k.same) e.before bytes t w h
 
-  pub reads : IsReadIn e.before bytes self.read
-  reads = subst (IsReadIn e.before bytes) (sym (line_stays mid self (λ (c : Chronicle). c.read) hears (λ job t request refusal left k. k.read) e.before bytes t w h)) sees.read
-
   -- the history after the entry
-  pub next_history : (l : History) (new : Chronicle) → history_of mid ≡ l → IsKept self n (events_of_line n w t) w.step new → IsHistory new (history_after l e)
-  next_history l new same kept = at (begun e.events) (kept.areas ∙ ap (λ v. if is_some (begun v) then [] else self.areas ++ granted_by n self.read (events_of_line n w t) w.step) (sym is.events)) (kept.changes ∙ ap (λ v. if is_some (begun v) then [] else self.events ++ events_by n self.read (events_of_line n w t) w.step (length self.areas)) (sym is.events)) where
+  pub next_history : (l : History) (new : Chronicle) → history_of mid ≡ l → IsKept self n w.read (events_of_line n w t) w.step new → IsHistory new (history_after l e)
+  next_history l new same kept = at (begun e.events) (kept.areas ∙ ap (λ v. if is_some (begun v) then [] else self.areas ++ granted_by n w.read (events_of_line n w t) w.step) (sym is.events)) (kept.changes ∙ ap (λ v. if is_some (begun v) then [] else self.events ++ events_by n w.read (events_of_line n w t) w.step (length self.areas)) (sym is.events)) where
     is_l : history_of self ≡ l
     is_l = history_stays ∙ same
 
@@ -156,27 +152,27 @@ module _ (n : ℕ) (bytes : List ℕ) (w : WalkValue) (t : LineEvent) (e : Entry
     events_are : self.events ≡ l.events
     events_are = ap (λ (x : History). x.events) is_l
 
-    at : (o : Option Name) → new.areas ≡ (if is_some o then [] else self.areas ++ granted_by n self.read (events_of_line n w t) w.step) → new.events ≡ (if is_some o then [] else self.events ++ events_by n self.read (events_of_line n w t) w.step (length self.areas)) → IsHistory new (unwrap_or (option_map (λ t. no_history) o) (history_in l e))
+    at : (o : Option Name) → new.areas ≡ (if is_some o then [] else self.areas ++ granted_by n w.read (events_of_line n w t) w.step) → new.events ≡ (if is_some o then [] else self.events ++ events_by n w.read (events_of_line n w t) w.step (length self.areas)) → IsHistory new (unwrap_or (option_map (λ t. no_history) o) (history_in l e))
     at (Some x) areas evs = ap (λ a. record { grants = a; events = new.events }) areas ∙ ap (λ v. record { grants = []; events = v }) evs
     at None areas evs =
-        let grants_so = areas ∙ ap (λ a. a ++ granted_by n self.read (events_of_line n w t) w.step) areas_are ∙ ap (λ g. l.grants ++ g) (granted_so n bytes w t e is self.read reads) in
-        let evs_so = evs ∙ ap (λ v. v ++ events_by n self.read (events_of_line n w t) w.step (length self.areas)) events_are ∙ ap (λ a. l.events ++ events_by n self.read (events_of_line n w t) w.step (length a)) areas_are ∙ ap (λ v. l.events ++ v) (events_so n bytes w t e is self.read reads (length l.grants)) in
+        let grants_so = areas ∙ ap (λ a. a ++ granted_by n w.read (events_of_line n w t) w.step) areas_are ∙ ap (λ g. l.grants ++ g) (granted_so n bytes w t e is) in
+        let evs_so = evs ∙ ap (λ v. v ++ events_by n w.read (events_of_line n w t) w.step (length self.areas)) events_are ∙ ap (λ a. l.events ++ events_by n w.read (events_of_line n w t) w.step (length a)) areas_are ∙ ap (λ v. l.events ++ v) (events_so n bytes w t e is (length l.grants)) in
         ap (λ a. record { grants = a; events = new.events }) grants_so ∙ ap (λ v. record { grants = l.grants ++ granted_at e; events = v }) evs_so
 
--- one with the same history and the same line keeps the same
-pub kept_as : (self settled new : Chronicle) (n : ℕ) (evs : List Event) (after : Option JobValue) → history_of settled ≡ history_of self → settled.read ≡ self.read → IsKept settled n evs after new → IsKept self n evs after new
-kept_as self settled new n evs after same read kept =
+-- one with the same history keeps the same
+pub kept_as : (self settled new : Chronicle) (n : ℕ) (read : Line) (evs : List Event) (after : Option JobValue) → history_of settled ≡ history_of self → IsKept settled n read evs after new → IsKept self n read evs after new
+kept_as self settled new n read evs after same kept =
     let areas = ap (λ (h : History). h.grants) same in
     let evs_same = ap (λ (h : History). h.events) same in record {
-      areas = kept.areas ∙ ap (λ a. if is_some (begun evs) then [] else a ++ granted_by n settled.read evs after) areas ∙ ap (λ l. if is_some (begun evs) then [] else self.areas ++ granted_by n l evs after) read;
-      changes = kept.changes ∙ ap (λ v. if is_some (begun evs) then [] else v ++ events_by n settled.read evs after (length settled.areas)) evs_same ∙ ap (λ l. if is_some (begun evs) then [] else self.events ++ events_by n l evs after (length settled.areas)) read ∙ ap (λ a. if is_some (begun evs) then [] else self.events ++ events_by n self.read evs after (length a)) areas;
+      areas = kept.areas ∙ ap (λ a. if is_some (begun evs) then [] else a ++ granted_by n read evs after) areas;
+      changes = kept.changes ∙ ap (λ v. if is_some (begun evs) then [] else v ++ events_by n read evs after (length settled.areas)) evs_same ∙ ap (λ a. if is_some (begun evs) then [] else self.events ++ events_by n read evs after (length a)) areas;
     }
 
 -- the memory that a line needs for it
-pub needs_some : (n : ℕ) (bytes : List ℕ) (w : WalkValue) (t : LineEvent) (e : Entry) (is : IsEntry n bytes w t e) (mid self : Chronicle) (sees : SeesLine mid e.before bytes) (h : ObservesLine hears mid e.before bytes t w self) (settled : Chronicle) → history_of settled ≡ history_of self → settled.read ≡ self.read
-    → (granted_by n settled.read (events_of_line n w t) w.step ≢ []) ⊎ (events_by n settled.read (events_of_line n w t) w.step (length settled.areas) ≢ []) → (granted_at e ≢ []) ⊎ ((areas : ℕ) × (events_at e areas ≢ []))
-needs_some n bytes w t e is mid self sees h settled same read (inl some) = inl (λ none. some (ap (λ l. granted_by n l (events_of_line n w t) w.step) read ∙ granted_so n bytes w t e is self.read (reads n bytes w t e is mid self sees h) ∙ none))
-needs_some n bytes w t e is mid self sees h settled same read (inr some) = inr (length settled.areas, λ none. some (ap (λ l. events_by n l (events_of_line n w t) w.step (length settled.areas)) read ∙ events_so n bytes w t e is self.read (reads n bytes w t e is mid self sees h) (length settled.areas) ∙ none))
+pub needs_some : (n : ℕ) (bytes : List ℕ) (w : WalkValue) (t : LineEvent) (e : Entry) (is : IsEntry n bytes w t e) (settled : Chronicle)
+    → (granted_by n w.read (events_of_line n w t) w.step ≢ []) ⊎ (events_by n w.read (events_of_line n w t) w.step (length settled.areas) ≢ []) → (granted_at e ≢ []) ⊎ ((areas : ℕ) × (events_at e areas ≢ []))
+needs_some n bytes w t e is settled (inl some) = inl (λ none. some (granted_so n bytes w t e is ∙ none))
+needs_some n bytes w t e is settled (inr some) = inr (length settled.areas, λ none. some (events_so n bytes w t e is (length settled.areas) ∙ none))
 
 -- ---- what is written
 

@@ -35,8 +35,7 @@ use Rattle.mvs_job.specs.declared.consumer.End.TheVariants as end
 use Rattle.mvs_job.specs.declared.walk.LineEvent.{LineEvent}
 use Rattle.mvs_job.specs.declared.walk.LineEvent.TheVariants as events
 use Rattle.mvs_job.specs.Consuming.{EndsIn, IsEnd, IsEntry, IsOfLine, Piece, WritesFront, WritesPiece, WritesUntil}
-use Rattle.mvs_job.specs.Granting.{IsReadIn}
-use Rattle.mvs_job.specs.LineEvents.{ServesAs, WalkValue, events_of_line, region_card}
+use Rattle.mvs_job.specs.LineEvents.{IsReadIn, ServesAs, WalkValue, events_of_line, region_card}
 use Rattle.mvs_job.specs.Observing.{ObservesLine}
 use Rattle.mvs_job.specs.Steady.{IsSteady}
 use Rattle.mvs_job.specs.Trace.{Closed, Entry, Executed, Exhausted, Faulty, IsExecuted, Kind}
@@ -91,13 +90,57 @@ now_leaked false ls e = sym e
 
 -- ---- what was read of a line, and the kind of its entry
 
+-- A line that says this is executed in a step, or before the first one, which it begins if it is a statement.
+abbrev IsServed : Option JobValue → Line → Type 0
+IsServed (Some job) l = Unit {0}
+IsServed None line.Nothing = Unit {0}
+IsServed None (line.Statement t (says.Region below above fill residence)) = Unit {0}
+IsServed None (line.Statement t (says.Request a)) = ⊥
+IsServed None (line.Statement t (says.Where name)) = ⊥
+IsServed None (line.Statement t says.ReportSubpools) = ⊥
+IsServed None (line.Statement t says.ReportMap) = ⊥
+
+served : (o : Option JobValue) (l : Line) (number : ℕ) (events : List Event) (new : Option JobValue) → Serves machine number o l events new → IsServed o l
+served (Some job) l number events new h = tt
+served None line.Nothing number events new h = tt
+served None (line.Statement t (says.Region below above fill residence)) number events new h = tt
+served None (line.Statement t (says.Request a)) number events new h = h
+served None (line.Statement t (says.Where name)) number events new h = h
+served None (line.Statement t says.ReportSubpools) number events new h = h
+served None (line.Statement t says.ReportMap) number events new h = h
+
+-- before the first step nothing is granted, built or done
+none_granted_by : (number : ℕ) (events : List Event) (new : Option JobValue) (l : Line) → IsServed None l → granted_by number l events new ≡ []
+none_granted_by number events new line.Nothing h = refl
+none_granted_by number events new (line.Statement t (says.Region below above fill residence)) h = refl
+none_granted_by number events new (line.Statement t (says.Request a)) h = absurd h
+none_granted_by number events new (line.Statement t (says.Where name)) h = absurd h
+none_granted_by number events new (line.Statement t says.ReportSubpools) h = absurd h
+none_granted_by number events new (line.Statement t says.ReportMap) h = absurd h
+
+none_built_by : (number : ℕ) (events : List Event) (new : Option JobValue) (pools : List PoolBuild) (l : Line) → IsServed None l → pools_by number l events new pools ≡ pools
+none_built_by number events new pools line.Nothing h = refl
+none_built_by number events new pools (line.Statement t (says.Region below above fill residence)) h = refl
+none_built_by number events new pools (line.Statement t (says.Request a)) h = absurd h
+none_built_by number events new pools (line.Statement t (says.Where name)) h = absurd h
+none_built_by number events new pools (line.Statement t says.ReportSubpools) h = absurd h
+none_built_by number events new pools (line.Statement t says.ReportMap) h = absurd h
+
+none_done_by : (number : ℕ) (events : List Event) (new : Option JobValue) (areas : ℕ) (l : Line) → IsServed None l → events_by number l events new areas ≡ []
+none_done_by number events new areas line.Nothing h = refl
+none_done_by number events new areas (line.Statement t (says.Region below above fill residence)) h = refl
+none_done_by number events new areas (line.Statement t (says.Request a)) h = absurd h
+none_done_by number events new areas (line.Statement t (says.Where name)) h = absurd h
+none_done_by number events new areas (line.Statement t says.ReportSubpools) h = absurd h
+none_done_by number events new areas (line.Statement t says.ReportMap) h = absurd h
+
 module _ (n : ℕ) (bytes : List ℕ) (e : Entry) where
   -- the entry is of a line that was executed, or has a fault
   abbrev IsKind : Option JobValue → Type 0
-  IsKind o = ((said : Line) × LineOf (is_first o) bytes said × (e.kind ≡ Executed said)) ⊎ ((fault : Fault) × FaultOf (is_first o) bytes fault × (e.kind ≡ Faulty fault))
+  IsKind o = ((said : Line) × LineOf (is_first o) bytes said × (e.kind ≡ Executed said) × IsServed o said) ⊎ ((fault : Fault) × FaultOf (is_first o) bytes fault × (e.kind ≡ Faulty fault))
 
   executed_kind : IsExecuted n e.before bytes e → IsKind e.before
-  executed_kind (said, events, new, of, serves, is) = inl (said, of, ap (λ (e : Entry). e.kind) is)
+  executed_kind (said, events, new, of, serves, is) = inl (said, of, ap (λ (e : Entry). e.kind) is, served e.before said n events new serves)
 
   kind_of : (t : LineEvent) → IsOfLine t n bytes e → IsKind e.before
   kind_of (events.Faulted fault) (other, of, is) = inr (other, of, ap (λ (e : Entry). e.kind) is)
@@ -114,12 +157,14 @@ module _ (n : ℕ) (bytes : List ℕ) (e : Entry) where
   number_of (events.StepBegan end card) x = executed_number x
   number_of (events.Answered t a) x = executed_number x
 
-  module _ (read : Line) {X : Type 0} (f : Option JobValue → Line → X) (g : Option JobValue → Kind → X) (none : (k : Kind) → g None k ≡ f None line.Nothing) (some : (job : JobValue) (l : Line) → g (Some job) (Executed l) ≡ f (Some job) l) (faulty : (job : JobValue) (fault : Fault) → g (Some job) (Faulty fault) ≡ f (Some job) line.Nothing) where
+  module _ (read : Line) {X : Type 0} (f : Option JobValue → Line → X) (g : Option JobValue → Kind → X) (none : (k : Kind) → g None k ≡ f None line.Nothing) (begins : (l : Line) → IsServed None l → f None l ≡ f None line.Nothing) (some : (job : JobValue) (l : Line) → g (Some job) (Executed l) ≡ f (Some job) l) (faulty : (job : JobValue) (fault : Fault) → g (Some job) (Faulty fault) ≡ f (Some job) line.Nothing) where
     read_at : (o : Option JobValue) → IsReadIn o bytes read → IsKind o → f o read ≡ g o e.kind
-    read_at None is kind = ap (f None) is ∙ sym (none e.kind)
-    read_at (Some job) (inl of) (inl (said, here, kind)) = ap (f (Some job)) (one_reading.one_line false bytes read said of here) ∙ sym (some job said) ∙ ap (g (Some job)) (sym kind)
+    read_at None (inl of) (inl (said, here, kind, serves)) = ap (f None) (one_reading.one_line true bytes read said of here) ∙ begins said serves ∙ sym (none e.kind)
+    read_at None (inl of) (inr (fault, here, kind)) = absurd (one_reading.not_both true bytes read fault of here)
+    read_at None (inr (fault, of, is)) kind = ap (f None) is ∙ sym (none e.kind)
+    read_at (Some job) (inl of) (inl (said, here, kind, serves)) = ap (f (Some job)) (one_reading.one_line false bytes read said of here) ∙ sym (some job said) ∙ ap (g (Some job)) (sym kind)
     read_at (Some job) (inl of) (inr (fault, here, kind)) = absurd (one_reading.not_both false bytes read fault of here)
-    read_at (Some job) (inr (fault, of, is)) (inl (said, here, kind)) = absurd (one_reading.not_both false bytes said fault here of)
+    read_at (Some job) (inr (fault, of, is)) (inl (said, here, kind, serves)) = absurd (one_reading.not_both false bytes said fault here of)
     read_at (Some job) (inr (fault, of, is)) (inr (other, here, kind)) = ap (f (Some job)) is ∙ sym (faulty job other) ∙ ap (g (Some job)) (sym kind)
 
     read_as : (t : LineEvent) → IsOfLine t n bytes e → IsReadIn e.before bytes read → f e.before read ≡ g e.before e.kind
@@ -127,7 +172,7 @@ module _ (n : ℕ) (bytes : List ℕ) (e : Entry) where
 
   -- whether a step ends with it
   executed_ends : (x : List Event) → IsKind e.before → e.events ≡ x → ends_step e ≡ list_any is_step_end x
-  executed_ends x (inl (said, of, kind)) is = ap (λ k. ends_step (record { number = e.number; bytes = e.bytes; kind = k; events = e.events; before = e.before; after = e.after })) kind ∙ ap (list_any is_step_end) is
+  executed_ends x (inl (said, of, kind, serves)) is = ap (λ k. ends_step (record { number = e.number; bytes = e.bytes; kind = k; events = e.events; before = e.before; after = e.after })) kind ∙ ap (list_any is_step_end) is
   executed_ends x (inr (fault, of, kind)) is = ap (λ k. ends_step (record { number = e.number; bytes = e.bytes; kind = k; events = e.events; before = e.before; after = e.after })) kind ∙ ap (list_any is_step_end) is
 
   pub ends_as : (w : WalkValue) (t : LineEvent) → IsEntry n bytes w t e → ends_step e ≡ list_any is_step_end (events_of_line n w t)
@@ -144,23 +189,23 @@ module _ (n : ℕ) (bytes : List ℕ) (e : Entry) where
   region_read read root t says.ReportSubpools card job is reads of same = absurd (let f : None ≡ Some card = same in cc)
   region_read read root t says.ReportMap card job is reads of same = absurd (let f : None ≡ Some card = same in cc)
 
-module _ (n : ℕ) (bytes : List ℕ) (w : WalkValue) (t : LineEvent) (e : Entry) (is : IsEntry n bytes w t e) (read : Line) (reads : IsReadIn e.before bytes read) where
+module _ (n : ℕ) (bytes : List ℕ) (w : WalkValue) (t : LineEvent) (e : Entry) (is : IsEntry n bytes w t e) where
   by_entry : {X : Type 0} (f : ℕ → List Event → Option JobValue → X) → f n (events_of_line n w t) w.step ≡ f e.number e.events e.after
   by_entry f = ap (λ k. f k (events_of_line n w t) w.step) (sym (number_of n bytes e t is.of_line)) ∙ ap (λ v. f e.number v w.step) (sym is.events) ∙ ap (f e.number e.events) (sym is.after)
 
   -- the areas that it was granted
-  pub granted_so : granted_by n read (events_of_line n w t) w.step ≡ granted_at e
-  granted_so = by_entry (λ k v o. granted_by k read v o) ∙ read_as n bytes e read (λ o l. granted_by e.number l e.events e.after) (granted_in e) (λ k. refl) (λ job l. refl) (λ job fault. refl) t is.of_line reads
+  pub granted_so : granted_by n w.read (events_of_line n w t) w.step ≡ granted_at e
+  granted_so = by_entry (λ k v o. granted_by k w.read v o) ∙ read_as n bytes e w.read (λ o l. granted_by e.number l e.events e.after) (granted_in e) (λ k. refl) (none_granted_by e.number e.events e.after) (λ job l. refl) (λ job fault. refl) t is.of_line is.read
 
   -- the pools after it
-  pub built_so : (pools : List PoolBuild) → pools_by n read (events_of_line n w t) w.step pools ≡ pools_at e pools
+  pub built_so : (pools : List PoolBuild) → pools_by n w.read (events_of_line n w t) w.step pools ≡ pools_at e pools
   built_so pools =
-      by_entry (λ k v o. pools_by k read v o pools) ∙ read_as n bytes e read (λ o l. pools_by e.number l e.events e.after pools) (λ o k. pools_in e o k pools) (λ k. refl) (λ job l. refl) (λ job fault. refl) t is.of_line reads
+      by_entry (λ k v o. pools_by k w.read v o pools) ∙ read_as n bytes e w.read (λ o l. pools_by e.number l e.events e.after pools) (λ o k. pools_in e o k pools) (λ k. refl) (none_built_by e.number e.events e.after pools) (λ job l. refl) (λ job fault. refl) t is.of_line is.read
 
   -- what it did to storage
-  pub events_so : (areas : ℕ) → events_by n read (events_of_line n w t) w.step areas ≡ events_at e areas
+  pub events_so : (areas : ℕ) → events_by n w.read (events_of_line n w t) w.step areas ≡ events_at e areas
   events_so areas =
-      by_entry (λ k v o. events_by k read v o areas) ∙ read_as n bytes e read (λ o l. events_by e.number l e.events e.after areas) (λ o k. events_in e areas o k) (λ k. refl) (λ job l. refl) (λ job fault. refl) t is.of_line reads
+      by_entry (λ k v o. events_by k w.read v o areas) ∙ read_as n bytes e w.read (λ o l. events_by e.number l e.events e.after areas) (λ o k. events_in e areas o k) (λ k. refl) (none_done_by e.number e.events e.after areas) (λ job l. refl) (λ job fault. refl) t is.of_line is.read
 
 -- ---- the account
 
@@ -189,7 +234,6 @@ line_keeps mid after step line t w h = record {
   pools = line_stays mid after (λ (a : Account). a.pools) observed (λ job t request refusal left k. k.kept.pools) step line t w h;
   root = line_stays mid after (λ (a : Account). a.root) observed (λ job t request refusal left k. k.kept.root) step line t w h;
   history = line_stays mid after (λ (a : Account). a.history) observed (λ job t request refusal left k. k.kept.history) step line t w h;
-  read = line_stays mid after (λ (a : Account). a.read) observed (λ job t request refusal left k. k.kept.read) step line t w h;
   is_over = over;
   found = λ e. one_found after.found mid.found (sym (over_is after (over ∙ e)) ∙ line_stays mid after over_found observed (λ job t request refusal left k. over_same mid after k.kept) step line t w h ∙ over_is mid e);
 } where
@@ -211,8 +255,8 @@ found_left a l step is settled = at is.left where
   at (inr (t, ls, some, found)) = found ∙ ap (λ o. summary_of (unwrap_or o (left_of step l.grants l.pools))) (sym some)
 
 -- the account after the entry of a line is that of the ledger after it
-pub next_ledger : (a b : Account) (l : Ledger) (e : Entry) (n : ℕ) → IsLedger a l → IsKept a n e.events e.after b → granted_by n a.read e.events e.after ≡ granted_at e → ((ps : List PoolBuild) → pools_by n a.read e.events e.after ps ≡ pools_at e ps) → (ends_task a.root e.events ≡ true → IsSettled a e.before) → IsLedger b (ledger_after l e)
-next_ledger a b l e n is kept granted built settled = at (begun e.events) kept.root kept.history kept.pools kept.is_over where
+pub next_ledger : (a b : Account) (l : Ledger) (e : Entry) (n : ℕ) (read : Line) → IsLedger a l → IsKept a n read e.events e.after b → granted_by n read e.events e.after ≡ granted_at e → ((ps : List PoolBuild) → pools_by n read e.events e.after ps ≡ pools_at e ps) → (ends_task a.root e.events ≡ true → IsSettled a e.before) → IsLedger b (ledger_after l e)
+next_ledger a b l e n read is kept granted built settled = at (begun e.events) kept.root kept.history kept.pools kept.is_over where
   ends : ends_task a.root e.events ≡ ends_task l.root e.events
   ends = ap (λ r. ends_task r e.events) is.root
 
@@ -236,12 +280,12 @@ next_ledger a b l e n is kept granted built settled = at (begun e.events) kept.r
       by_left (inl (f, none)) = inl (over_is_old ∙ f, left_is ∙ none)
       by_left (inr (t, ls, some, found)) = inr (over_is_old ∙ t, ls, left_is ∙ some, kept.found ∙ found)
 
-  at : (o : Option Name) → b.root ≡ unwrap_or (option_map (λ t. Some t) o) a.root → b.history ≡ (if is_some o then [] else a.history ++ granted_by n a.read e.events e.after) → b.pools ≡ (if is_some o then [] else pools_by n a.read e.events e.after a.pools) → b.is_over ≡ (not (is_some o) && (a.is_over || ends_task a.root e.events)) → IsLedger b (unwrap_or (option_map new_step o) (in_step l e))
+  at : (o : Option Name) → b.root ≡ unwrap_or (option_map (λ t. Some t) o) a.root → b.history ≡ (if is_some o then [] else a.history ++ granted_by n read e.events e.after) → b.pools ≡ (if is_some o then [] else pools_by n read e.events e.after a.pools) → b.is_over ≡ (not (is_some o) && (a.is_over || ends_task a.root e.events)) → IsLedger b (unwrap_or (option_map new_step o) (in_step l e))
   at (Some t) root history pools over = record { root = root; grants = history; pools = pools; left = inl (over, refl) }
   at None root history pools over = record {
     root = root ∙ is.root;
-    grants = history ∙ ap (λ g. g ++ granted_by n a.read e.events e.after) is.grants ∙ ap (λ g. l.grants ++ g) granted;
-    pools = pools ∙ ap (pools_by n a.read e.events e.after) is.pools ∙ built l.pools;
+    grants = history ∙ ap (λ g. g ++ granted_by n read e.events e.after) is.grants ∙ ap (λ g. l.grants ++ g) granted;
+    pools = pools ∙ ap (pools_by n read e.events e.after) is.pools ∙ built l.pools;
     left = left_after over;
   }
 
@@ -302,29 +346,32 @@ begun_too n w (events.StepBegan (Some abended) card) h = refl
 begun_too n w (events.Answered t a) h = false_true h
 begun_too n w (events.Faulted fault) h = false_true h
 
-module _ (n : ℕ) (bytes : List ℕ) (w : WalkValue) (e : Entry) (mid after : Account) (sees : Sees mid e.before bytes) where
+module _ (n : ℕ) (bytes : List ℕ) (w : WalkValue) (e : Entry) (mid after : Account) (sees : Sees mid e.before w.read) where
   pub begins_too : (t : LineEvent) → IsEntry n bytes w t e → list_any is_step_end (events_of_line n w t) ≡ true → is_some (begun e.events) ≡ true
   begins_too t is h = ap (λ x. is_some (begun x)) is.events ∙ begun_too n w t h
 
-  region_settled : (t : Name) (s : Statement) (card : CardValue) (abended : Bool) (o : Option JobValue) → e.before ≡ o → LineOf (is_first e.before) bytes (line.Statement t s) → region_card t s ≡ Some card
+  region_settled : IsReadIn e.before bytes w.read → (t : Name) (s : Statement) (card : CardValue) (abended : Bool) (o : Option JobValue) → e.before ≡ o → LineOf (is_first e.before) bytes (line.Statement t s) → region_card t s ≡ Some card
       → Serves machine n o (line.Statement t s) (StepEnded abended ∷ AnswerTo n card.name (Region card) ∷ []) w.step → after ≡ mid → IsSettled after e.before
-  region_settled t (says.Region below above fill residence) card abended None is of same serves kept = absurd (let f = serves.0 in cc)
-  region_settled t (says.Request q) card abended None is of same serves kept = none_some same
-  region_settled t (says.Where name) card abended None is of same serves kept = none_some same
-  region_settled t says.ReportSubpools card abended None is of same serves kept = none_some same
-  region_settled t says.ReportMap card abended None is of same serves kept = none_some same
-  region_settled t s card abended (Some job) is of same serves kept =
-      subst (λ (a : Account). IsSettled a e.before) (sym kept) (sees.found (region_read n bytes e mid.read mid.root t s card job is sees.read of same))
+  region_settled reads t (says.Region below above fill residence) card abended None is of same serves kept = absurd (let f = serves.0 in cc)
+  region_settled reads t (says.Request q) card abended None is of same serves kept = none_some same
+  region_settled reads t (says.Where name) card abended None is of same serves kept = none_some same
+  region_settled reads t says.ReportSubpools card abended None is of same serves kept = none_some same
+  region_settled reads t says.ReportMap card abended None is of same serves kept = none_some same
+  region_settled reads t s card abended (Some job) is of same serves kept =
+      subst (λ (a : Account). IsSettled a e.before) (sym kept) (sees (region_read n bytes e w.read mid.root t s card job is reads of same))
 
   pub settled_between : (t : LineEvent) → IsEntry n bytes w t e → ObservesLine observed mid e.before bytes t w after → list_any is_step_end (events_of_line n w t) ≡ true → IsSettled after e.before
-  settled_between t is heard h = at t (entry_serves n bytes w e t is) heard h where
+  settled_between t entry heard h = at t (entry_serves n bytes w e t entry) heard h where
+    reads : IsReadIn e.before bytes w.read
+    reads = entry.read
+
     at : (t : LineEvent) → ServesAs (before_it n bytes w e) bytes t w → ObservesLine observed mid e.before bytes t w after → list_any is_step_end (events_of_line n w t) ≡ true → IsSettled after e.before
     at events.Nothing serves k f = false_true f
     at (events.StepBegan None card) serves k f = false_true f
     at (events.Answered t a) serves k f = false_true f
     at (events.Faulted fault) serves k f = false_true f
     at (events.StepBegan (Some abended) card) serves (t, s, of, is, same) f =
-        region_settled t s card abended e.before refl of is (subst (λ l. Serves machine n e.before l (StepEnded abended ∷ AnswerTo n card.name (Region card) ∷ []) w.step) (one_reading.one_line (is_first e.before) bytes serves.0 (line.Statement t s) serves.1 of) serves.2) same
+        region_settled reads t s card abended e.before refl of is (subst (λ l. Serves machine n e.before l (StepEnded abended ∷ AnswerTo n card.name (Region card) ∷ []) w.step) (one_reading.one_line (is_first e.before) bytes serves.0 (line.Statement t s) serves.1 of) serves.2) same
 
 -- ---- through another consumer
 

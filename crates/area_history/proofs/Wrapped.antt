@@ -6,7 +6,6 @@ use Rattle.mvs_model.specs.Job.{JobValue}
 use Rattle.mvs_model.proofs.Tests.{true_false}
 use Rattle.mvs_job.specs.declared.walk.LineEvent.{LineEvent}
 use Rattle.mvs_job.specs.Consuming.{IsEntry}
-use Rattle.mvs_job.specs.Granting.{IsReadIn}
 use Rattle.mvs_job.specs.LineEvents.{WalkValue, events_of_line}
 use Rattle.mvs_job.specs.Observing.{Hearing, ObservesLine}
 use Rattle.mvs_job.specs.Trace.{Entry}
@@ -37,24 +36,21 @@ module _ {C F : Type 0} (heard : Hearing C) where
     pub account_sees : ObservesLine observed mid.account step bytes t w self.account
     account_sees = line_part mid self (λ s. s.account) wrapped observed (λ job t request refusal left k. k.2) step bytes t w h
 
-module _ (n : ℕ) (bytes : List ℕ) (w : WalkValue) (t : LineEvent) (e : Entry) (is : IsEntry n bytes w t e) (mid self : Account) (sees : Sees mid e.before bytes) (h : ObservesLine observed mid e.before bytes t w self) where
+module _ (n : ℕ) (bytes : List ℕ) (w : WalkValue) (t : LineEvent) (e : Entry) (is : IsEntry n bytes w t e) (mid self : Account) (sees : Sees mid e.before w.read) (h : ObservesLine observed mid e.before bytes t w self) where
   keeps : KeepsAccount mid self
   keeps = line_keeps mid self e.before bytes t w h
 
-  reads : IsReadIn e.before bytes self.read
-  reads = subst (IsReadIn e.before bytes) (sym keeps.read) sees.read
-
   -- the areas that the line was granted
-  pub granted_is : granted_by n self.read (events_of_line n w t) w.step ≡ granted_at e
-  granted_is = granted_so n bytes w t e is self.read reads
+  pub granted_is : granted_by n w.read (events_of_line n w t) w.step ≡ granted_at e
+  granted_is = granted_so n bytes w t e is
 
   -- the ledger after it
-  pub line_ledger : (l : Ledger) (new : Account) → IsLedger mid l → IsKept self n (events_of_line n w t) w.step new → IsLedger new (ledger_after l e)
+  pub line_ledger : (l : Ledger) (new : Account) → IsLedger mid l → IsKept self n w.read (events_of_line n w t) w.step new → IsLedger new (ledger_after l e)
   line_ledger l new ledger kept =
-      next_ledger self new l e n (ledger_kept mid self l keeps ledger)
-      (subst (λ v. IsKept self n v e.after new) (sym is.events) (subst (λ o. IsKept self n (events_of_line n w t) o new) (sym is.after) kept))
-      (ap (λ v. granted_by n self.read v e.after) is.events ∙ ap (granted_by n self.read (events_of_line n w t)) is.after ∙ granted_is)
-      (λ ps. ap (λ v. pools_by n self.read v e.after ps) is.events ∙ ap (λ o. pools_by n self.read (events_of_line n w t) o ps) is.after ∙ built_so n bytes w t e is self.read reads ps)
+      next_ledger self new l e n w.read (ledger_kept mid self l keeps ledger)
+      (subst (λ v. IsKept self n w.read v e.after new) (sym is.events) (subst (λ o. IsKept self n w.read (events_of_line n w t) o new) (sym is.after) kept))
+      (ap (λ v. granted_by n w.read v e.after) is.events ∙ ap (granted_by n w.read (events_of_line n w t)) is.after ∙ granted_is)
+      (λ ps. ap (λ v. pools_by n w.read v e.after ps) is.events ∙ ap (λ o. pools_by n w.read (events_of_line n w t) o ps) is.after ∙ built_so n bytes w t e is ps)
       (λ ends. settled_at_end n bytes w e mid self sees t is h (ap (λ r. ends_task r e.events) (sym keeps.root) ∙ ends))
 
   -- what was found where a step ends and another begins

@@ -16,7 +16,6 @@ use Rattle.mvs_model.specs.Job.{JobValue}
 use Rattle.mvs_model.specs.Name.{same_name}
 use Rattle.mvs_job.specs.declared.consumer.End.{End}
 use Rattle.mvs_job.specs.declared.consumer.End.TheVariants as end
-use Rattle.mvs_job.specs.Granting.{IsReadIn}
 use Rattle.mvs_job.specs.Trace.{Entry}
 use Rattle.area_history.specs.declared.account.Account.{Account}
 use Rattle.area_history.specs.declared.account.Leftovers.{Leftovers}
@@ -61,7 +60,6 @@ pub record KeepsAccount (old new : Account) : Type 0 where
   pub root : new.root ≡ old.root
   pub history : new.history ≡ old.history
   pub pools : new.pools ≡ old.pools
-  pub read : new.read ≡ old.read
   pub is_over : new.is_over ≡ old.is_over
   pub found : old.is_over ≡ true → new.found ≡ old.found
 
@@ -69,14 +67,13 @@ pub record KeepsAccount (old new : Account) : Type 0 where
 abbrev pub IsSettled : Account → Option JobValue → Type 0
 IsSettled a step = a.is_over ≡ false → a.found ≡ summary_of (left_of step a.history a.pools)
 
--- It has looked at this line, which comes next in this step.
-pub record Sees (a : Account) (step : Option JobValue) (line : List ℕ) : Type 0 where
-  pub read : IsReadIn step line a.read
-  pub found : may_end a.root a.read ≡ true → IsSettled a step
+-- It has looked at a line that says this, which comes next in this step.
+abbrev pub Sees : Account → Option JobValue → Line → Type 0
+Sees a step read = may_end a.root read ≡ true → IsSettled a step
 
--- It looks at this line.
-pub record IsLooked (old : Account) (step : Option JobValue) (line : List ℕ) (new : Account) : Type 0 where
-  pub sees : Sees new step line
+-- It looks at a line that says this.
+pub record IsLooked (old : Account) (step : Option JobValue) (read : Line) (new : Account) : Type 0 where
+  pub sees : Sees new step read
   pub root : new.root ≡ old.root
   pub history : new.history ≡ old.history
   pub pools : new.pools ≡ old.pools
@@ -88,11 +85,11 @@ pub record IsObserved (old : Account) (job : JobValue) (t : Name) (request : Req
   pub kept : KeepsAccount old new
   pub found : (code : Code) → reply_to request refusal ≡ Abend code → has (same_name t) old.root ≡ true → IsSettled new (Some job)
 
--- It keeps what becomes of the line with this number, which has these events.
-pub record IsKept (old : Account) (number : ℕ) (events : List Event) (after : Option JobValue) (new : Account) : Type 0 where
+-- It keeps what becomes of the line with this number, which says this and has these events.
+pub record IsKept (old : Account) (number : ℕ) (read : Line) (events : List Event) (after : Option JobValue) (new : Account) : Type 0 where
   pub root : new.root ≡ unwrap_or (option_map (λ t. Some t) (begun events)) old.root
-  pub history : new.history ≡ (if is_some (begun events) then [] else old.history ++ granted_by number old.read events after)
-  pub pools : new.pools ≡ (if is_some (begun events) then [] else pools_by number old.read events after old.pools)
+  pub history : new.history ≡ (if is_some (begun events) then [] else old.history ++ granted_by number read events after)
+  pub pools : new.pools ≡ (if is_some (begun events) then [] else pools_by number read events after old.pools)
   pub is_over : new.is_over ≡ (not (is_some (begun events)) && (old.is_over || ends_task old.root events))
   pub found : new.found ≡ old.found
 

@@ -1,5 +1,6 @@
 -- What is kept of the step that runs, for its history, and what is done with a line.
 use Rattle.std.specs.Prelude.{◌≡◌, ℕ, List, [], ◌++◌, length, Option, is_some, if◌then◌else◌}
+use Rattle.mvs_model.specs.declared.line.Line.{Line}
 use Rattle.mvs_model.specs.declared.name.Name.{Name}
 use Rattle.mvs_model.specs.declared.reason.Reason.{Reason}
 use Rattle.mvs_model.specs.declared.refusal.Refusal.{Refusal}
@@ -7,10 +8,9 @@ use Rattle.mvs_model.specs.declared.request.Request.{Request}
 use Rattle.mvs_model.specs.Answers.{Event}
 use Rattle.mvs_model.specs.Job.{JobValue}
 use Rattle.mvs_model.specs.Reasons.{Explains}
-use Rattle.mvs_job.specs.Granting.{IsReadIn}
 use Rattle.area_history.specs.declared.chronicle.Chronicle.{Chronicle}
 use Rattle.area_history.specs.Anywhere.{IsAnywhere}
-use Rattle.area_history.specs.Histories.{History, events_by, found_for, found_in, no_history, nothing_found}
+use Rattle.area_history.specs.Histories.{History, events_by, found_for, found_in, no_history}
 use Rattle.area_history.specs.Ledgers.{begun, granted_by}
 
 -- the history that it has
@@ -21,22 +21,16 @@ history_of c = record { grants = c.areas; events = c.events }
 abbrev pub IsHistory : Chronicle → History → Type 0
 IsHistory c h = history_of c ≡ h
 
--- It has looked at this line, which comes next in this step, and has found nothing.
-pub record SeesLine (c : Chronicle) (step : Option JobValue) (line : List ℕ) : Type 0 where
-  pub read : IsReadIn step line c.read
-  pub found : found_in c.found ≡ nothing_found
-
 -- It observes a refusal, and finds what the history says of the reason.
 pub record HearsHistory (old : Chronicle) (job : JobValue) (t : Name) (request : Request) (refusal : Refusal) (new : Chronicle) : Type 0 where
   pub same : history_of new ≡ history_of old
-  pub read : new.read ≡ old.read
   pub reason : Reason
   pub explains : Explains job.state t request refusal reason
   pub any : Option ℕ
   pub anywhere : IsAnywhere job.state t request reason any
   pub found : found_in new.found ≡ found_for (history_of old) job request reason any
 
--- It keeps what the line with this number did, which has these events.
-pub record IsKept (old : Chronicle) (number : ℕ) (events : List Event) (after : Option JobValue) (new : Chronicle) : Type 0 where
-  pub areas : new.areas ≡ (if is_some (begun events) then [] else old.areas ++ granted_by number old.read events after)
-  pub changes : new.events ≡ (if is_some (begun events) then [] else old.events ++ events_by number old.read events after (length old.areas))
+-- It keeps what the line with this number did, which says this and has these events.
+pub record IsKept (old : Chronicle) (number : ℕ) (read : Line) (events : List Event) (after : Option JobValue) (new : Chronicle) : Type 0 where
+  pub areas : new.areas ≡ (if is_some (begun events) then [] else old.areas ++ granted_by number read events after)
+  pub changes : new.events ≡ (if is_some (begun events) then [] else old.events ++ events_by number read events after (length old.areas))

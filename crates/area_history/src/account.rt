@@ -6,7 +6,6 @@ ghost use Rattle.mvs_model.specs.Finite.{has};
 ghost use Rattle.mvs_model.specs.FullAnswers.{full_answer};
 ghost use Rattle.mvs_model.specs.Name.{same_name};
 ghost use Rattle.mvs_model.specs.State.{State};
-ghost use Rattle.mvs_job.specs.Granting.{IsReadIn};
 ghost use Rattle.mvs_job.specs.LineEvents.{IsAvailable, WalkValue, events_of_line};
 ghost use Rattle.mvs_job.specs.Observing.{is_end};
 ghost use Rattle.area_history.specs.Accounts.{IsKept, IsLedger, IsLooked, IsObserved, IsSettled, KeepsAccount, may_end, summary_of};
@@ -17,7 +16,6 @@ use crate::history::AreaHistory;
 use crate::largest::Leaks;
 use crate::obtained::{keep_built, push_granted};
 use crate::pools::{BuiltPools, LeftPools, no_pools, none_left, push_pools_left};
-use job_script::read_line;
 use line_text::is_same_name;
 use mvs_job::{Job, LineEvent, Walk};
 use mvs_model::answer::Answer;
@@ -108,8 +106,6 @@ pub struct Account {
     pub(crate) history: AreaHistory,
     /// The cell pools that were built.
     pub(crate) pools: BuiltPools,
-    /// The next line.
-    pub(crate) read: Line,
     /// Whether the job step task has ended.
     pub(crate) is_over: bool,
     /// What was left when the job step task ended; if it runs, what is left before a line that may end it or the step.
@@ -178,20 +174,6 @@ fn may_end(root: &Option<Name>, read: &Line) -> bool
     }
 }
 
-/// Parses the next line. It is `Line::Nothing` if no step runs or the line has a fault.
-pub(crate) fn read_in(walk: &Walk, line: &[u8], read: &mut Line)
-    ensures { IsReadIn walk.now.step line.now read.new }
-{
-    if walk.job().is_none() {
-        *read = Line::Nothing;
-        return;
-    }
-    let Ok(()) = read_line(line, false, read) else {
-        *read = Line::Nothing;
-        return;
-    };
-}
-
 impl Account {
     /// Makes the account before the first step. It allocates no memory.
     pub(crate) fn new(alloc: Global) -> Account
@@ -201,7 +183,6 @@ impl Account {
             root: None,
             history: AreaHistory::new(alloc),
             pools: no_pools(),
-            read: Line::Nothing,
             is_over: false,
             found: Leftovers::none(),
         }
@@ -232,12 +213,11 @@ impl Account {
         }
     }
 
-    /// Looks at the next line.
-    pub(crate) fn look(&mut self, walk: &Walk, line: &[u8])
-        ensures { IsLooked self.old walk.now.step line.now self.new }
+    /// Looks at the next line, which is parsed.
+    pub(crate) fn look(&mut self, walk: &Walk)
+        ensures { IsLooked self.old walk.now.step walk.now.read self.new }
     {
-        read_in(walk, line, &mut self.read);
-        if may_end(&self.root, &self.read) {
+        if may_end(&self.root, walk.read()) {
             self.settle(walk);
         }
     }
@@ -278,18 +258,18 @@ impl Account {
     ) -> Result<(), OutOfMemory>
         requires { IsAvailable walk.now line_event.now }
         ensures ok { OnOk result
-            (IsKept self.old number (events_of_line number walk.now line_event.now) walk.now.step
-            self.new) }
+            (IsKept self.old number walk.now.read (events_of_line number walk.now line_event.now)
+            walk.now.step self.new) }
         ensures err { OnErr result
-            (granted_by number self.old.read (events_of_line number walk.now line_event.now)
+            (granted_by number walk.now.read (events_of_line number walk.now line_event.now)
             walk.now.step ≢ []) }
     {
         if let LineEvent::StepBegan { card, .. } = line_event {
             self.begin(card.name());
             return Ok(());
         }
-        push_granted(&mut self.history, number, &self.read, walk, line_event)?;
-        keep_built(&mut self.pools, number, &self.read, walk, line_event);
+        push_granted(&mut self.history, number, walk.read(), walk, line_event)?;
+        keep_built(&mut self.pools, number, walk.read(), walk, line_event);
         self.is_over = self.is_over || ends_root(&self.root, line_event);
         Ok(())
     }

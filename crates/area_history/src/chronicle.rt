@@ -8,12 +8,11 @@ ghost use Rattle.mvs_job.specs.Observing.{LeftFor};
 ghost use Rattle.mvs_model.specs.State.{State};
 ghost use Rattle.mvs_model.specs.declared.name.Name.{Name as TaskName};
 ghost use Rattle.mvs_job.specs.LineEvents.{IsAvailable, WalkValue, events_of_line};
-ghost use Rattle.area_history.specs.Chronicles.{HearsHistory, IsHistory, IsKept, SeesLine, history_of};
-ghost use Rattle.area_history.specs.Histories.{all_ended, all_released, changed_by, emptied_by, ended_tasks, ended_with, ends_by, events_by, found_for, found_in, granted_changes, no_history, released_by, stays_in, stays_of};
+ghost use Rattle.area_history.specs.Chronicles.{HearsHistory, IsHistory, IsKept, history_of};
+ghost use Rattle.area_history.specs.Histories.{all_ended, all_released, changed_by, emptied_by, ended_tasks, ended_with, ends_by, events_by, found_for, found_in, granted_changes, no_history, nothing_found, released_by, stays_in, stays_of};
 ghost use Rattle.area_history.specs.Ledgers.{granted_by};
 ghost use Rattle.area_history.specs.Leaking.{summary};
 
-use crate::account::read_in;
 use crate::anywhere::anywhere;
 use crate::events::{StorageChange, StorageEvents};
 use crate::findings::{Findings, address_history, address_of, is_short, sought};
@@ -35,8 +34,6 @@ use std::alloc::Global;
 /// The history of the step that runs, and what it says of a line.
 #[derive(Drop)]
 pub struct Chronicle {
-    /// The next line.
-    pub(crate) read: Line,
     /// Room for a request, which is long.
     pub(crate) request: Request,
     /// The areas that were obtained.
@@ -334,7 +331,6 @@ impl Chronicle {
         ensures { IsHistory result no_history }
     {
         Chronicle {
-            read: Line::Nothing,
             request: Request::Return,
             areas: AreaHistory::new(alloc),
             events: StorageEvents::new(alloc),
@@ -342,12 +338,11 @@ impl Chronicle {
         }
     }
 
-    /// Looks at the next line.
-    pub(crate) fn look(&mut self, walk: &Walk, line: &[u8])
-        ensures sees { SeesLine self.new walk.now.step line.now }
+    /// Forgets what it found, before the next line.
+    pub(crate) fn begin_line(&mut self)
+        ensures found { found_in self.new.found ≡ nothing_found }
         ensures same { history_of self.new ≡ history_of self.old }
     {
-        read_in(walk, line, &mut self.read);
         self.found.clear();
     }
 
@@ -355,7 +350,6 @@ impl Chronicle {
     fn find(&mut self, job: &Job, request: &Request, reason: &Reason, any: Option<u32>)
         ensures found { found_in self.new.found ≡ found_for (history_of self.old) job.now request.now reason.now any }
         ensures same { history_of self.new ≡ history_of self.old }
-        ensures read { self.new.read ≡ self.old.read }
     {
         self.found.address = match address_of(reason) {
             Some(addr) => Some(address_history(&mut self.areas, &mut self.events, addr)),
@@ -395,7 +389,6 @@ impl Chronicle {
             ≡ stays_of (history_of self.old) walk.now.step (ended_tasks (events_of_line number walk.now line_event.now)) }
         ensures found { found_in self.new.found ≡ found_in self.old.found }
         ensures same { history_of self.new ≡ history_of self.old }
-        ensures read { self.new.read ≡ self.old.read }
     {
         let ended = ended_since(&self.events, walk, line_event);
         self.found.stays = match walk.job() {
@@ -411,7 +404,6 @@ impl Chronicle {
             ≡ stays_of (history_of self.old) walk.now.step (ended_tasks (events_of_line number walk.now line_event.now)) }
         ensures found { found_in self.new.found ≡ found_in self.old.found }
         ensures same { history_of self.new ≡ history_of self.old }
-        ensures read { self.new.read ≡ self.old.read }
     {
         if has_ended_tasks(walk, line_event) {
             self.find_stays(walk, line_event);
@@ -438,24 +430,24 @@ impl Chronicle {
     ) -> Result<(), OutOfMemory>
         requires { IsAvailable walk.now line_event.now }
         ensures ok { OnOk result
-            (IsKept self.old number (events_of_line number walk.now line_event.now) walk.now.step
-            self.new) }
+            (IsKept self.old number walk.now.read (events_of_line number walk.now line_event.now)
+            walk.now.step self.new) }
         ensures found { self.new.found ≡ self.old.found }
         ensures err { OnErr result
-            ((granted_by number self.old.read (events_of_line number walk.now line_event.now) walk.now.step ≢ [])
-            ⊎ (events_by number self.old.read (events_of_line number walk.now line_event.now) walk.now.step (length self.old.areas) ≢ [])) }
+            ((granted_by number walk.now.read (events_of_line number walk.now line_event.now) walk.now.step ≢ [])
+            ⊎ (events_by number walk.now.read (events_of_line number walk.now line_event.now) walk.now.step (length self.old.areas) ≢ [])) }
     {
         if let LineEvent::StepBegan { .. } = line_event {
             self.begin();
             return Ok(());
         }
         let areas = self.areas.len();
-        push_granted(&mut self.areas, number, &self.read, walk, line_event)?;
+        push_granted(&mut self.areas, number, walk.read(), walk, line_event)?;
         push_events(
             &mut self.events,
             &mut self.request,
             number,
-            &self.read,
+            walk.read(),
             areas,
             Outcome { walk, line_event },
         )

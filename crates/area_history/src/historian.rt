@@ -2,8 +2,8 @@
 
 ghost use Rattle.std.specs.Prelude.{◌≡◌, List, ℕ};
 ghost use Rattle.line_text.specs.Writing.{Prints};
-ghost use Rattle.area_history.specs.Chronicles.{HearsHistory, IsHistory, SeesLine};
-ghost use Rattle.area_history.specs.Histories.{history_from, no_history, with_history};
+ghost use Rattle.area_history.specs.Chronicles.{HearsHistory, IsHistory};
+ghost use Rattle.area_history.specs.Histories.{found_in, history_from, no_history, nothing_found, with_history};
 
 use crate::chronicle::Chronicle;
 use crate::format::ReportFormat;
@@ -70,11 +70,11 @@ impl<'a, C: Consumer, F: ReportFormat> Consumer for Historian<'a, C, F> {
       had = λ now entries. now.consumer.ghost_name ≡ first.consumer.ghost_name;
     } };
 
-    ghost sees = { λ s step line. C.sees s.consumer.now step line × SeesLine s.chronicle step line };
+    ghost sees = { λ s step read. C.sees s.consumer.now step read × (found_in s.chronicle.found ≡ nothing_found) };
 
-    fn look(&mut self, walk: &Walk, line: &[u8]) {
-        self.consumer.look(walk, line);
-        self.chronicle.look(walk, line);
+    fn look(&mut self, walk: &Walk) {
+        self.consumer.look(walk);
+        self.chronicle.begin_line();
     }
 
     fn entry<W: Write>(

@@ -140,11 +140,11 @@ impl<'a, C: Consumer, F: ReportFormat> Consumer for Reporter<'a, C, F> {
       had = λ now entries. now.consumer.ghost_name ≡ first.consumer.ghost_name;
     } };
 
-    ghost sees = { λ s step line. C.sees s.consumer.now step line × Sees s.account step line };
+    ghost sees = { λ s step read. C.sees s.consumer.now step read × Sees s.account step read };
 
-    fn look(&mut self, walk: &Walk, line: &[u8]) {
-        self.consumer.look(walk, line);
-        self.account.look(walk, line);
+    fn look(&mut self, walk: &Walk) {
+        self.consumer.look(walk);
+        self.account.look(walk);
     }
 
     fn entry<W: Write>(

@@ -2,6 +2,7 @@
 use Rattle.std.proofs.Common.{◌≡◌, ℕ, List, [], ◌∷◌, ◌++◌, append_assoc, append-nil, Bool, true, false, Option, Some, None, Result, Ok, Err, IfOk, refl, sym, ap, subst, ◌∙◌}
 use Rattle.std.specs.Prelude.{IsErrOf}
 use Rattle.line_text.specs.Writing.{WritesAll}
+use Rattle.mvs_model.specs.declared.line.Line.{Line}
 use Rattle.mvs_model.specs.declared.name.Name.{Name}
 use Rattle.mvs_model.specs.declared.watched.Failed.{Failed}
 use Rattle.mvs_model.specs.Answers.{Answer, Event, AnswerTo, StepEnded, Faulted}
@@ -50,11 +51,11 @@ if_ok (Err e) P Q h f = tt
 
 -- ---- an entry
 
-module _ {S : Type 0} (heard : Hearing S) (sees : S → Option JobValue → List ℕ → Type 0) (before after : Option (List ℕ)) (first s s' : S) (n : ℕ) (line : List ℕ) (w : WalkValue) (t : LineEvent) where
+module _ {S : Type 0} (heard : Hearing S) (sees : S → Option JobValue → Line → Type 0) (before after : Option (List ℕ)) (first s s' : S) (n : ℕ) (line : List ℕ) (w : WalkValue) (t : LineEvent) where
   pub accepts_line : {X : Type 0} (r : Result X Stop) → WritesEvents before after (events_of_line n w t) r → AcceptsLine {S = S} {X = X} event_lines heard sees (keeps_nothing first) before after s s' n line w t r
-  accepts_line (Ok x) (text, are, a) mid history e is seen observed known = ((text, subst (λ v. AreLinesOf v text) (sym is.events) are, a), tt)
-  accepts_line (Err stop.Write) (text, are, f) mid history e is seen observed known = ((text, subst (λ v. AreLinesOf v text) (sym is.events) are, f), tt)
-  accepts_line (Err stop.Memory) (needs, kept) mid history e is seen observed known = ((subst EndsWithAnswer (sym is.events) needs, kept), tt)
+  accepts_line (Ok x) (text, are, a) mid history e is follows seen observed known = ((text, subst (λ v. AreLinesOf v text) (sym is.events) are, a), tt)
+  accepts_line (Err stop.Write) (text, are, f) mid history e is follows seen observed known = ((text, subst (λ v. AreLinesOf v text) (sym is.events) are, f), tt)
+  accepts_line (Err stop.Memory) (needs, kept) mid history e is follows seen observed known = ((subst EndsWithAnswer (sym is.events) needs, kept), tt)
 
 pub accepts_end : {S X : Type 0} (before after : Option (List ℕ)) (first s s' : S) (n : ℕ) (how : End) (r : Result X Failed) (events : List Event) → ((e : Entry) → IsEnd n how e → e.events ≡ events) → WritesLast before after events r
     → (history : List Entry) (e : Entry) → IsEnd n how e → AcceptsLast {S = S} {X = X} event_lines (keeps_nothing first) before after s' history e r

@@ -89,9 +89,9 @@ impl Consumer for EventLines {
 
     ghost sees = { λ _ _ _. Unit {0} };
 
-    fn look(&mut self, walk: &Walk, line: &[u8]) {
+    fn look(&mut self, walk: &Walk) {
         if let Some(explained) = &mut self.explained {
-            explained.look_at(walk, line);
+            explained.look_at(walk);
         }
     }
 

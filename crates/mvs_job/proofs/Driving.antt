@@ -11,9 +11,9 @@ use Rattle.mvs_laws.proofs.Going.{line_keeps_sized, run_some}
 use Rattle.mvs_job.specs.declared.printing.Stop.{Stop}
 use Rattle.mvs_job.specs.declared.printing.Stop.TheVariants as stop
 use Rattle.mvs_job.specs.LineEvents.{WalkValue, new_walk}
-use Rattle.mvs_job.specs.Trace.{Arrives, Ending, Ends, Entry, Exhausts, IsExecuted, IsTrace, Traces}
+use Rattle.mvs_job.specs.Trace.{Arrives, Ending, Ends, Entry, Exhausts, IsExecuted, IsTrace, Traces, step_after}
 use Rattle.mvs_job.specs.Consuming.{HasRun, IsAny, IsBegun, IsFront, IsWritten, Known, Leaves, Piece, RunsEnd, RunsEntry, WritesFront, WritesPiece, WritesPieces, WrittenAfter}
-use Rattle.mvs_job.proofs.Tracing.{trace_of, trace_sized, traces_then}
+use Rattle.mvs_job.proofs.Tracing.{trace_of, trace_sized, traces_arrive, traces_then}
 
 -- ---- what is written
 
@@ -48,6 +48,10 @@ some_entry outcome number step (l ∷ lines) entries (inr (e, rest, is, same, t)
 module _ (piece : Piece) {S : Type 0} (knows : Known S) (start : Option (List ℕ)) where
   pub run_start : (w : WalkValue) (s : S) → w ≡ new_walk → knows.has s [] → HasRun piece knows start start [] w s
   run_start w s is known = subst (λ w. HasRun piece knows start start [] w s) (sym is) (record { entries = []; trace = (refl, refl); counted = refl; text = []; is = refl; appended = Appends-nil start; known = known })
+
+  -- the entries so far lead to the step of the job
+  pub run_arrives : (now : Option (List ℕ)) (lines : List (List ℕ)) (w : WalkValue) (s : S) (p : HasRun piece knows start now lines w s) → w.step ≡ step_after p.entries
+  run_arrives now lines w s p = traces_arrive w.step 1 None lines p.entries p.trace
 
   module _ (now later : Option (List ℕ)) (lines : List (List ℕ)) (w : WalkValue) (s : S) (p : HasRun piece knows start now lines w s) where
     -- one more line

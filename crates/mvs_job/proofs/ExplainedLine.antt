@@ -2,7 +2,6 @@
 use Rattle.std.proofs.Common.{◌≡◌, ℕ, List, [], ◌∷◌, ◌++◌, append-nil, inl, inr, true, false, Option, Some, None, Result, Ok, Err, length, ◌≤◌, refl, sym, ap, ◌∙◌, subst}
 use Rattle.mvs_model.specs.declared.line.Fault.{Fault}
 use Rattle.mvs_model.specs.declared.line.Line.{Line}
-use Rattle.mvs_model.specs.declared.line.Line.TheVariants.{Nothing}
 use Rattle.mvs_model.specs.Answers.{Event, Faulted}
 use Rattle.mvs_model.specs.Job.{JobValue}
 use Rattle.mvs_model.specs.Memory.{TakesMemory}
@@ -23,11 +22,11 @@ use Rattle.mvs_job.specs.declared.walk.LineEvent.TheVariants as line_event
 use Rattle.mvs_job.specs.Consuming.{AcceptsLast, IsEnd, IsEntry, IsOfLine}
 use Rattle.mvs_job.specs.Explained.{ExplainedArePrintings, IsExplained, IsExplainedAs, SetsNames, explained, set_after, set_by_entries, set_from}
 use Rattle.mvs_job.specs.Explaining.{IsExplanationText, explanation_text, text_of_event, without_starred}
-use Rattle.mvs_job.specs.Granting.{IsReadIn, reports_grant}
+use Rattle.mvs_job.specs.Granting.{reports_grant}
 use Rattle.mvs_job.specs.Looking.{IsLooking, knows_set}
 use Rattle.mvs_job.specs.NamedAddress.{NameOrigins, SetsSome, no_lines, names_after}
 use Rattle.mvs_job.specs.Observing.{ObservesLine}
-use Rattle.mvs_job.specs.LineEvents.{ServesAs, WalkValue, events_of_line}
+use Rattle.mvs_job.specs.LineEvents.{IsReadIn, ServesAs, WalkValue, events_of_line}
 use Rattle.mvs_job.specs.Trace.{Closed, Entry, Executed, Exhausted, Faulty, Kind}
 use Rattle.mvs_job.specs.Why.{line_reason}
 use Rattle.mvs_job.proofs.AfterLines.{keeps, kept_after, kept_same, kept_with}
@@ -35,9 +34,9 @@ use Rattle.mvs_job.proofs.Kept.{stops_naming}
 
 -- ---- the names that are set
 
-set_then : (set : NameOrigins) (history : List Entry) (e : Entry) → set_from set (history ++ e ∷ []) ≡ set_after e.before (set_from set history) e e.kind
+set_then : (set : NameOrigins) (history : List Entry) (e : Entry) → set_from set (history ++ e ∷ []) ≡ set_after (set_from set history) e e.kind
 set_then set [] e = refl
-set_then set (x ∷ history) e = set_then (set_after x.before set x x.kind) history e
+set_then set (x ∷ history) e = set_then (set_after set x x.kind) history e
 
 -- ---- the entry of a line
 
@@ -75,7 +74,7 @@ module _ (n : ℕ) (line : List ℕ) (w : WalkValue) (e : Entry) where
 
   -- the job before the line
   abbrev pub before_it : WalkValue
-  before_it = record { step = e.before; number = n; reply = w.reply }
+  before_it = record { step = e.before; number = n; read = w.read; reply = w.reply }
 
   serves_as : (t : LineEvent) → Said n line t w e → ServesAs before_it line t w
   serves_as (line_event.Faulted fault) (of, kind, same) = (of, same)
@@ -89,53 +88,47 @@ module _ (n : ℕ) (line : List ℕ) (w : WalkValue) (e : Entry) where
 
   -- ---- what is printed of it
 
-  module _ (set : NameOrigins) (mid after x : Explained) (look : IsLooking e.before set line mid) (why : x.why ≡ after.why) (naming : x.naming ≡ after.naming) where
+  module _ (set : NameOrigins) (mid after x : Explained) (look : IsLooking e.before set w.read mid) (why : x.why ≡ after.why) (naming : x.naming ≡ after.naming) where
     -- the explanations by what is kept
-    same_after : (t : LineEvent) → x.reason ≡ line_reason w.step after.why.read after.why.reason t → (events : List Event) → explanation_text (kept_with set line mid after x.lines (line_reason w.step after.why.read after.why.reason t)) events w.step ≡ explanation_text x events w.step
-    same_after t reason events = ap (λ (y : Explained). explanation_text y events w.step) (kept_same set line mid after x.lines x (line_reason w.step after.why.read after.why.reason t) why naming reason refl)
+    same_after : (t : LineEvent) → x.reason ≡ line_reason w.step w.read after.why.reason t → (events : List Event) → explanation_text (kept_with set line w.read mid after x.lines (line_reason w.step w.read after.why.reason t)) w.read events w.step ≡ explanation_text x w.read events w.step
+    same_after t reason events = ap (λ (y : Explained). explanation_text y w.read events w.step) (kept_same set line w.read mid after x.lines x (line_reason w.step w.read after.why.reason t) why naming reason refl)
 
-    executed_text : (t : LineEvent) → x.reason ≡ line_reason w.step after.why.read after.why.reason t → IsEntry n line w t e → (said : Line) → e.kind ≡ Executed said → e.bytes ≡ line → ServesAs before_it line t w → ObservesLine keeps mid e.before line t w after
-        → IsExplainedAs set e e.kind (printing (events_of_line n w t) ++ explanation_text x (events_of_line n w t) w.step)
+    executed_text : (t : LineEvent) → x.reason ≡ line_reason w.step w.read after.why.reason t → IsEntry n line w t e → (said : Line) → e.kind ≡ Executed said → e.bytes ≡ line → ServesAs before_it line t w → ObservesLine keeps mid e.before line t w after
+        → IsExplainedAs set e e.kind (printing (events_of_line n w t) ++ explanation_text x w.read (events_of_line n w t) w.step)
     executed_text t reason entry said kind bytes tells observed =
         let events = events_of_line n w t in
-        let trailing = (kept_after set line mid after x.lines before_it w look t tells observed).0 in
-        let here : IsExplanationText e.before set line events w.step (explanation_text x events w.step) = subst (λ y. IsExplanationText e.before set line events w.step y) (same_after t reason events) trailing in
-        let at : IsExplanationText e.before set e.bytes e.events e.after (explanation_text x events w.step) = subst (λ b. IsExplanationText e.before set b e.events e.after (explanation_text x events w.step)) (sym bytes)
-        (subst (λ v. IsExplanationText e.before set line v e.after (explanation_text x events w.step)) (sym entry.events) (subst (λ o. IsExplanationText e.before set line events o (explanation_text x events w.step)) (sym entry.after) here)) in
-        subst (λ k. IsExplainedAs set e k (printing events ++ explanation_text x events w.step)) (sym kind) (explanation_text x events w.step, at, ap (λ v. printing v ++ explanation_text x events w.step) (sym entry.events))
+        let trailing = (kept_after set line w.read mid after x.lines before_it w entry.read look t tells observed).0 in
+        let here : IsExplanationText e.before set line events w.step (explanation_text x w.read events w.step) = subst (λ y. IsExplanationText e.before set line events w.step y) (same_after t reason events) trailing in
+        let at : IsExplanationText e.before set e.bytes e.events e.after (explanation_text x w.read events w.step) = subst (λ b. IsExplanationText e.before set b e.events e.after (explanation_text x w.read events w.step)) (sym bytes)
+        (subst (λ v. IsExplanationText e.before set line v e.after (explanation_text x w.read events w.step)) (sym entry.events) (subst (λ o. IsExplanationText e.before set line events o (explanation_text x w.read events w.step)) (sym entry.after) here)) in
+        subst (λ k. IsExplainedAs set e k (printing events ++ explanation_text x w.read events w.step)) (sym kind) (explanation_text x w.read events w.step, at, ap (λ v. printing v ++ explanation_text x w.read events w.step) (sym entry.events))
 
-    text_of : (t : LineEvent) → x.reason ≡ line_reason w.step after.why.read after.why.reason t → IsEntry n line w t e → Said n line t w e → ObservesLine keeps mid e.before line t w after → IsExplainedAs set e e.kind (text_of_event x n w t)
+    text_of : (t : LineEvent) → x.reason ≡ line_reason w.step w.read after.why.reason t → IsEntry n line w t e → Said n line t w e → ObservesLine keeps mid e.before line t w after → IsExplainedAs set e e.kind (text_of_event x n w t)
     text_of (line_event.Faulted fault) reason entry (of, kind, same) observed = subst (λ k. IsExplainedAs set e k (printing (events_of_line n w (line_event.Faulted fault)))) (sym kind) (ap printing (sym entry.events))
     text_of line_event.Nothing reason entry (said, of, serves, kind, number, bytes) observed = executed_text line_event.Nothing reason entry said kind bytes (said, of, serves) observed
     text_of (line_event.StepBegan end card) reason entry (said, of, serves, kind, number, bytes) observed = executed_text (line_event.StepBegan end card) reason entry said kind bytes (said, of, serves) observed
     text_of (line_event.Answered t a) reason entry (said, of, serves, kind, number, bytes) observed = executed_text (line_event.Answered t a) reason entry said kind bytes (said, of, serves) observed
 
-    pub explained_text : (t : LineEvent) → x.reason ≡ line_reason w.step after.why.read after.why.reason t → IsEntry n line w t e → ObservesLine keeps mid e.before line t w after → IsExplainedAs set e e.kind (text_of_event x n w t)
+    pub explained_text : (t : LineEvent) → x.reason ≡ line_reason w.step w.read after.why.reason t → IsEntry n line w t e → ObservesLine keeps mid e.before line t w after → IsExplainedAs set e e.kind (text_of_event x n w t)
     explained_text t reason entry observed = text_of t reason entry (said_by t entry) observed
 
   -- ---- the names after it
 
   module _ (set : NameOrigins) (read : Line) (is : IsReadIn e.before line read) where
-    nothing_set : (events : List Event) → read ≡ Nothing → names_after n set read events ≡ set
-    nothing_set events none = ap (λ l. names_after n set l events) none
+    set_executed : (t : LineEvent) → e.events ≡ events_of_line n w t → (said : Line) → LineOf (is_first e.before) line said → e.kind ≡ Executed said → e.number ≡ n → names_after n set read (events_of_line n w t) ≡ set_after set e e.kind
+    set_executed t events said of kind number = elim is [
+      | inl here ↦ ap (λ l. names_after n set l (events_of_line n w t)) (one_reading.one_line (is_first e.before) line read said here of) ∙ ap (λ m. names_after m set said (events_of_line n w t)) (sym number) ∙ ap (λ v. names_after e.number set said v) (sym events)
+          ∙ ap (λ k. set_after set e k) (sym kind)
+      | inr f ↦ absurd (one_reading.not_both (is_first e.before) line said f.0 of f.1)
+    ]
 
-    set_executed : (t : LineEvent) → e.events ≡ events_of_line n w t → (said : Line) → LineOf (is_first e.before) line said → e.kind ≡ Executed said → e.number ≡ n → names_after n set read (events_of_line n w t) ≡ set_after e.before set e e.kind
-    set_executed t events said of kind number = at e.before refl is of where
-      at : (o : Option JobValue) → e.before ≡ o → IsReadIn o line read → LineOf (is_first o) line said → names_after n set read (events_of_line n w t) ≡ set_after o set e e.kind
-      at None o none here = nothing_set (events_of_line n w t) none
-      at (Some job) o (inl of) here =
-          ap (λ l. names_after n set l (events_of_line n w t)) (one_reading.one_line false line read said of here) ∙ ap (λ m. names_after m set said (events_of_line n w t)) (sym number) ∙ ap (λ v. names_after e.number set said v) (sym events)
-          ∙ ap (λ k. set_after (Some job) set e k) (sym kind)
-      at (Some job) o (inr (fault, of, none)) here = absurd (one_reading.not_both false line said fault here of)
+    set_faulty : (fault : Fault) (events : List Event) → FaultOf (is_first e.before) line fault → e.kind ≡ Faulty fault → names_after n set read events ≡ set_after set e e.kind
+    set_faulty fault events of kind = elim is [
+      | inl here ↦ absurd (one_reading.not_both (is_first e.before) line read fault here of)
+      | inr f ↦ ap (λ l. names_after n set l events) f.2 ∙ ap (λ k. set_after set e k) (sym kind)
+    ]
 
-    set_faulty : (fault : Fault) (events : List Event) → FaultOf (is_first e.before) line fault → e.kind ≡ Faulty fault → names_after n set read events ≡ set_after e.before set e e.kind
-    set_faulty fault events of kind = at e.before is of where
-      at : (o : Option JobValue) → IsReadIn o line read → FaultOf (is_first o) line fault → names_after n set read events ≡ set_after o set e e.kind
-      at None none here = nothing_set events none
-      at (Some job) (inl said) here = absurd (one_reading.not_both false line read fault said here)
-      at (Some job) (inr (other, said, none)) here = nothing_set events none ∙ ap (λ k. set_after (Some job) set e k) (sym kind)
-
-    set_so : (t : LineEvent) → IsEntry n line w t e → Said n line t w e → names_after n set read (events_of_line n w t) ≡ set_after e.before set e e.kind
+    set_so : (t : LineEvent) → IsEntry n line w t e → Said n line t w e → names_after n set read (events_of_line n w t) ≡ set_after set e e.kind
     set_so (line_event.Faulted fault) entry (of, kind, same) = set_faulty fault (events_of_line n w (line_event.Faulted fault)) of kind
     set_so line_event.Nothing entry (said, of, serves, kind, number, bytes) = set_executed line_event.Nothing entry.events said of kind number
     set_so (line_event.StepBegan end card) entry (said, of, serves, kind, number, bytes) = set_executed (line_event.StepBegan end card) entry.events said of kind number
@@ -165,14 +158,14 @@ module _ (n : ℕ) (line : List ℕ) (w : WalkValue) (e : Entry) where
 
 pub text_begins_with_printing : (x : Explained) (n : ℕ) (w : WalkValue) (t : LineEvent) → (more : List ℕ) × (text_of_event x n w t ≡ printing (events_of_line n w t) ++ more)
 text_begins_with_printing x n w (line_event.Faulted fault) = ([], sym (append-nil (printing (events_of_line n w (line_event.Faulted fault)))))
-text_begins_with_printing x n w line_event.Nothing = (explanation_text x (events_of_line n w line_event.Nothing) w.step, refl)
-text_begins_with_printing x n w (line_event.StepBegan end card) = (explanation_text x (events_of_line n w (line_event.StepBegan end card)) w.step, refl)
-text_begins_with_printing x n w (line_event.Answered t a) = (explanation_text x (events_of_line n w (line_event.Answered t a)) w.step, refl)
+text_begins_with_printing x n w line_event.Nothing = (explanation_text x w.read (events_of_line n w line_event.Nothing) w.step, refl)
+text_begins_with_printing x n w (line_event.StepBegan end card) = (explanation_text x w.read (events_of_line n w (line_event.StepBegan end card)) w.step, refl)
+text_begins_with_printing x n w (line_event.Answered t a) = (explanation_text x w.read (events_of_line n w (line_event.Answered t a)) w.step, refl)
 
 pub text_of_fault : (x : Explained) (n : ℕ) (w : WalkValue) (t : LineEvent) (fault : Fault) → t ≡ line_event.Faulted fault → text_of_event x n w t ≡ printing (events_of_line n w t)
 text_of_fault x n w t fault is = subst (λ t. text_of_event x n w t ≡ printing (events_of_line n w t)) (sym is) refl
 
-pub text_after_printing : (x : Explained) (n : ℕ) (w : WalkValue) (t : LineEvent) → ((fault : Fault) → t ≡ line_event.Faulted fault → ⊥) → text_of_event x n w t ≡ printing (events_of_line n w t) ++ explanation_text x (events_of_line n w t) w.step
+pub text_after_printing : (x : Explained) (n : ℕ) (w : WalkValue) (t : LineEvent) → ((fault : Fault) → t ≡ line_event.Faulted fault → ⊥) → text_of_event x n w t ≡ printing (events_of_line n w t) ++ explanation_text x w.read (events_of_line n w t) w.step
 text_after_printing x n w (line_event.Faulted fault) other = absurd (other fault refl)
 text_after_printing x n w line_event.Nothing other = refl
 text_after_printing x n w (line_event.StepBegan end card) other = refl
@@ -188,10 +181,7 @@ end_text : (n : ℕ) (how : End) (e : Entry) → IsEnd n how e → (set : NameOr
 end_text n how e is set text same = end_kind n how e is (λ k. IsExplainedAs set e k text) same (λ said. same)
 
 end_set : (n : ℕ) (how : End) (e : Entry) → IsEnd n how e → (history : List Entry) → set_by_entries history ≡ set_by_entries (history ++ e ∷ [])
-end_set n how e is history = at e.before ∙ sym (set_then no_lines history e) where
-  at : (o : Option JobValue) → set_by_entries history ≡ set_after o (set_by_entries history) e e.kind
-  at None = refl
-  at (Some job) = end_kind n how e is (λ k. set_by_entries history ≡ set_after (Some job) (set_by_entries history) e k) refl (λ said. refl)
+end_set n how e is history = end_kind n how e is (λ k. set_by_entries history ≡ set_after (set_by_entries history) e k) refl (λ said. refl) ∙ sym (set_then no_lines history e)
 
 pub explains_end : {X : Type 0} (before after : Option (List ℕ)) (first x : Explained) (n : ℕ) (how : End) (result : Result X Failed) (events : List Event) → ((e : Entry) → IsEnd n how e → e.events ≡ events) → WritesAll before after result (printing events)
     → (history : List Entry) (e : Entry) → IsEnd n how e → (knows_set first).has x history → AcceptsLast {S = Explained} {X = X} explained (knows_set first) before after x history e result

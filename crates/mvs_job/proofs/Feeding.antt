@@ -24,7 +24,7 @@ use Rattle.mvs_job.specs.Exchanging.{IsRest}
 use Rattle.mvs_job.specs.Streams.{Feeds, FeedsSome, Finishes, HasAnswered, HasEnded, HasGivenUp, IsUnderWay, HasConsumed, fault_of}
 use Rattle.mvs_job.specs.LineEvents.{WalkValue, new_walk}
 use Rattle.mvs_job.specs.Trace.{Entry, Faulty, IsFaulty}
-use Rattle.mvs_job.proofs.Driving.{run_ended, run_fault, run_front, run_next, run_start, run_stopped}
+use Rattle.mvs_job.proofs.Driving.{run_arrives, run_ended, run_fault, run_front, run_next, run_start, run_stopped}
 use Rattle.mvs_job.proofs.FirstLine.{lines_at_other}
 
 -- ---- lines
@@ -142,7 +142,7 @@ module _ (piece : Piece) {S : Type 0} (knows : Known S) where
       cut = ap (λ x. x ++ 10 ∷ []) st.cut ∙ append_assoc (ended_text st.lines) kept (10 ∷ []) ∙ sym (ended_more st.lines kept) ∙ sym (append-nil (ended_text (st.lines ++ kept ∷ [])));
       each = each_more st.lines kept st.each st.unended;
       unended = tt;
-      run = run_next piece knows start now later st.lines w s st.run kept w' s' next (r st.run.entries st.run.known);
+      run = run_next piece knows start now later st.lines w s st.run kept w' s' next (r st.run.entries (run_arrives piece knows start now st.lines w s st.run) st.run.known);
     }
 
     -- the next line of the script
@@ -160,23 +160,23 @@ module _ (piece : Piece) {S : Type 0} (knows : Known S) where
   pub feeds_line : (before after : Option (List ℕ)) (w w' : WalkValue) (k : List ℕ) (s s' : S) (r : Result Bool Stop) → w'.number ≡ w.number + 1 → RunsNext piece knows before after w k w' s s' r → Feeds piece knows before after (10 ∷ []) w k s w' [] s' r
   feeds_line before after w w' k s s' (Ok true) next h = λ start consumed st. stands_next start before after consumed w w' k s s' st next h
   feeds_line before after w w' k s s' (Ok false) next h = λ start consumed st more.
-      stands_fault start before after consumed w w' k s s' st (10 ∷ more) k (lines_of more) (lines_ended k more st.unended) (h st.run.entries st.run.known)
+      stands_fault start before after consumed w w' k s s' st (10 ∷ more) k (lines_of more) (lines_ended k more st.unended) (h st.run.entries (run_arrives piece knows start before st.lines w s st.run) st.run.known)
   feeds_line before after w w' k s s' (Err stop) next h = λ start consumed st more.
-      stands_stopped start before after consumed w w' k s s' st (10 ∷ more) k (lines_of more) (lines_ended k more st.unended) stop (h st.run.entries st.run.known)
+      stands_stopped start before after consumed w w' k s s' st (10 ∷ more) k (lines_of more) (lines_ended k more st.unended) stop (h st.run.entries (run_arrives piece knows start before st.lines w s st.run) st.run.known)
 
   -- the 256th byte of a line
   pub feeds_full : (before after : Option (List ℕ)) (w w' : WalkValue) (b : ℕ) (k : List ℕ) (s s' : S) (r : Result Bool Stop) → RunsNext piece knows before after w (k ++ b ∷ []) w' s s' r → length (k ++ b ∷ []) ≡ 256 → b ≢ 10
       → Feeds piece knows before after (b ∷ []) w k s w' [] s' r
   feeds_full before after w w' b k s s' (Ok true) h size ne = λ start consumed st.
-      absurd (let is = (h st.run.entries st.run.known).1 in not_long (is_first w.step) (k ++ b ∷ []) is.0 (omega (arith, size)) is.3)
+      absurd (let is = (h st.run.entries (run_arrives piece knows start before st.lines w s st.run) st.run.known).1 in not_long (is_first w.step) (k ++ b ∷ []) is.0 (omega (arith, size)) is.3)
   feeds_full before after w w' b k s s' (Ok false) h size ne = λ start consumed st more.
       let line = k ++ b ∷ [] in
       let x = begins line more (omega (arith, size)) (all_both k (b ∷ []) st.unended (ne, tt)) in
-      stands_fault start before after consumed w w' k s s' st (b ∷ more) (line ++ x.0) x.1 (ap lines_of (sym (append_assoc k (b ∷ []) more)) ∙ x.2) (long_ran before after w w' line x.0 st.run.entries s' (Ok false) size (h st.run.entries st.run.known))
+      stands_fault start before after consumed w w' k s s' st (b ∷ more) (line ++ x.0) x.1 (ap lines_of (sym (append_assoc k (b ∷ []) more)) ∙ x.2) (long_ran before after w w' line x.0 st.run.entries s' (Ok false) size (h st.run.entries (run_arrives piece knows start before st.lines w s st.run) st.run.known))
   feeds_full before after w w' b k s s' (Err stop) h size ne = λ start consumed st more.
       let line = k ++ b ∷ [] in
       let x = begins line more (omega (arith, size)) (all_both k (b ∷ []) st.unended (ne, tt)) in
-      stands_stopped start before after consumed w w' k s s' st (b ∷ more) (line ++ x.0) x.1 (ap lines_of (sym (append_assoc k (b ∷ []) more)) ∙ x.2) stop (long_ran before after w w' line x.0 st.run.entries s' (Err stop) size (h st.run.entries st.run.known))
+      stands_stopped start before after consumed w w' k s s' st (b ∷ more) (line ++ x.0) x.1 (ap lines_of (sym (append_assoc k (b ∷ []) more)) ∙ x.2) stop (long_ran before after w w' line x.0 st.run.entries s' (Err stop) size (h st.run.entries (run_arrives piece knows start before st.lines w s st.run) st.run.known))
 
   -- the same two, as a call of end_line leaves the job
   pub fed_line : (before after : Option (List ℕ)) (w w' : WalkValue) (b : ℕ) (k line k' : List ℕ) (s s' : S) (r : Result Bool Stop) → RunsNext piece knows before after w line w' s s' r → (b ≡ 10) × (line ≡ k) → w'.number ≡ w.number + 1 → k' ≡ []
@@ -292,7 +292,7 @@ module _ (piece : Piece) {S : Type 0} (knows : Known S) (start now : Option (Lis
   pub last_none : (later : Option (List ℕ)) (s' : S) (r : Result Outcome Stop) → length k ≡ 0 → RunsLast piece knows now later w s s' r → Leaves piece knows start later consumed s' r
   last_none later s' r none h =
       let all : lines_of consumed ≡ st.lines = ap lines_of (sym (append-nil consumed)) ∙ script_cut piece knows start now consumed w k s st [] ∙ ap (λ x. st.lines ++ x) (no_lines k none) ∙ append-nil st.lines in
-      run_ended piece knows start now later st.lines w s st.run consumed all s' r (h st.run.entries st.run.known)
+      run_ended piece knows start now later st.lines w s st.run consumed all s' r (h st.run.entries (run_arrives piece knows start now st.lines w s st.run) st.run.known)
 
   -- the last line
   module _ (later : Option (List ℕ)) (w' : WalkValue) (s' : S) (some : length k ≡ 0 → ⊥) where
@@ -301,14 +301,14 @@ module _ (piece : Piece) {S : Type 0} (knows : Known S) (start now : Option (Lis
 
     pub last_line : (b : Bool) → b ≡ true → w'.number ≡ w.number + 1 → RunsNext piece knows now later w k w' s s' (Ok b) → (last : Option (List ℕ)) (s2 : S) (r : Result Outcome Stop) → RunsLast piece knows later last w' s' s2 r → Leaves piece knows start last consumed s2 r
     last_line b is next h last s2 r e =
-        let run = run_next piece knows start now later st.lines w s st.run k w' s' next (subst (λ b. RunsNext piece knows now later w k w' s s' (Ok b)) is h st.run.entries st.run.known) in
-        run_ended piece knows start later last (st.lines ++ k ∷ []) w' s' run consumed at_last s2 r (e run.entries run.known)
+        let run = run_next piece knows start now later st.lines w s st.run k w' s' next (subst (λ b. RunsNext piece knows now later w k w' s s' (Ok b)) is h st.run.entries (run_arrives piece knows start now st.lines w s st.run) st.run.known) in
+        run_ended piece knows start later last (st.lines ++ k ∷ []) w' s' run consumed at_last s2 r (e run.entries (run_arrives piece knows start later (st.lines ++ k ∷ []) w' s' run) run.known)
 
     pub last_fault : (b : Bool) → b ≡ false → RunsNext piece knows now later w k w' s s' (Ok b) → Leaves piece knows start later consumed s' (Ok ScriptFault)
-    last_fault b is h = run_fault piece knows start now later st.lines w s st.run consumed k [] at_last w' s' (subst (λ b. RunsNext piece knows now later w k w' s s' (Ok b)) is h st.run.entries st.run.known)
+    last_fault b is h = run_fault piece knows start now later st.lines w s st.run consumed k [] at_last w' s' (subst (λ b. RunsNext piece knows now later w k w' s s' (Ok b)) is h st.run.entries (run_arrives piece knows start now st.lines w s st.run) st.run.known)
 
     pub last_stopped : (stop : Stop) → RunsNext piece knows now later w k w' s s' (Err stop) → Leaves piece knows start later consumed s' (Err stop)
-    last_stopped stop h = run_stopped piece knows start now later st.lines w s st.run consumed k [] at_last w' s' stop (h st.run.entries st.run.known)
+    last_stopped stop h = run_stopped piece knows start now later st.lines w s st.run consumed k [] at_last w' s' stop (h st.run.entries (run_arrives piece knows start now st.lines w s st.run) st.run.known)
 
 -- ---- a read
 

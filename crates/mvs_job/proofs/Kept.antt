@@ -39,9 +39,9 @@ use Rattle.mvs_model.proofs.Reading.{one_reading}
 use Rattle.mvs_model.proofs.Tests.{by_test}
 use Rattle.mvs_job.specs.declared.walk.LineEvent.{LineEvent}
 use Rattle.mvs_job.specs.declared.walk.LineEvent.TheVariants as line_event
-use Rattle.mvs_job.specs.Granting.{IsReadIn, is_grant, reports_grant}
+use Rattle.mvs_job.specs.Granting.{is_grant, reports_grant}
 use Rattle.mvs_job.specs.NamedAddress.{HasLengths, AreNamesAfter, RecordsOrigins, NameOrigins, SetsSome, lines_before, names_after}
-use Rattle.mvs_job.specs.LineEvents.{ServesAs, WalkValue, events_of_line}
+use Rattle.mvs_job.specs.LineEvents.{IsReadIn, ServesAs, WalkValue, events_of_line}
 
 -- ---- a granted request that sets names gives them places
 
@@ -136,8 +136,9 @@ module _ (job : JobValue) (t : Name) (a : SourceRequest) (some : names_set a ≢
 module _ (number : ℕ) (l : List ℕ) (events : List Event) (new : Option JobValue) where
   -- memory may be wanting for a line that is granted such a request
   stops : (step : Option JobValue) (read : Line) → IsReadIn step l read → SetsSome read → ServesLine machine number step l events new → reports_grant events ≡ true → StopsForMemory number step (l ∷ []) []
-  stops None read is sets h g = absurd (subst SetsSome is sets)
-  stops (Some job) read (inr (fault, of, is)) sets h g = absurd (subst SetsSome is sets)
+  stops step read (inr (fault, of, is)) sets h g = absurd (subst SetsSome is sets)
+  stops None (line.Statement t (says.Request a)) (inl of) sets (other, is, serves) g = absurd (subst (λ x. Serves machine number None x events new) (one_reading.one_line true l other (line.Statement t (says.Request a)) is of) serves)
+  stops None read (inl of) sets h g = absurd sets
   stops (Some job) (line.Statement t (says.Request a)) (inl of) (some, long) (other, is, serves) g =
       let here = subst (λ x. Serves machine number (Some job) x events new) (one_reading.one_line false l other (line.Statement t (says.Request a)) is of) serves in
       (line.Statement t (says.Request a), of, (refl, sets_name job t a some long here.0 here.1 (ap reports_grant (sym here.3) ∙ g) here.2))
@@ -145,7 +146,13 @@ module _ (number : ℕ) (l : List ℕ) (events : List Event) (new : Option JobVa
 
   -- the lines that set names after it
   set_at : (step : Option JobValue) (set mid later : NameOrigins) (read : Line) → mid ≡ lines_before step set → IsReadIn step l read → ServesLine machine number step l events new → later ≡ names_after number mid read events → AreNamesAfter number step set l events later
-  set_at None set mid later read before is h e = e ∙ ap (λ x. names_after number mid x events) is ∙ before
+  set_at None set mid later read before (inr (fault, of, is)) h e = e ∙ ap (λ x. names_after number mid x events) is ∙ before
+  set_at None set mid later line.Nothing before (inl of) h e = e ∙ before
+  set_at None set mid later (line.Statement t (says.Region below above fill residence)) before (inl of) h e = e
+  set_at None set mid later (line.Statement t (says.Request a)) before (inl of) (other, is, serves) e = absurd (subst (λ x. Serves machine number None x events new) (one_reading.one_line true l other (line.Statement t (says.Request a)) is of) serves)
+  set_at None set mid later (line.Statement t (says.Where name)) before (inl of) h e = e ∙ before
+  set_at None set mid later (line.Statement t says.ReportSubpools) before (inl of) h e = e ∙ before
+  set_at None set mid later (line.Statement t says.ReportMap) before (inl of) h e = e ∙ before
   set_at (Some job) set mid later read before (inl of) h e = (read, of, e ∙ ap (λ m. names_after number m read events) before)
   set_at (Some job) set mid later read before (inr (fault, of, is)) (other, says, serves) e = absurd (one_reading.not_both false l other fault says of)
 

@@ -2,6 +2,7 @@
 use Rattle.std.proofs.Common.{◌≡◌, ◌⊎◌, ℕ, ◌+◌, ◌<◌, ◌≤◌, inl, inr, List, [], ◌∷◌, ◌++◌, length, take, arith, append_assoc, append-nil, Option, None, Bool, true, false, Result, IfOk, IfErr, Ok, Err, refl, sym, ap, ◌∙◌, subst}
 use Rattle.std.proofs.lemmas.List.{take_all}
 use Rattle.std.specs.Io.KnownBytes.{Appends}
+use Rattle.mvs_model.specs.declared.line.Line.{Line}
 use Rattle.mvs_model.specs.declared.outcome.Outcome.{Outcome}
 use Rattle.mvs_model.specs.Answers.{Event, Faulted}
 use Rattle.mvs_model.specs.Lines.{lines_of}
@@ -31,7 +32,7 @@ use Rattle.mvs_job.specs.Serving.{RunsLine}
 use Rattle.mvs_job.specs.Streams.{GivesUp, HasAnswered, HasEnded, HasGivenUp}
 use Rattle.mvs_job.specs.Observing.{Hearing}
 use Rattle.mvs_job.specs.LineEvents.{WalkValue, events_of_line}
-use Rattle.mvs_job.specs.Trace.{Arrives, Ending, Ends, Entry, Exhausts, IsTrace, Stops, events_of}
+use Rattle.mvs_job.specs.Trace.{Arrives, Closed, Ending, Ends, Entry, Exhausts, IsTrace, Stops, events_of}
 use Rattle.mvs_job.proofs.Serving.{stopped_front}
 use Rattle.mvs_job.proofs.Tracing.{IsSplit, stops_walk, trace_split, traces_are_runs, walk_of}
 
@@ -48,12 +49,12 @@ pub prints_end : {S X : Type 0} (before after : Option (List ℕ)) (first s s' :
 prints_end before after first s s' n how (Ok x) events same p history e is = ((printing events, ap printing (sym (same e is)), p), tt)
 prints_end before after first s s' n how (Err failed) events same p history e is = ((printing events, ap printing (sym (same e is)), p), tt)
 
-module _ {S : Type 0} (heard : Hearing S) (sees : S → Option JobValue → List ℕ → Type 0) (before after : Option (List ℕ)) (first s s' : S) (n : ℕ) (line : List ℕ) (w : WalkValue) (t : LineEvent) where
+module _ {S : Type 0} (heard : Hearing S) (sees : S → Option JobValue → Line → Type 0) (before after : Option (List ℕ)) (first s s' : S) (n : ℕ) (line : List ℕ) (w : WalkValue) (t : LineEvent) where
   pub prints_line : {X : Type 0} (x : X) → Appends before after (printing (events_of_line n w t)) → AcceptsLine {S = S} {X = X} printed heard sees (keeps_nothing first) before after s s' n line w t (Ok x)
-  prints_line x a mid history e is seen observed known = ((printing (events_of_line n w t), ap printing (sym is.events), a), tt)
+  prints_line x a mid history e is follows seen observed known = ((printing (events_of_line n w t), ap printing (sym is.events), a), tt)
 
   pub prints_front : (X : Type 0) → AppendsFront before after (printing (events_of_line n w t)) → AcceptsLine {S = S} {X = X} printed heard sees (keeps_nothing first) before after s s' n line w t (Err stop.Write)
-  prints_front X a mid history e is seen observed known = ((printing (events_of_line n w t), ap printing (sym is.events), a), tt)
+  prints_front X a mid history e is follows seen observed known = ((printing (events_of_line n w t), ap printing (sym is.events), a), tt)
 
 -- ---- the text of a trace
 
@@ -183,17 +184,21 @@ module _ (before after : Option (List ℕ)) (w : WalkValue) (line : List ℕ) (n
   any_line e (inr (inl (fault, of, is))) f = inr (Faulted w.number fault ∷ [], inr (fault, of, refl), front_at e (Faulted w.number fault ∷ []) (ap (λ e. e.events) is) f)
   any_line e (inr (inr (said, events, of, takes, is))) f = stopped_front w line events before after (said, of, takes) (front_at e events (ap (λ e. e.events) is) f)
 
+  -- an entry that leads to the step of the job
+  so_far : List Entry
+  so_far = record { number = 0; bytes = []; kind = Closed; events = []; before = None; after = w.step } ∷ []
+
   -- what is written for an entry
-  piece_at : (e : Entry) (events : List Event) → e.events ≡ events → WritesPiece printed before after [] e → Appends before after (printing events)
+  piece_at : (e : Entry) (events : List Event) → e.events ≡ events → WritesPiece printed before after so_far e → Appends before after (printing events)
   piece_at e events is (one, may, a) = printed_at e events is (subst (Appends before after) may a)
 
   pub printed_line : (r : Result Bool Stop) → RunsNext printed (keeps_nothing first) before after w line new s s' r → RunsLine before after w line new r
   printed_line (Ok true) ran =
-      let (e, (said, events, later, of, serves, is), to, a, known) = ran [] tt in
+      let (e, (said, events, later, of, serves, is), to, a, known) = ran so_far refl tt in
       (events, piece_at e events (ap (λ e. e.events) is) a, (said, of, subst (Serves machine w.number w.step said events) (sym (ap (λ e. e.after) is) ∙ to) serves))
-  printed_line (Ok false) ran = let (e, (fault, of, is), a, known) = ran [] tt in (Faulted w.number fault ∷ [], piece_at e (Faulted w.number fault ∷ []) (ap (λ e. e.events) is) a, (fault, of, refl))
-  printed_line (Err stop.Write) ran = let (e, is, (one, may, f), known) = ran [] tt in any_line e is (subst (AppendsFront before after) may f)
-  printed_line (Err stop.Memory) ran = exhausted (ran [] tt) where
-    exhausted : RunsEntry printed (keeps_nothing first) before after w line new [] s' (Err stop.Memory) → RunsLine before after w line new (Err stop.Memory)
+  printed_line (Ok false) ran = let (e, (fault, of, is), a, known) = ran so_far refl tt in (Faulted w.number fault ∷ [], piece_at e (Faulted w.number fault ∷ []) (ap (λ e. e.events) is) a, (fault, of, refl))
+  printed_line (Err stop.Write) ran = let (e, is, (one, may, f), known) = ran so_far refl tt in any_line e is (subst (AppendsFront before after) may f)
+  printed_line (Err stop.Memory) ran = exhausted (ran so_far refl tt) where
+    exhausted : RunsEntry printed (keeps_nothing first) before after w line new so_far s' (Err stop.Memory) → RunsLine before after w line new (Err stop.Memory)
     exhausted (inl (e, (said, events, of, takes, is), a, known)) = (events, piece_at e events (ap (λ e. e.events) is) a, (said, of, takes))
     exhausted (inr (e, is, needs, kept, known)) = absurd needs

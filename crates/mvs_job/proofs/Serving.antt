@@ -16,7 +16,8 @@ use Rattle.mvs_model.specs.declared.request.Reply.{Reply}
 use Rattle.mvs_model.specs.declared.answer.Answer.{Answer as Short}
 use Rattle.mvs_model.specs.Answers.{Answer, Region, Event, AnswerTo}
 use Rattle.mvs_model.specs.declared.error.OutOfMemory.{OutOfMemory}
-use Rattle.mvs_model.specs.Job.{JobValue}
+use Rattle.mvs_model.specs.Card.{CardValue}
+use Rattle.mvs_model.specs.Job.{JobValue, job_at}
 use Rattle.mvs_model.specs.FullAnswers.{full_answer, ended_with_in}
 use Rattle.mvs_model.specs.Lines.{card_of}
 use Rattle.mvs_model.specs.Memory.{TakesMemory, StopsForMemory}
@@ -26,16 +27,17 @@ use Rattle.mvs_model.specs.Resolving.{resolved, all_set, names_set, places_in}
 use Rattle.mvs_model.specs.Runs.{Condition, Any, Asks, Does, Makes, job_machine, machine}
 use Rattle.mvs_model.specs.Steps.{Step}
 use Rattle.mvs_model.specs.Texts.{text_of, printing}
-use Rattle.mvs_model.specs.Walk.{Serves, ending, is_first}
+use Rattle.mvs_model.specs.Walk.{Serves, ending, has_abended, is_first}
 use Rattle.mvs_model.specs.Watched.{WatchedValue}
 use Rattle.mvs_laws.proofs.Determined.{line_other}
 use Rattle.mvs_laws.proofs.Going.{printed_both}
+use Rattle.job_script.specs.LineMeaning.{filled}
 use Rattle.line_text.specs.Writing.{Prints, AppendsFront}
 use Rattle.line_text.proofs.Appending.{front_longer, front_more}
 use Rattle.mvs_job.specs.declared.walk.OutOfMemoryAt.{OutOfMemoryAt}
 use Rattle.mvs_job.specs.declared.walk.LineEvent.{LineEvent}
 use Rattle.mvs_job.specs.declared.walk.LineEvent.TheVariants as line_event
-use Rattle.mvs_job.specs.LineEvents.{WalkValue, ServesAs, ServesAsUnder, IsAvailableIn, KeepsReply, region_card, ended, events_of_line, full_answer_in}
+use Rattle.mvs_job.specs.LineEvents.{IsReadIn, WalkValue, ServesAs, ServesAsUnder, IsAvailableIn, KeepsReply, KeepsReplyOf, region_card, end_of_step, ended, events_of_line, full_answer_in}
 
 -- A request that is made, and whose names are set.
 pub made_by : (P : Condition) (old : JobValue) (t : Name) (a : SourceRequest) (r : Request) (reply : Reply) (new : JobValue) → Step old.state t r reply new.state → P old.state t r reply new.state
@@ -78,6 +80,47 @@ module _ (P : Condition) (old new : WalkValue) (bytes : List ℕ) (first : Bool)
         (subst (λ o. Serves (job_machine P) old.number o (line.Statement t s) (AnswerTo old.number t (full_answer later.state (ended_with_in new.reply) t a) ∷ []) (Some later)) (sym e) (step_served t s step later (full_answer later.state (ended_with_in new.reply) t a) of_step does)),
   )
 
+  -- a REGION statement begins a step
+  some_card : (x y : CardValue) → Some x ≡ Some y → x ≡ y
+  some_card x y e = cc
+
+  same_end : (o : Option JobValue) → ended (end_of_step o) ≡ ending (job_machine P) o
+  same_end None = refl
+  same_end (Some job) = refl
+
+  same_former : (o : Option JobValue) → has_abended machine o ≡ has_abended (job_machine P) o
+  same_former None = refl
+  same_former (Some job) = refl
+
+  region_served : (t : Name) (s : Statement) (card : CardValue) (end : Option Bool) → region_card t s ≡ Some card → end ≡ end_of_step old.step → new.step ≡ Some (job_at card (has_abended machine old.step))
+      → Serves (job_machine P) old.number old.step (line.Statement t s) (ended end ++ AnswerTo old.number card.name (Region card) ∷ []) new.step
+  region_served t (says.Region below above fill residence) card end is ends began =
+      let same = some_card (card_of t below above fill residence) card is in (
+        ap (λ (c : CardValue). ended end ++ AnswerTo old.number c.name (Region c) ∷ []) (sym same) ∙ ap (λ x. x ++ AnswerTo old.number t (Region (card_of t below above fill residence)) ∷ []) (ap ended ends ∙ same_end old.step),
+        began ∙ ap (λ c. Some (job_at c (has_abended machine old.step))) (sym same) ∙ ap (λ b. Some (job_at (card_of t below above fill residence) b)) (same_former old.step),
+      )
+  region_served t (says.Request a) card end is ends began = absurd (let f : None ≡ Some card = is in cc)
+  region_served t (says.Where name) card end is ends began = absurd (let f : None ≡ Some card = is in cc)
+  region_served t says.ReportSubpools card end is ends began = absurd (let f : None ≡ Some card = is in cc)
+  region_served t says.ReportMap card end is ends began = absurd (let f : None ≡ Some card = is in cc)
+
+  pub event_began : (l : Line) (t : Name) (s : Statement) (card : CardValue) (end : Option Bool) → read ≡ Ok l → l ≡ line.Statement t s → region_card t s ≡ Some card → end ≡ end_of_step old.step → new.step ≡ Some (job_at card (has_abended machine old.step))
+      → ServesAsUnder P old bytes (line_event.StepBegan end card) new
+  event_began l t s card end is l_is of_card ends began = (line.Statement t s, said_so first (is_first old.step) bytes read (line.Statement t s) same reading (is ∙ ap (λ x. Ok x) l_is), region_served t s card end of_card ends began)
+
+  region_stops : (t : Name) (s : Statement) (card : CardValue) (end : Option Bool) → region_card t s ≡ Some card → end ≡ end_of_step old.step → TakesMemory old.step (line.Statement t s) (ended end)
+  region_stops t (says.Region below above fill residence) card end is ends = ap ended ends ∙ other_end old.step where
+    other_end : (o : Option JobValue) → ended (end_of_step o) ≡ ending machine o
+    other_end None = refl
+    other_end (Some job) = refl
+  region_stops t (says.Request a) card end is ends = absurd (let f : None ≡ Some card = is in cc)
+  region_stops t (says.Where name) card end is ends = absurd (let f : None ≡ Some card = is in cc)
+  region_stops t says.ReportSubpools card end is ends = absurd (let f : None ≡ Some card = is in cc)
+  region_stops t says.ReportMap card end is ends = absurd (let f : None ≡ Some card = is in cc)
+
+  pub stops_at_region : (l : Line) (t : Name) (s : Statement) (card : CardValue) (end : Option Bool) → read ≡ Ok l → l ≡ line.Statement t s → region_card t s ≡ Some card → end ≡ end_of_step old.step → StopsForMemory old.number old.step (bytes ∷ []) (ended end)
+  stops_at_region l t s card end is l_is of_card ends = (line.Statement t s, said_so first (is_first old.step) bytes read (line.Statement t s) same reading (is ∙ ap (λ x. Ok x) l_is), region_stops t s card end of_card ends)
+
   pub stops_at_request : (l : Line) (t : Name) (s : Statement) → read ≡ Ok l → l ≡ line.Statement t s → TakesMemory old.step (line.Statement t s) [] → StopsForMemory old.number old.step (bytes ∷ []) (ended None)
   stops_at_request l t s is l_is takes = (line.Statement t s, said_so first (is_first old.step) bytes read (line.Statement t s) same reading (is ∙ ap (λ x. Ok x) l_is), takes)
 
@@ -87,6 +130,42 @@ serves_unconditionally P old new bytes (line_event.Faulted fault) h = h
 serves_unconditionally P old new bytes line_event.Nothing h = (h.0, h.1, line_other (λ _. P) (λ _. Any) old.number (λ _ _ _ _ _ _. tt) old.step h.0 _ new.step h.2)
 serves_unconditionally P old new bytes (line_event.StepBegan end card) h = (h.0, h.1, line_other (λ _. P) (λ _. Any) old.number (λ _ _ _ _ _ _. tt) old.step h.0 _ new.step h.2)
 serves_unconditionally P old new bytes (line_event.Answered t a) h = (h.0, h.1, line_other (λ _. P) (λ _. Any) old.number (λ _ _ _ _ _ _. tt) old.step h.0 _ new.step h.2)
+
+-- ---- a line that is parsed first
+
+-- what is read of it
+pub read_in : (step : Option JobValue) (bytes : List ℕ) (l : Line) (parsed : Result (Unit {0}) Fault) → IsReading (is_first step) bytes (filled l parsed) → OnErr parsed (l ≡ line.Nothing) → IsReadIn step bytes l
+read_in step bytes l (Ok x) reading none = inl reading
+read_in step bytes l (Err fault) reading none = inr (fault, reading, none)
+
+module _ (P : Condition) (old mid new : WalkValue) (bytes : List ℕ) (rest : mid ≡ record old { read = mid.read }) where
+  -- what it leads to does not depend on what was parsed before
+  before_read : (t : LineEvent) → ServesAsUnder P (record old { read = mid.read }) bytes t new → ServesAsUnder P old bytes t new
+  before_read (line_event.Faulted fault) h = h
+  before_read line_event.Nothing h = h
+  before_read (line_event.StepBegan end card) h = h
+  before_read (line_event.Answered t a) h = h
+
+  pub serves_before : (t : LineEvent) → ServesAsUnder P mid bytes t new → ServesAsUnder P old bytes t new
+  serves_before t h = before_read t (subst (λ m. ServesAsUnder P m bytes t new) rest h)
+
+  pub stops_before : (events : List Event) → StopsForMemory mid.number mid.step (bytes ∷ []) events → StopsForMemory old.number old.step (bytes ∷ []) events
+  stops_before events h = subst (λ m. StopsForMemory m.number m.step (bytes ∷ []) events) rest h
+
+  pub each_before : (r : Result LineEvent OutOfMemoryAt) → MatchResult r (λ t. ServesAsUnder P mid bytes t new) (λ s. StopsForMemory mid.number mid.step (bytes ∷ []) (ended s.ended))
+      → MatchResult r (λ t. ServesAsUnder P old bytes t new) (λ s. StopsForMemory old.number old.step (bytes ∷ []) (ended s.ended))
+  each_before (Ok t) h = serves_before t h
+  each_before (Err s) h = stops_before (ended s.ended) h
+
+  reply_read : (t : LineEvent) → KeepsReplyOf (record old { read = mid.read }) bytes t new → KeepsReplyOf old bytes t new
+  reply_read (line_event.Faulted fault) h = h
+  reply_read line_event.Nothing h = h
+  reply_read (line_event.StepBegan end card) h = h
+  reply_read (line_event.Answered t a) h = h
+
+  pub reply_before : (r : Result LineEvent OutOfMemoryAt) → IfOk r (λ t. KeepsReplyOf mid bytes t new) → IfOk r (λ t. KeepsReplyOf old bytes t new)
+  reply_before (Ok t) h = reply_read t (subst (λ m. KeepsReplyOf m bytes t new) rest h)
+  reply_before (Err s) h = tt
 
 pub each_serves : (P : Condition) (old new : WalkValue) (bytes : List ℕ) (r : Result LineEvent OutOfMemoryAt) (Q : OutOfMemoryAt → Type 0) → MatchResult r (λ t. ServesAsUnder P old bytes t new) Q → MatchResult r (λ t. ServesAs old bytes t new) Q
 each_serves P old new bytes (Ok t) Q h = serves_unconditionally P old new bytes t h

@@ -10,7 +10,7 @@ use Rattle.mvs_laws.specs.Going.{Sized}
 use Rattle.mvs_laws.proofs.Going.{running_keeps, start_sized}
 use Rattle.mvs_laws.proofs.Sized.{sized_closed}
 use Rattle.mvs_model.specs.WellFormed.{PoolsSized}
-use Rattle.mvs_job.specs.Trace.{Arrives, Closed, Ending, Ends, Entry, Executed, Exhausts, RunsHaveTraces, Stops, Traces, TracesAreRuns, events_of}
+use Rattle.mvs_job.specs.Trace.{Arrives, Closed, Ending, Ends, Entry, Executed, Exhausts, RunsHaveTraces, Stops, Traces, TracesAreRuns, events_of, step_from}
 
 -- a trace goes on where some lines arrive
 pub traces_then : (how : Ending) (lines left : List (List ℕ)) (number next : ℕ) (old step : Option JobValue) (entries rest : List Entry) → next ≡ number + length lines
@@ -21,6 +21,12 @@ traces_then how [] left number next old step entries rest e h t =
 traces_then how (l ∷ lines) left number next old step entries rest e (inl h) t = absurd h
 traces_then how (l ∷ lines) left number next old step entries rest e (inr (first, more, is, same, h)) t =
     inr (first, more ++ rest, is, ap (λ x. x ++ rest) same, traces_then how lines left (number + 1) next first.after step more rest (omega (arith, e)) h t)
+
+-- where some lines arrive is the step after their entries
+pub traces_arrive : (new : Option JobValue) (number : ℕ) (old : Option JobValue) (lines : List (List ℕ)) (entries : List Entry) → Traces (Arrives new) number old lines entries → new ≡ step_from old entries
+traces_arrive new number old [] entries (same, to) = to ∙ sym (ap (step_from old) same)
+traces_arrive new number old (l ∷ lines) entries (inl h) = absurd h
+traces_arrive new number old (l ∷ lines) entries (inr (e, rest, is, same, t)) = traces_arrive new (number + 1) e.after lines rest t ∙ sym (ap (step_from old) same)
 
 -- ---- runs
 

@@ -1,6 +1,7 @@
 -- What a consumer is given of a run, and what it writes.
 use Rattle.std.specs.Prelude.{◌≡◌, ◌⊎◌, ℕ, ◌+◌, List, [], ◌∷◌, ◌++◌, length, Option, None, Result, Ok, Err, MatchResult, Bool, true, false}
 use Rattle.std.specs.Io.KnownBytes.{Appends, Keeps}
+use Rattle.mvs_model.specs.declared.line.Line.{Line}
 use Rattle.mvs_model.specs.declared.outcome.Outcome.{Outcome}
 use Rattle.mvs_model.specs.Job.{JobValue}
 use Rattle.mvs_model.specs.declared.watched.Failed.{Failed}
@@ -9,11 +10,11 @@ use Rattle.mvs_job.specs.declared.printing.Stop.{Stop}
 use Rattle.mvs_job.specs.declared.printing.Stop.TheVariants as stop
 use Rattle.mvs_job.specs.declared.walk.LineEvent.{LineEvent}
 use Rattle.mvs_job.specs.declared.walk.LineEvent.TheVariants as line_event
-use Rattle.mvs_job.specs.LineEvents.{WalkValue, closing, ended, events_of_line}
+use Rattle.mvs_job.specs.LineEvents.{IsReadIn, WalkValue, closing, ended, events_of_line}
 use Rattle.mvs_job.specs.Observing.{Hearing, ObservesLine}
 use Rattle.mvs_job.specs.declared.consumer.End.{End}
 use Rattle.mvs_job.specs.declared.consumer.End.TheVariants as end
-use Rattle.mvs_job.specs.Trace.{Arrives, Ending, Ends, Entry, Exhausts, IsClosed, IsExecuted, IsExhausted, IsFaulty, IsTrace, Traces}
+use Rattle.mvs_job.specs.Trace.{Arrives, Ending, Ends, Entry, Exhausts, IsClosed, IsExecuted, IsExhausted, IsFaulty, IsTrace, Traces, step_after}
 
 -- ---- an entry
 
@@ -33,8 +34,9 @@ abbrev pub IsOfLine : LineEvent → ℕ → List ℕ → Entry → Type 0
 IsOfLine (line_event.Faulted fault) number line e = IsFaulty number e.before line e
 IsOfLine t number line e = IsExecuted number e.before line e
 
--- The entry is of the line with this number and this result, after which the job is in this state.
+-- The entry is of the line with this number and this result, after which the job is in this state; the line was parsed before.
 pub record IsEntry (number : ℕ) (line : List ℕ) (w : WalkValue) (t : LineEvent) (e : Entry) : Type 0 where
+  pub read : IsReadIn e.before line w.read
   pub of_line : IsOfLine t number line e
   pub events : e.events ≡ events_of_line number w t
   pub after : e.after ≡ w.step
@@ -48,6 +50,10 @@ IsEnd number (end.Exhausted end) e = ((line : List ℕ) × IsExhausted number e.
 abbrev pub EndsIn : WalkValue → End → Entry → Type 0
 EndsIn w (end.Closed ended) e = e.before ≡ w.step
 EndsIn w (end.Exhausted end) e = Unit {0}
+
+-- The entry comes after these: the step before it is the one after them.
+abbrev pub Follows : List Entry → Entry → Type 0
+Follows history e = e.before ≡ step_after history
 
 -- A front of a piece for the entry is written between two moments of a writer.
 abbrev pub WritesFront : Piece → Option (List ℕ) → Option (List ℕ) → List Entry → Entry → Type 0
@@ -68,20 +74,20 @@ abbrev pub Accepts : {S X : Type 0} → Piece → Known S → Option (List ℕ) 
 Accepts piece knows before after s history e result =
     MatchResult result (λ _. WritesPiece piece before after history e × knows.has s (history ++ e ∷ [])) (λ why. WritesUntil piece before after history e why × knows.had s history)
 
--- It does so whatever entries it had, for each entry that its arguments describe: it has looked at the line, and then it saw the
--- refusal of its request, if there was one.
-abbrev pub AcceptsLine : {S X : Type 0} → Piece → Hearing S → (S → Option JobValue → List ℕ → Type 0) → Known S → Option (List ℕ) → Option (List ℕ) → S → S → ℕ → List ℕ → WalkValue → LineEvent → Result X Stop → Type 0
+-- It does so whatever entries it had, for each entry after them that its arguments describe: it has looked at what the line says, and
+-- then it saw the refusal of its request, if there was one.
+abbrev pub AcceptsLine : {S X : Type 0} → Piece → Hearing S → (S → Option JobValue → Line → Type 0) → Known S → Option (List ℕ) → Option (List ℕ) → S → S → ℕ → List ℕ → WalkValue → LineEvent → Result X Stop → Type 0
 AcceptsLine {S = S} piece heard sees knows before after s s' number line w t result =
-    (mid : S) (history : List Entry) (e : Entry) → IsEntry number line w t e → sees mid e.before line → ObservesLine heard mid e.before line t w s → knows.has mid history → Accepts piece knows before after s' history e result
+    (mid : S) (history : List Entry) (e : Entry) → IsEntry number line w t e → Follows history e → sees mid e.before w.read → ObservesLine heard mid e.before line t w s → knows.has mid history → Accepts piece knows before after s' history e result
 
 -- What the call for the last entry does; it needs no memory.
 abbrev pub AcceptsLast : {S X : Type 0} → Piece → Known S → Option (List ℕ) → Option (List ℕ) → S → List Entry → Entry → Result X Failed → Type 0
 AcceptsLast piece knows before after s history e result =
     MatchResult result (λ _. WritesPiece piece before after history e × knows.has s (history ++ e ∷ [])) (λ _. WritesFront piece before after history e × knows.had s history)
 
--- It does so whatever entries it had, for each entry that its arguments describe.
+-- It does so whatever entries it had, for each entry after them that its arguments describe.
 abbrev pub AcceptsEnd : {S X : Type 0} → Piece → Known S → Option (List ℕ) → Option (List ℕ) → S → S → ℕ → WalkValue → End → Result X Failed → Type 0
-AcceptsEnd piece knows before after s s' number w end result = (history : List Entry) (e : Entry) → IsEnd number end e → EndsIn w end e → knows.has s history → AcceptsLast piece knows before after s' history e result
+AcceptsEnd piece knows before after s s' number w end result = (history : List Entry) (e : Entry) → IsEnd number end e → EndsIn w end e → Follows history e → knows.has s history → AcceptsLast piece knows before after s' history e result
 
 -- ---- a run
 
@@ -175,9 +181,9 @@ RunsEntry piece knows before after w line new history s (Err stop.Memory) =
 RunsEntry piece knows before after w line new history s (Err stop.Write) =
     (e : Entry) × IsAny w.number w.step line e × WritesFront piece before after history e × knows.had s history
 
--- It does so whatever entries the consumer has.
+-- It does so whatever entries the consumer has that lead to the step of the job.
 abbrev pub RunsNext : {S : Type 0} → Piece → Known S → Option (List ℕ) → Option (List ℕ) → WalkValue → List ℕ → WalkValue → S → S → Result Bool Stop → Type 0
-RunsNext piece knows before after w line new s s' result = (history : List Entry) → knows.has s history → RunsEntry piece knows before after w line new history s' result
+RunsNext piece knows before after w line new s s' result = (history : List Entry) → w.step ≡ step_after history → knows.has s history → RunsEntry piece knows before after w line new history s' result
 
 -- What the call for the end of the script does, where the consumer has these entries: the job ends so, or a write fails.
 abbrev pub RunsEnd : {S : Type 0} → Piece → Known S → Option (List ℕ) → Option (List ℕ) → WalkValue → List Entry → S → Result Outcome Stop → Type 0
@@ -187,6 +193,6 @@ RunsEnd piece knows before after w history s (Err stop.Memory) = ⊥
 RunsEnd piece knows before after w history s (Err stop.Write) =
     (outcome : Outcome) × (e : Entry) × IsClosed w.number w.step outcome e × WritesFront piece before after history e × knows.had s history
 
--- It does so whatever entries the consumer has.
+-- It does so whatever entries the consumer has that lead to the step of the job.
 abbrev pub RunsLast : {S : Type 0} → Piece → Known S → Option (List ℕ) → Option (List ℕ) → WalkValue → S → S → Result Outcome Stop → Type 0
-RunsLast piece knows before after w s s' result = (history : List Entry) → knows.has s history → RunsEnd piece knows before after w history s' result
+RunsLast piece knows before after w s s' result = (history : List Entry) → w.step ≡ step_after history → knows.has s history → RunsEnd piece knows before after w history s' result

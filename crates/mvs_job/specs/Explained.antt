@@ -1,8 +1,7 @@
 -- What is written of a run with explanations.
-use Rattle.std.specs.Prelude.{◌≡◌, ℕ, List, [], ◌∷◌, ◌++◌, Option, Some, None, Result, Ok}
+use Rattle.std.specs.Prelude.{◌≡◌, ℕ, List, [], ◌∷◌, ◌++◌, Option, Result, Ok}
 use Rattle.std.specs.Io.KnownBytes.{Appends}
 use Rattle.mvs_model.specs.declared.outcome.Outcome.{Outcome}
-use Rattle.mvs_model.specs.Job.{JobValue}
 use Rattle.mvs_model.specs.Memory.{TakesMemory}
 use Rattle.mvs_model.specs.Runs.{IsPrinting}
 use Rattle.mvs_model.specs.Texts.{printing}
@@ -12,17 +11,15 @@ use Rattle.mvs_job.specs.Explaining.{IsExplanationText, without_starred}
 use Rattle.mvs_job.specs.NamedAddress.{NameOrigins, no_lines, names_after}
 use Rattle.mvs_job.specs.Trace.{Entry, Executed, Kind}
 
--- the names that are set after a line that says this, each with the number of the line that set it last; before the first step it sets
--- none
-abbrev pub set_after : Option JobValue → NameOrigins → Entry → Kind → NameOrigins
-set_after None set e kind = set
-set_after (Some job) set e (Executed said) = names_after e.number set said e.events
-set_after (Some job) set e kind = set
+-- the names that are set after a line that says this, each with the number of the line that set it last
+abbrev pub set_after : NameOrigins → Entry → Kind → NameOrigins
+set_after set e (Executed said) = names_after e.number set said e.events
+set_after set e kind = set
 
 -- the names that are set after some entries, which come after others that set these
 abbrev pub set_from : NameOrigins → List Entry → NameOrigins
 set_from set [] = set
-set_from set (e ∷ entries) = set_from (set_after e.before set e e.kind) entries
+set_from set (e ∷ entries) = set_from (set_after set e e.kind) entries
 
 -- the names that are set after the first entries of a trace
 abbrev pub set_by_entries : List Entry → NameOrigins

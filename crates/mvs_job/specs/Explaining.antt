@@ -71,12 +71,12 @@ NoLineIsStarred = (script text : List ℕ) (outcome : Outcome) → IsPrinting sc
 
 -- ---- what calls do
 
--- the explanations of the last line, which has these events and leads to this step
-abbrev pub explanation_text : Explained → List Event → Option JobValue → List ℕ
-explanation_text x events new =
-    reason_part x.why.read x.why.request x.reason ++ (naming_text x.naming ++ (freed_lines x.why.subpools (ended_by events) ++ granted_text x.why.before x.why.read events new))
+-- the explanations of the last line, which says this, has these events and leads to this step
+abbrev pub explanation_text : Explained → Line → List Event → Option JobValue → List ℕ
+explanation_text x l events new =
+    reason_part l x.why.request x.reason ++ (naming_text x.naming ++ (freed_lines x.why.subpools (ended_by events) ++ granted_text x.why.before l events new))
 
 -- what is printed of a line that had these events and led to this state
 abbrev pub text_of_event : Explained → ℕ → WalkValue → LineEvent → List ℕ
 text_of_event x number w (line_event.Faulted fault) = printing (events_of_line number w (line_event.Faulted fault))
-text_of_event x number w t = printing (events_of_line number w t) ++ explanation_text x (events_of_line number w t) w.step
+text_of_event x number w t = printing (events_of_line number w t) ++ explanation_text x w.read (events_of_line number w t) w.step

@@ -207,8 +207,3 @@ granted_text b l events new = flat_map fact_line (granted_facts b l events new)
 abbrev pub IsGranting : Option JobValue → List ℕ → List Event → Option JobValue → List ℕ → Type 0
 IsGranting old bytes events new text =
     ((l : Line) × LineOf false bytes l × (text ≡ granted_text (before_line old l) l events new)) ⊎ ((old ≡ None) × (text ≡ [])) ⊎ ((fault : Fault) × FaultOf false bytes fault × (text ≡ []))
-
--- A line was read as this in a step; or it has a fault and was read as nothing, and so was a line before the first step.
-abbrev pub IsReadIn : Option JobValue → List ℕ → Line → Type 0
-IsReadIn None bytes l = l ≡ line.Nothing
-IsReadIn (Some job) bytes l = LineOf false bytes l ⊎ ((fault : Fault) × FaultOf false bytes fault × (l ≡ line.Nothing))

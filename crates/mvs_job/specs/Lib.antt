@@ -19,5 +19,6 @@ pub mod Valued
 pub mod Why
 pub mod Trace
 pub mod Consuming
+pub mod Copying
 pub mod Printed
 pub mod Replying

@@ -1,10 +1,12 @@
 -- The events of a line, and the state of a job between two lines.
-use Rattle.std.specs.Prelude.{refl, ◌≡◌, ◌≤◌, ℕ, List, [], ◌∷◌, ◌++◌, Option, Some, None, Bool, true, false, Result, Ok, Err, MatchOption}
+use Rattle.std.specs.Prelude.{refl, ◌≡◌, ◌≤◌, ◌⊎◌, ℕ, List, [], ◌∷◌, ◌++◌, Option, Some, None, Bool, true, false, Result, Ok, Err, MatchOption}
 use Rattle.std.specs.Bool.{MatchBool}
 use Rattle.std.specs.Coded.{Coded, code_by, coded×, coded_bool, coded_ℕ, coded_option}
 use Rattle.std.specs.FinMap as map
 use Rattle.mvs_model.specs.declared.name.Name.{Name}
+use Rattle.mvs_model.specs.declared.line.Fault.{Fault}
 use Rattle.mvs_model.specs.declared.line.Fault.TheVariants.{OutOfPlace}
+use Rattle.mvs_model.specs.declared.line.Line.{Line}
 use Rattle.mvs_model.specs.declared.line.Line.TheVariants as line
 use Rattle.mvs_model.specs.declared.line.Statement.{Statement}
 use Rattle.mvs_model.specs.declared.line.Statement.TheVariants as says
@@ -16,7 +18,8 @@ use Rattle.mvs_model.specs.Changes.{Granted}
 use Rattle.mvs_model.specs.Job.{JobValue}
 use Rattle.mvs_model.specs.declared.request.Reply.{Reply}
 use Rattle.mvs_model.specs.declared.request.Reply.TheVariants as reply
-use Rattle.mvs_model.specs.contracts.request.Reply.{the_row}
+use Rattle.mvs_model.specs.contracts.line.Line.{the_row as line_row}
+use Rattle.mvs_model.specs.contracts.request.Reply.{the_row as reply_row}
 use Rattle.mvs_model.specs.FullAnswers.{full_answer, ended_with_in}
 use Rattle.mvs_model.specs.Lines.{card_of}
 use Rattle.mvs_model.specs.Name.{name_cmp, name_code}
@@ -32,11 +35,12 @@ use Rattle.mvs_job.specs.declared.walk.OutOfMemoryAt.{OutOfMemoryAt}
 use Rattle.mvs_job.specs.declared.walk.LineEvent.{LineEvent}
 use Rattle.mvs_job.specs.declared.walk.LineEvent.TheVariants as line_event
 
--- A job between two lines: its step, none before the first; the number of the next line; and the reply to the last request that
--- was made.
+-- A job between two lines: its step, none before the first; the number of the next line; what the last line says that was parsed;
+-- and the reply to the last request that was made.
 pub record WalkValue : Type 0 where
   pub step : Option JobValue
   pub number : ℕ
+  pub read : Line
   pub reply : Reply
 
 -- codes, for models' values
@@ -44,11 +48,11 @@ abbrev pub job_code : Coded JobValue
 job_code = code_by (State × (map.FinMap name_cmp PlaceValue × (Bool × Bool))) (coded× state_code (coded× (map.code name_code place_code) (coded× coded_bool coded_bool))) (λ j. (j.state, (j.names, (j.abended, j.former)))) (λ p. record { state = p.0; names = p.1.0; abended = p.1.1.0; former = p.1.1.1 }) (λ _. refl)
 
 abbrev pub walk_code : Coded WalkValue
-walk_code = code_by (Option JobValue × (ℕ × Reply)) (coded× (coded_option job_code) (coded× coded_ℕ the_row.coded)) (λ w. (w.step, (w.number, w.reply))) (λ p. record { step = p.0; number = p.1.0; reply = p.1.1 }) (λ _. refl)
+walk_code = code_by (Option JobValue × (ℕ × (Line × Reply))) (coded× (coded_option job_code) (coded× coded_ℕ (coded× line_row.coded reply_row.coded))) (λ w. (w.step, (w.number, (w.read, w.reply)))) (λ p. record { step = p.0; number = p.1.0; read = p.1.1.0; reply = p.1.1.1 }) (λ _. refl)
 
 -- a job before its first line
 abbrev pub new_walk : WalkValue
-new_walk = record { step = None; number = 1; reply = reply.NotRun }
+new_walk = record { step = None; number = 1; read = line.Nothing; reply = reply.NotRun }
 
 -- the card of a REGION statement of a task
 abbrev pub region_card : Name → Statement → Option CardValue
@@ -84,6 +88,10 @@ events_of_line number w line_event.Nothing = []
 events_of_line number w (line_event.StepBegan end card) = ended end ++ AnswerTo number card.name (Region card) ∷ []
 events_of_line number w (line_event.Answered t a) = AnswerTo number t (full_answer_in w.step (ended_with_in w.reply) t a) ∷ []
 events_of_line number w (line_event.Faulted fault) = Faulted number fault ∷ []
+
+-- This was read of the next line, in a step or before the first: what the line says, or nothing if it has a fault.
+abbrev pub IsReadIn : Option JobValue → List ℕ → Line → Type 0
+IsReadIn step bytes l = LineOf (is_first step) bytes l ⊎ ((fault : Fault) × FaultOf (is_first step) bytes fault × (l ≡ line.Nothing))
 
 -- The line has this result: it has a fault, and the step is as before; or it is executed, by a step that meets the condition if it
 -- makes a request.

@@ -1,6 +1,7 @@
 -- What is kept of a line that is explained.
-use Rattle.std.specs.Prelude.{◌≡◌, ℕ, List, Option, Some, None}
+use Rattle.std.specs.Prelude.{◌≡◌, Option, Some, None}
 use Rattle.std.specs.Option.{option_and_then}
+use Rattle.mvs_model.specs.declared.line.Line.{Line}
 use Rattle.mvs_model.specs.declared.name.Name.{Name}
 use Rattle.mvs_model.specs.declared.refusal.Refusal.{Refusal}
 use Rattle.mvs_model.specs.declared.request.Request.{Request}
@@ -8,7 +9,7 @@ use Rattle.mvs_model.specs.Job.{JobValue}
 use Rattle.mvs_job.specs.declared.explained.Explained.{Explained}
 use Rattle.mvs_job.specs.Consuming.{Known}
 use Rattle.mvs_job.specs.Explained.{set_by_entries}
-use Rattle.mvs_job.specs.Granting.{IsReadIn, before_line}
+use Rattle.mvs_job.specs.Granting.{before_line}
 use Rattle.mvs_job.specs.NamedAddress.{IsNamingOf, NameOrigins, reason_address}
 use Rattle.mvs_job.specs.Why.{IsSurvey, KeepsWhy}
 
@@ -18,11 +19,10 @@ pub record KeepsExplained (old : Explained) (job : JobValue) (t : Name) (request
   pub naming : IsNamingOf job old.lines (option_and_then (reason_address new.why.request) new.why.reason) new.naming
   pub lines : new.lines ≡ old.lines
 
--- What is looked at before a line, which comes after lines that set these names in the step.
-pub record IsLooking (step : Option JobValue) (set : NameOrigins) (line : List ℕ) (new : Explained) : Type 0 where
-  pub read : IsReadIn step line new.why.read
-  pub before : new.why.before ≡ before_line step new.why.read
-  pub subpools : IsSurvey step new.why.read new.why.subpools
+-- What is looked at before a line that was parsed as this, which comes after lines that set these names in the step.
+pub record IsLooking (step : Option JobValue) (set : NameOrigins) (read : Line) (new : Explained) : Type 0 where
+  pub before : new.why.before ≡ before_line step read
+  pub subpools : IsSurvey step read new.why.subpools
   pub unheard : new.why.reason ≡ None
   pub unnamed : new.naming ≡ None
   pub lines : (job : JobValue) → step ≡ Some job → new.lines ≡ set

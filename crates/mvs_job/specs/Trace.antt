@@ -81,6 +81,15 @@ Traces how number old (l ∷ lines) entries =
 abbrev pub IsTrace : List ℕ → List Entry → Ending → Type 0
 IsTrace script entries how = Traces how 1 None (lines_of script) entries
 
+-- the step after some entries that come after this step
+abbrev pub step_from : Option JobValue → List Entry → Option JobValue
+step_from step [] = step
+step_from step (e ∷ entries) = step_from e.after entries
+
+-- the step after the first entries of a trace; none before the first of them
+abbrev pub step_after : List Entry → Option JobValue
+step_after entries = step_from None entries
+
 -- the events of a trace
 abbrev pub events_of : List Entry → List Event
 events_of entries = flat_map (λ e. e.events) entries

@@ -91,23 +91,13 @@ OfNext (Some job) bytes events r = OfBytes job bytes events r
 
 -- ---- what calls do
 
--- The request of the line that was read is this one, where its names are set.
-abbrev pub IsRequestOf : JobValue → Line → Request → Type 0
-IsRequestOf job (line.Statement t (says.Request a)) request = (r : Request) → resolved job.names a ≡ Some r → request ≡ r
-IsRequestOf job (line.Statement t (says.Region below above fill residence)) request = Unit {0}
-IsRequestOf job (line.Statement t (says.Where name)) request = Unit {0}
-IsRequestOf job (line.Statement t says.ReportSubpools) request = Unit {0}
-IsRequestOf job (line.Statement t says.ReportMap) request = Unit {0}
-IsRequestOf job line.Nothing request = Unit {0}
-
 -- What is kept of a refusal that is heard of: the reason, the request, and the subpools, if the task ends.
 pub record KeepsWhy (old : Why) (job : JobValue) (t : Name) (request : Request) (refusal : Refusal) (new : Why) : Type 0 where
-  pub read : new.read ≡ old.read
   pub before : new.before ≡ old.before
   pub reason : Reason
   pub found : new.reason ≡ Some reason
   pub explains : Explains job.state t request refusal reason
-  pub asks : IsRequestOf job old.read new.request
+  pub asks : new.request ≡ request
   pub subpools : (code : Code) → reply_to request refusal ≡ Abend code → new.subpools ≡ owned_subpools job.state t
 
 -- The subpools are those that the tasks of the step own, before a line in which a task returns.

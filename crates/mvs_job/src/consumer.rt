@@ -1,6 +1,7 @@
 //! Consumers, which receive the entries of a run and write an output.
 
-ghost use Rattle.std.specs.Prelude.{◌≡◌, List, Option, ℕ, true, OnOk, OnErr, IsErrOf};
+ghost use Rattle.std.specs.Prelude.{◌≡◌, List, Option, true, OnOk, OnErr, IsErrOf};
+ghost use Rattle.mvs_model.specs.declared.line.Line.{Line};
 ghost use Rattle.mvs_model.specs.Job.{JobValue};
 ghost use Rattle.mvs_job.specs.LineEvents.{IsAvailable};
 ghost use Rattle.mvs_job.specs.Consuming.{AcceptsEnd, AcceptsLine, Known, Piece};
@@ -30,16 +31,17 @@ pub trait Consumer: Observer {
     // What is known of it since it was in a first state.
     ghost knows: { Self → Known Self };
 
-    // It has looked at this line, which comes next in this step, or before the first.
-    ghost sees: { Self → Option JobValue → List ℕ → Type 0 };
+    // It has looked at a line that says this, which comes next in this step, or before the first.
+    ghost sees: { Self → Option JobValue → Line → Type 0 };
 
-    /// Looks at the next line, before it is executed.
-    fn look(&mut self, walk: &Walk, line: &[u8])
-        ensures sees { sees self.new walk.now.step line.now }
+    /// Looks at the next line, which the walk has parsed, before it is executed.
+    fn look(&mut self, walk: &Walk)
+        ensures sees { sees self.new walk.now.step walk.now.read }
         ensures knows { (first : Self) (history : List Entry) → (knows first).has self.old history
             → (knows first).has self.new history };
 
-    /// Accepts the entry of a line, by its number, its bytes and its result, and the state of the job after it.
+    /// Accepts the entry of a line, by its number, its bytes and its result, and the state of the job after it, which still has what the
+    /// line says.
     fn entry<W: Write>(
         &mut self,
         writer: &mut Watched<W>,

@@ -33,8 +33,9 @@ pub fn run_entry<W: Write, C: Consumer>(
     ensures write { IsErrOf result Stop.Write → writer.new.failed ≡ true }
 {
     let line_number = walk.number();
-    consumer.look(walk, line);
-    match walk.observed_line(line, hints, consumer) {
+    let parsed = walk.parse(line);
+    consumer.look(walk);
+    match walk.execute(parsed, hints, consumer) {
         Ok(line_event) => match consumer.entry(writer, line_number, line, walk, &line_event) {
             Ok(()) => Ok(!matches!(line_event, LineEvent::Faulted(_))),
             Err(stop) => Err(stop),

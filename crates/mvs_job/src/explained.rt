@@ -90,10 +90,10 @@ impl Consumer for Explained {
 
     ghost knows = { knows_set };
 
-    ghost sees = { λ s step line. IsLooking step s.lines line s };
+    ghost sees = { λ s step read. IsLooking step s.lines read s };
 
-    fn look(&mut self, walk: &Walk, line: &[u8]) {
-        self.look_at(walk, line);
+    fn look(&mut self, walk: &Walk) {
+        self.look_at(walk);
     }
 
     fn entry<W: Write>(
@@ -150,13 +150,13 @@ impl Explained {
         self.lines.naming(job, addr)
     }
 
-    /// Looks at the next line before it is executed, for the explanations after it.
-    pub fn look_at(&mut self, walk: &Walk, line: &[u8])
-        ensures looking { IsLooking walk.now.step self.old.lines line.now self.new }
+    /// Looks at the next line, which is parsed, before it is executed, for the explanations after it.
+    pub fn look_at(&mut self, walk: &Walk)
+        ensures looking { IsLooking walk.now.step self.old.lines walk.now.read self.new }
         ensures lines { self.new.lines ≡ self.old.lines }
     {
         self.naming = None;
-        self.why.look(walk, line);
+        self.why.look(walk);
     }
 
     /// Keeps why a line was not executed as it asks, and the names that it set. It allocates memory if the line is a granted request
@@ -171,22 +171,22 @@ impl Explained {
         ensures why { self.new.why ≡ self.old.why }
         ensures naming { self.new.naming ≡ self.old.naming }
         ensures reason { self.new.reason
-            ≡ line_reason walk.now.step self.old.why.read self.old.why.reason line_event.now }
+            ≡ line_reason walk.now.step walk.now.read self.old.why.reason line_event.now }
         ensures lines { OnOk result
-            (self.new.lines ≡ names_after number self.old.lines self.old.why.read
+            (self.new.lines ≡ names_after number self.old.lines walk.now.read
             (events_of_line number walk.now line_event.now)) }
-        ensures err { OnErr result (SetsSome self.old.why.read
+        ensures err { OnErr result (SetsSome walk.now.read
             × (reports_grant (events_of_line number walk.now line_event.now) ≡ true)) }
     {
         self.reason = self.why.line_reason(walk, line_event);
-        self.lines.keep(number, &self.why.read, line_event)
+        self.lines.keep(number, walk.read(), line_event)
     }
 
     /// Finds what the line changed, if its request was granted: `explanation` has it.
     pub fn find_effects(&mut self, walk: &Walk, line_event: &LineEvent)
         ensures effects { (number : ℕ) → IsAvailable walk.now line_event.now
             → self.new.why ≡ record self.old.why {
-              facts = granted_facts self.old.why.before self.old.why.read
+              facts = granted_facts self.old.why.before walk.now.read
                   (events_of_line number walk.now line_event.now) walk.now.step;
             } }
         ensures kept { (self.new.reason ≡ self.old.reason) × (self.new.naming ≡ self.old.naming)
@@ -224,7 +224,7 @@ impl Explained {
         ensures explained { IfOk result
             (λ line_event. let events = events_of_line walk.old.number walk.new line_event in
             IsExplanationText walk.old.step self.old.lines line.now events walk.new.step
-            (explanation_text self.new events walk.new.step)) }
+            (explanation_text self.new walk.new.read events walk.new.step)) }
         ensures reason { IfOk result
             (λ line_event. OfNext walk.old.step line.now (events_of_line walk.old.number walk.new line_event)
             self.new.reason) }
@@ -233,8 +233,9 @@ impl Explained {
     {
         let number = walk.number();
         self.lines.begin(walk);
-        self.look_at(walk, line);
-        let line_event = match walk.observed_line(line, &[], self) {
+        let parsed = walk.parse(line);
+        self.look_at(walk);
+        let line_event = match walk.execute(parsed, &[], self) {
             Ok(line_event) => line_event,
             Err(stopped) => return Err(stopped),
         };
@@ -259,7 +260,7 @@ impl Explained {
         ensures explained { IfOk result
             (λ line_event. let events = events_of_line walk.old.number walk.new line_event in
             IsExplanationText walk.old.step self.old.lines line.now events walk.new.step
-            (explanation_text self.new events walk.new.step)) }
+            (explanation_text self.new walk.new.read events walk.new.step)) }
         ensures full_answer { IfOk result (IsAvailable walk.new) }
         ensures number { walk.new.number ≡ walk.old.number + 1 }
         ensures ok { OnOk result (writer.new.failed ≡ writer.old.failed) }
@@ -289,10 +290,10 @@ impl Explained {
         requires { IsAvailable walk.now line_event.now }
         ensures printed { (number : ℕ)
             → Prints W.contents writer.old writer.new result
-            (explanation_text self.old (events_of_line number walk.now line_event.now) walk.now.step) }
+            (explanation_text self.old walk.now.read (events_of_line number walk.now line_event.now) walk.now.step) }
         ensures lines { self.new.lines ≡ self.old.lines }
     {
-        self.why.print(writer, &self.reason)?;
+        self.why.print(writer, walk.read(), &self.reason)?;
         print_named(writer, &self.naming)?;
         print_frees(writer, walk, line_event, self.why.subpools.as_slice())?;
         self.why.print_done(writer, walk, line_event)

@@ -4,6 +4,7 @@
 mod apart;
 mod consumer;
 mod copying;
+mod copying_lines;
 mod driver;
 mod ends;
 mod explained;

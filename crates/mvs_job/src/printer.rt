@@ -39,7 +39,7 @@ impl Consumer for Printer {
 
     ghost sees = { λ _ _ _. Unit {0} };
 
-    fn look(&mut self, _walk: &Walk, _line: &[u8]) {}
+    fn look(&mut self, _walk: &Walk) {}
 
     fn entry<W: Write>(
         &mut self,

@@ -151,10 +151,10 @@ impl<'a, C: Consumer, H: SkipObserver> Consumer for Strict<'a, C, H> {
           (H.heard now.hearer.now) entries;
     } };
 
-    ghost sees = { λ s step line. C.sees s.consumer.now step line };
+    ghost sees = { λ s step read. C.sees s.consumer.now step read };
 
-    fn look(&mut self, walk: &Walk, line: &[u8]) {
-        self.consumer.look(walk, line);
+    fn look(&mut self, walk: &Walk) {
+        self.consumer.look(walk);
     }
 
     fn entry<W: Write>(

@@ -1,12 +1,14 @@
 //! The walk over the lines of a script: each line is parsed and executed, and has events.
 
-ghost use Rattle.std.specs.Prelude.{◌≡◌, ◌<◌, ◌+◌, ◌^◌, ◌∷◌, [], Bool, Some, None, IfOk, IfSome, MatchOption, MatchResult, OnErr, length};
+ghost use Rattle.std.specs.Prelude.{◌≡◌, ◌<◌, ◌+◌, ◌^◌, ◌∷◌, [], Bool, Some, None, IfOk, IfSome, List, MatchOption, MatchResult, OnErr, length, ℕ};
 ghost use Rattle.mvs_model.specs.declared.line.Line.TheVariants as line;
 ghost use Rattle.mvs_model.specs.Card.{IsCard};
 ghost use Rattle.mvs_model.specs.Job.{JobValue, job_at};
 ghost use Rattle.mvs_model.specs.FullAnswers.{ended_with_in, full_answer};
-ghost use Rattle.mvs_model.specs.Lines.{IsStatement};
+ghost use Rattle.job_script.specs.LineMeaning.{filled};
+ghost use Rattle.mvs_model.specs.Lines.{IsLine, IsStatement};
 ghost use Rattle.mvs_model.specs.Memory.{StopsForMemory, TakesMemory};
+ghost use Rattle.mvs_model.specs.Reading.{IsReading};
 ghost use Rattle.mvs_model.specs.Runs.{Does, machine};
 ghost use Rattle.mvs_model.specs.Walk.{Closes, has_abended, is_first};
 ghost use Rattle.request_forms.specs.Taking.{Takes};
@@ -15,6 +17,7 @@ ghost use Rattle.mvs_job.specs.Valued.{ObservesValues, RequestsOf, WritesOf};
 ghost use Rattle.mvs_job.specs.Observing.{ObservesLine};
 
 use crate::copying::{copy_job, copy_reply};
+use crate::copying_lines::copy_line;
 use crate::job::Job;
 use crate::observer::{Observer, Unobserved};
 use crate::run::RunFault;
@@ -71,7 +74,7 @@ pub struct Walk {
     job: Option<Job>,
     /// The number of the next line.
     number: u32,
-    /// The last line, and the last request and reply. They are large, so they stay in place.
+    /// The last line that was parsed, and the last request and reply. They are large, so they stay in place.
     read: Line,
     request: Request,
     reply: Reply,
@@ -84,7 +87,7 @@ impl Model for Walk {
 
     ghost coded = { walk_code };
 
-    ghost view = { λ w. record { step = w.job; number = w.number; reply = w.reply } };
+    ghost view = { λ w. record { step = w.job; number = w.number; read = w.read; reply = w.reply } };
 }
 
 // Returns the card of a REGION statement of a task, or None for another statement.
@@ -175,6 +178,13 @@ impl Walk {
         self.job.as_ref()
     }
 
+    /// Returns what the last line says that was parsed: nothing, if it has a fault.
+    pub fn read(&self) -> &Line
+        ensures { result.now ≡ self.now.read }
+    {
+        &self.read
+    }
+
     /// Returns the tasks that ended with the one that abended, if the last request abended.
     pub fn fallen(&self) -> &[Name]
         ensures { result.now ≡ ended_with_in self.now.reply }
@@ -229,6 +239,80 @@ impl Walk {
         }
     }
 
+    /// Parses the next line, which is given without its newline. `read` returns what it says, and `execute` executes it.
+    pub fn parse(&mut self, line: &[u8]) -> Result<(), Fault>
+        ensures reading { IsReading (is_first self.new.step) line.now (filled self.new.read result) }
+        ensures in_range { IsLine (is_first self.new.step) (filled self.new.read result) }
+        ensures fault { OnErr result (self.new.read ≡ Line.Nothing) }
+        ensures rest { self.new ≡ record self.old { read = self.new.read } }
+    {
+        match read_line(line, self.job.is_none(), &mut self.read) {
+            Ok(()) => Ok(()),
+            Err(fault) => {
+                self.read = Line::Nothing;
+                Err(fault)
+            }
+        }
+    }
+
+    /// Executes the line that was parsed last, as `line` does, and shows its request to an observer if that is refused. `parsed` is
+    /// what `parse` returned.
+    pub fn execute<O: Observer>(
+        &mut self,
+        parsed: Result<(), Fault>,
+        hints: &[Addr],
+        observer: &mut O,
+    ) -> Result<LineEvent, OutOfMemoryAt>
+        requires number { self.old.number + 1 < 2 ^ 32 }
+        requires in_range { IsLine (is_first self.old.step) (filled self.old.read parsed) }
+        // It is any line that is parsed so.
+        ensures executed { (line : List ℕ) → IsReading (is_first self.old.step) line (filled self.old.read parsed)
+            → MatchResult result (λ answered. ServesAsUnder (Takes hints.now) self.old line answered self.new)
+            (λ stopped. StopsForMemory self.old.number self.old.step (line ∷ []) (ended stopped.ended)) }
+        ensures reply { (line : List ℕ) → IsReading (is_first self.old.step) line (filled self.old.read parsed)
+            → IfOk result (λ answered. KeepsReplyOf self.old line answered self.new) }
+        ensures observed { (line : List ℕ) → IsReading (is_first self.old.step) line (filled self.old.read parsed)
+            → IfOk result (λ answered. ObservesLine O.heard observer.old self.old.step line answered self.new observer.new) }
+        // If memory is exhausted, it sees nothing.
+        ensures unheard { OnErr result (observer.new ≡ observer.old) }
+        ensures full_answer { IfOk result (IsAvailable self.new) }
+        ensures read { self.new.read ≡ self.old.read }
+        ensures number { self.new.number ≡ self.old.number + 1 }
+    {
+        self.number += 1;
+        match parsed {
+            Ok(()) => {}
+            Err(fault) => return Ok(LineEvent::Faulted(fault)),
+        }
+        let Line::Statement(task, statement) = &self.read else {
+            return Ok(LineEvent::Nothing);
+        };
+        if let Some(card) = card_of(task, statement) {
+            return match begin(&mut self.job, self.alloc, self.placement, &card) {
+                Ok(ended) => Ok(LineEvent::StepBegan { ended, card }),
+                Err(stopped) => Err(stopped),
+            };
+        }
+        let Some(job) = &mut self.job else {
+            unreachable!();
+        };
+        let served = job.serve(
+            task,
+            statement,
+            hints,
+            &mut self.request,
+            &mut self.reply,
+            observer,
+        );
+        let Ok(answer) = served else {
+            return Err(OutOfMemoryAt { ended: None });
+        };
+        Ok(LineEvent::Answered {
+            task: *task,
+            answer,
+        })
+    }
+
     /// Executes one line, which is given without its newline. Areas and cells are placed at the hinted addresses if the machine
     /// allows that.
     pub fn line(&mut self, line: &[u8], hints: &[Addr]) -> Result<LineEvent, OutOfMemoryAt>
@@ -264,38 +348,8 @@ impl Walk {
         ensures full_answer { IfOk result (IsAvailable self.new) }
         ensures number { self.new.number ≡ self.old.number + 1 }
     {
-        self.number += 1;
-        match read_line(line, self.job.is_none(), &mut self.read) {
-            Ok(()) => {}
-            Err(fault) => return Ok(LineEvent::Faulted(fault)),
-        }
-        let Line::Statement(task, statement) = &self.read else {
-            return Ok(LineEvent::Nothing);
-        };
-        if let Some(card) = card_of(task, statement) {
-            return match begin(&mut self.job, self.alloc, self.placement, &card) {
-                Ok(ended) => Ok(LineEvent::StepBegan { ended, card }),
-                Err(stopped) => Err(stopped),
-            };
-        }
-        let Some(job) = &mut self.job else {
-            unreachable!();
-        };
-        let served = job.serve(
-            task,
-            statement,
-            hints,
-            &mut self.request,
-            &mut self.reply,
-            observer,
-        );
-        let Ok(answer) = served else {
-            return Err(OutOfMemoryAt { ended: None });
-        };
-        Ok(LineEvent::Answered {
-            task: *task,
-            answer,
-        })
+        let parsed = self.parse(line);
+        self.execute(parsed, hints, observer)
     }
 
     /// Returns how the job ends, if it has no more lines.
@@ -323,7 +377,7 @@ impl Walk {
             placement: self.placement,
             job: copy_job(&self.job)?,
             number: self.number,
-            read: Line::Nothing,
+            read: copy_line(&self.read),
             request: Request::Return,
             reply: copy_reply(&self.reply),
         })

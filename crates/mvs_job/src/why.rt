@@ -3,11 +3,12 @@
 ghost use Rattle.std.specs.Prelude.{◌≡◌, [], ℕ, None, Some};
 ghost use Rattle.line_text.specs.Writing.{Prints};
 ghost use Rattle.mvs_job.specs.Explaining.{reason_part};
-ghost use Rattle.mvs_job.specs.Granting.{IsReadIn, before_line, facts_after, granted_facts, granted_text, reports_grant};
+ghost use Rattle.mvs_job.specs.Granting.{before_line, facts_after, granted_facts, granted_text, reports_grant};
 ghost use Rattle.mvs_job.specs.LineEvents.{IsAvailable, WalkValue, events_of_line};
 ghost use Rattle.mvs_job.specs.NamedAddress.{reason_address};
-ghost use Rattle.mvs_job.specs.Why.{IsRequestOf, IsSurvey, KeepsWhy, line_reason, unset_of};
+ghost use Rattle.mvs_job.specs.Why.{IsSurvey, KeepsWhy, line_reason, unset_of};
 
+use crate::copying_lines::copy_request;
 use crate::ends::{OwnedSubpools, collect_owned_subpools, no_subpools};
 use crate::granting::{
     Baseline, Facts, before_request, is_grant, no_facts, print_facts, put_facts,
@@ -17,7 +18,6 @@ use crate::name_origins::reason_address;
 use crate::observer::Observer;
 use crate::walk::{LineEvent, Walk};
 use explanation::print_reason;
-use job_script::read_line;
 use mvs_model::answer::Answer;
 use mvs_model::fact::Fact;
 use mvs_model::line::{Line, SourceRequest, Statement};
@@ -59,34 +59,28 @@ pub(crate) fn reports_grant(line_event: &LineEvent) -> bool
     }
 }
 
-// Reads the next line: nothing, if no step runs or the line has a fault.
-fn read_in(walk: &Walk, line: &[u8], read: &mut Line)
-    ensures { IsReadIn walk.now.step line.now read.new }
+// Returns the name that is not set in the last line.
+fn unset(walk: &Walk) -> Option<LineReason>
+    ensures { result ≡ unset_of walk.now.step walk.now.read }
 {
-    if walk.job().is_none() {
-        *read = Line::Nothing;
-        return;
-    }
-    let Ok(()) = read_line(line, false, read) else {
-        *read = Line::Nothing;
-        return;
+    let job = walk.job()?;
+    let name = match walk.read() {
+        Line::Statement(_, Statement::Request(written)) => job.unset(written),
+        Line::Statement(_, Statement::Where(name)) => Some(*name),
+        Line::Statement(
+            _,
+            Statement::Region { .. } | Statement::ReportSubpools | Statement::ReportMap,
+        )
+        | Line::Nothing => None,
     };
-}
-
-// Writes the request of a line over another, where the names of the line are set.
-fn resolve(job: &Job, read: &Line, request: &mut Request)
-    ensures { IsRequestOf job.now read.now request.new }
-{
-    if let Line::Statement(_, Statement::Request(written)) = read {
-        let _ = job.request_of(written, request);
-    }
+    Some(LineReason::NotSet(name?))
 }
 
 /// Finds why a line is refused. It looks at the line before it is executed, and observes the refusal of its request.
-/// It has buffers for the meaning of a line, its request and its effects, which are large.
+/// It has buffers for a request and its effects, which are large.
 #[derive(Drop)]
 pub struct Why {
-    pub(crate) read: Line,
+    /// The request that was refused last.
     pub(crate) request: Request,
     pub(crate) facts: Facts,
     /// What is looked up before the request, to report its changes.
@@ -109,7 +103,7 @@ impl Observer for Why {
         left: &Shortfall,
     ) {
         self.reason = Some(job.step().details(task, request, refusal, left));
-        resolve(job, &self.read, &mut self.request);
+        self.request = copy_request(request);
         if let Consequence::Abend(_) = reply_to(request, refusal) {
             collect_owned_subpools(job, task, &mut self.subpools);
         }
@@ -120,7 +114,6 @@ impl Why {
     /// Makes an explainer that has seen no line.
     pub fn new() -> Why {
         Why {
-            read: Line::Nothing,
             request: Request::Return,
             facts: no_facts(),
             before: None,
@@ -129,52 +122,33 @@ impl Why {
         }
     }
 
-    /// Looks at the next line before it is executed, for the explanations after it.
-    pub fn look(&mut self, walk: &Walk, line: &[u8])
-        ensures read { IsReadIn walk.now.step line.now self.new.read }
-        ensures before { self.new.before ≡ before_line walk.now.step self.new.read }
-        ensures subpools { IsSurvey walk.now.step self.new.read self.new.subpools }
+    /// Looks at the next line, which is parsed, before it is executed, for the explanations after it.
+    pub fn look(&mut self, walk: &Walk)
+        ensures before { self.new.before ≡ before_line walk.now.step walk.now.read }
+        ensures subpools { IsSurvey walk.now.step walk.now.read self.new.subpools }
         ensures reason { self.new.reason ≡ None }
     {
         self.reason = None;
         self.before = None;
-        read_in(walk, line, &mut self.read);
         let Some(job) = walk.job() else {
             return;
         };
-        self.before = before_line(job, &self.read);
-        if let Line::Statement(task, Statement::Request(SourceRequest::Return)) = &self.read {
+        self.before = before_line(job, walk.read());
+        if let Line::Statement(task, Statement::Request(SourceRequest::Return)) = walk.read() {
             collect_owned_subpools(job, task, &mut self.subpools);
         }
     }
 
-    // Returns the name that is not set in the line that was read.
-    fn unset(&self, walk: &Walk) -> Option<LineReason>
-        ensures { result ≡ unset_of walk.now.step self.now.read }
-    {
-        let job = walk.job()?;
-        let name = match &self.read {
-            Line::Statement(_, Statement::Request(written)) => job.unset(written),
-            Line::Statement(_, Statement::Where(name)) => Some(*name),
-            Line::Statement(
-                _,
-                Statement::Region { .. } | Statement::ReportSubpools | Statement::ReportMap,
-            )
-            | Line::Nothing => None,
-        };
-        Some(LineReason::NotSet(name?))
-    }
-
     /// Returns why the line was not executed as it asks, by its events.
     pub fn line_reason(&self, walk: &Walk, line_event: &LineEvent) -> Option<LineReason>
-        ensures { result ≡ line_reason walk.now.step self.now.read self.now.reason line_event.now }
+        ensures { result ≡ line_reason walk.now.step walk.now.read self.now.reason line_event.now }
     {
         let LineEvent::Answered { answer, .. } = line_event else {
             return None;
         };
         match answer {
             Answer::NotRun => Some(LineReason::Refused(Reason::NotActive)),
-            Answer::NoName => self.unset(walk),
+            Answer::NoName => unset(walk),
             Answer::Rc0
             | Answer::Rc4
             | Answer::Granted(_)
@@ -191,26 +165,27 @@ impl Why {
         }
     }
 
-    /// Returns the address that a reason for the latest request is about, if it has one.
+    /// Returns the address that a reason for the request that was refused last is about, if it has one.
     pub fn address(&self, reason: &Reason) -> Option<Addr>
         ensures { result ≡ reason_address self.now.request reason.now }
     {
         reason_address(&self.request, reason)
     }
 
-    // Prints why the line was refused.
+    // Prints why a line was refused that says this.
     pub(crate) fn print<W: Write>(
         &self,
         writer: &mut Watched<W>,
+        read: &Line,
         reason: &Option<LineReason>,
     ) -> Result<(), Failed>
         ensures { Prints W.contents writer.old writer.new result
-            (reason_part self.now.read self.now.request reason.now) }
+            (reason_part read.now self.now.request reason.now) }
     {
         let Some(reason) = reason else {
             return Ok(());
         };
-        match &self.read {
+        match read {
             Line::Statement(task, _) => print_reason(writer, task, &self.request, reason),
             Line::Nothing => Ok(()),
         }
@@ -219,7 +194,7 @@ impl Why {
     // Finds what a granted request of the line changed.
     fn find_facts(&mut self, walk: &Walk)
         requires { self.old.facts ≡ [] }
-        ensures { self.new ≡ record self.old { facts = facts_after self.old.before self.old.read walk.now.step } }
+        ensures { self.new ≡ record self.old { facts = facts_after self.old.before walk.now.read walk.now.step } }
     {
         let Some(before) = &self.before else {
             return;
@@ -227,7 +202,7 @@ impl Why {
         let Some(job) = walk.job() else {
             return;
         };
-        match &self.read {
+        match walk.read() {
             Line::Statement(task, Statement::Request(written)) => {
                 put_facts(&mut self.facts, before, task, written, job);
             }
@@ -246,7 +221,7 @@ impl Why {
     pub fn find_effects(&mut self, walk: &Walk, line_event: &LineEvent)
         ensures { (number : ℕ) → IsAvailable walk.now line_event.now
             → self.new ≡ record self.old {
-              facts = granted_facts self.old.before self.old.read
+              facts = granted_facts self.old.before walk.now.read
                   (events_of_line number walk.now line_event.now) walk.now.step;
             } }
     {
@@ -280,7 +255,7 @@ impl Why {
         requires { IsAvailable walk.now line_event.now }
         ensures { (number : ℕ)
             → Prints W.contents writer.old writer.new result
-            (granted_text self.old.before self.old.read (events_of_line number walk.now line_event.now)
+            (granted_text self.old.before walk.now.read (events_of_line number walk.now line_event.now)
             walk.now.step) }
     {
         self.find_effects(walk, line_event);

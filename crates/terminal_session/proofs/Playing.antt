@@ -11,7 +11,7 @@ use Rattle.mvs_job.specs.declared.printing.Stop.{Stop}
 use Rattle.mvs_job.specs.declared.printing.Stop.TheVariants as stop
 use Rattle.mvs_job.specs.Consuming.{HasRun, Known, Leaves, Piece, RunsEntry, RunsLast, RunsNext}
 use Rattle.mvs_job.specs.LineEvents.{WalkValue}
-use Rattle.mvs_job.proofs.Driving.{run_ended, run_fault, run_front, run_next, run_stopped}
+use Rattle.mvs_job.proofs.Driving.{run_arrives, run_ended, run_fault, run_front, run_next, run_stopped}
 use Rattle.shell.proofs.Lines.{taken_line}
 use Rattle.terminal_session.specs.Sessions.{HasFault, Replays, RunsLines}
 use Rattle.terminal_session.proofs.KeptLines.{is_faulty_so}
@@ -32,21 +32,21 @@ module _ (piece : Piece) {S : Type 0} (knows : Known S) (before : Option (List �
 
   pub run_done : (now later : Option (List ℕ)) (lines : List (List ℕ)) (w : WalkValue) (s s' : S) → AllByRecursion IsUnended lines → HasRun piece knows before now lines w s → (result : Result Outcome Stop) → RunsLast piece knows now later w s s' result
       → Leaves piece knows before later (ended_text lines) s' result
-  run_done now later lines w s s' each p result ran = run_ended piece knows before now later lines w s p (ended_text lines) (same_lines lines each) s' result (ran p.entries p.known)
+  run_done now later lines w s s' each p result ran = run_ended piece knows before now later lines w s p (ended_text lines) (same_lines lines each) s' result (ran p.entries (run_arrives piece knows before now lines w s p) p.known)
 
   -- the next of some lines
   module _ (now later : Option (List ℕ)) (lines : List (List ℕ)) (l : List ℕ) (left : List (List ℕ)) (w : WalkValue) (s : S) (p : HasRun piece knows before now lines w s) (w' : WalkValue) (s' : S) where
     pub line_run : w'.number ≡ w.number + 1 → (b : Bool) → b ≡ true → RunsNext piece knows now later w l w' s s' (Ok b) → HasRun piece knows before later (lines ++ l ∷ []) w' s'
-    line_run number b e ran = run_next piece knows before now later lines w s p l w' s' number (subst (λ b. RunsEntry piece knows now later w l w' p.entries s' (Ok b)) e (ran p.entries p.known))
+    line_run number b e ran = run_next piece knows before now later lines w s p l w' s' number (subst (λ b. RunsEntry piece knows now later w l w' p.entries s' (Ok b)) e (ran p.entries (run_arrives piece knows before now lines w s p) p.known))
 
     pub line_faulty : AllByRecursion IsUnended (lines ++ l ∷ left) → (b : Bool) → b ≡ false → RunsNext piece knows now later w l w' s s' (Ok b)
         → HasFault (lines ++ l ∷ left) × Leaves piece knows before later (ended_text (lines ++ l ∷ left)) s' (Ok ScriptFault)
     line_faulty each b e ran =
-        let h = subst (λ b. RunsEntry piece knows now later w l w' p.entries s' (Ok b)) e (ran p.entries p.known) in
+        let h = subst (λ b. RunsEntry piece knows now later w l w' p.entries s' (Ok b)) e (ran p.entries (run_arrives piece knows before now lines w s p) p.known) in
         ((lines, l, left, refl, w.step, p.entries, p.trace, is_faulty_so _ l h.1.0 h.1.1), run_fault piece knows before now later lines w s p (ended_text (lines ++ l ∷ left)) l left (same_lines (lines ++ l ∷ left) each) w' s' h)
 
     pub line_stopped : AllByRecursion IsUnended (lines ++ l ∷ left) → (why : Stop) → RunsNext piece knows now later w l w' s s' (Err why) → Leaves piece knows before later (ended_text (lines ++ l ∷ left)) s' (Err why)
-    line_stopped each why ran = run_stopped piece knows before now later lines w s p (ended_text (lines ++ l ∷ left)) l left (same_lines (lines ++ l ∷ left) each) w' s' why (ran p.entries p.known)
+    line_stopped each why ran = run_stopped piece knows before now later lines w s p (ended_text (lines ++ l ∷ left)) l left (same_lines (lines ++ l ∷ left) each) w' s' why (ran p.entries (run_arrives piece knows before now lines w s p) p.known)
 
 -- the line of some lines at an index, before which all are executed
 module _ (piece : Piece) {S : Type 0} (knows : Known S) (before now later : Option (List ℕ)) (lines : List (List ℕ)) (i : ℕ) (item text : List ℕ) (here : item ≡ get_or lines i item) (within : i < length lines) (same : text ≡ item) (each : AllByRecursion IsUnended lines) (w : WalkValue) (s : S)

@@ -53,10 +53,10 @@ impl<'a, C: Consumer> Consumer for Switched<'a, C> {
       had = λ now entries. Unit {0};
     } };
 
-    ghost sees = { λ s step line. C.sees s.consumer.now step line };
+    ghost sees = { λ s step read. C.sees s.consumer.now step read };
 
-    fn look(&mut self, walk: &Walk, line: &[u8]) {
-        self.consumer.look(walk, line);
+    fn look(&mut self, walk: &Walk) {
+        self.consumer.look(walk);
     }
 
     fn entry<W: Write>(

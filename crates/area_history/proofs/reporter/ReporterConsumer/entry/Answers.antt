@@ -12,7 +12,7 @@ use Rattle.area_history.proofs.reporter.ReporterConsumer.entry.Goals as goal
 use Rattle.area_history.proofs.reporter.ReporterConsumer.entry.Goals.{then-not-ends_step-via-then-not-ends_step, then-not-ends_step-via-else-not-ends_step+then-not-is_some}
 
 pub returns-in_default-clause-accepted : goal.returns-in_default-clause-accepted
-returns-in_default-clause-accepted g c first mid history e is seen heard known =
+returns-in_default-clause-accepted g c first mid history e is follows seen heard known =
     let self = c.args.self.now in
     let n = c.args.line_number in
     let line = c.args.line.now in
@@ -23,7 +23,7 @@ returns-in_default-clause-accepted g c first mid history e is seen heard known =
     ((inr (inl (λ none. lacks (granted_is n line w t e is mid.account self.account seen.1 account ∙ none))), Keeps-refl _), name_kept g.C.Observer.heard mid self e.before line t w heard ∙ known.0)
 
 pub returns-then-not-ends_step-clause-accepted : goal.returns-then-not-ends_step-clause-accepted
-returns-then-not-ends_step-clause-accepted g c first mid history e is seen heard known =
+returns-then-not-ends_step-clause-accepted g c first mid history e is follows seen heard known =
     let self = c.args.self.now in
     let n = c.args.line_number in
     let line = c.args.line.now in
@@ -42,10 +42,10 @@ returns-then-not-ends_step-clause-accepted g c first mid history e is seen heard
     result_maps c.entry.result _ _ _ _
     (λ x h. (piece_maps g.C.Consumer.piece (with_leaks g.F.ReportFormat.report g.C.Consumer.piece) _ _ history e (λ text m. (text, m, no_report g.F.ReportFormat.report history e text none)) (λ x. inl x) h.0, (name, h.1, knows)))
     (λ why h. (until_maps g.C.Consumer.piece (with_leaks g.F.ReportFormat.report g.C.Consumer.piece) _ _ history e (λ text m. (text, m, no_report g.F.ReportFormat.report history e text none)) (λ x. inl x) why h.0, name))
-    (c.entry.ensures.accepted first.consumer.now mid.consumer.now history e is seen.0 (consumer_sees g.C.Observer.heard mid self e.before line t w heard) known.1)
+    (c.entry.ensures.accepted first.consumer.now mid.consumer.now history e is follows seen.0 (consumer_sees g.C.Observer.heard mid self e.before line t w heard) known.1)
 
 pub returns-in-Ok-print_with_report-clause-accepted : goal.returns-in-Ok-print_with_report-clause-accepted
-returns-in-Ok-print_with_report-clause-accepted g c first mid history e is seen heard known =
+returns-in-Ok-print_with_report-clause-accepted g c first mid history e is follows seen heard known =
     let self = c.args.self.now in
     let n = c.args.line_number in
     let line = c.args.line.now in
@@ -60,7 +60,7 @@ returns-in-Ok-print_with_report-clause-accepted g c first mid history e is seen 
     let stops = ends_as n line e w t is ∙ ends in
     let begins = begins_too n line w e mid.account self.account seen.1 t is ends in
     let some = sym c.is_some.ensures ∙ c.if-not-is_some.false in
-    let a = c.in-Ok-entry.ensures.accepted first.consumer.now mid.consumer.now history e is seen.0 (consumer_sees g.C.Observer.heard mid self e.before line t w heard) known.1 in
+    let a = c.in-Ok-entry.ensures.accepted first.consumer.now mid.consumer.now history e is follows seen.0 (consumer_sees g.C.Observer.heard mid self e.before line t w heard) known.1 in
     let items : c.deref.result.now ≡ a.0.0 = (let written = a.0.2 in search rules) in
     let name = name_kept g.C.Observer.heard mid self e.before line t w heard ∙ known.0 in
     let leaked = some_so report history e [] new.found stops found in
@@ -68,7 +68,7 @@ returns-in-Ok-print_with_report-clause-accepted g c first mid history e is seen 
     ((after_first_line (report new.found) c.deref.result.now, (a.0.0, a.0.1, ap (after_first_line (report new.found)) items ∙ report_between report history e a.0.0 new.found stops found some begins), c.in-Ok-print_with_report.ensures.bytes), (name, a.1, knows))
 
 pub returns-clause-accepted : goal.returns-clause-accepted
-returns-clause-accepted g c first mid history e is seen heard known =
+returns-clause-accepted g c first mid history e is follows seen heard known =
     let self = c.args.self.now in
     let n = c.args.line_number in
     let line = c.args.line.now in
@@ -83,7 +83,7 @@ returns-clause-accepted g c first mid history e is seen heard known =
     let stops = ends_as n line e w t is ∙ ends in
     let begins = begins_too n line w e mid.account self.account seen.1 t is ends in
     let some = sym c.is_some.ensures ∙ c.if-not-is_some.false in
-    let a = c.in-Ok-entry.ensures.accepted first.consumer.now mid.consumer.now history e is seen.0 (consumer_sees g.C.Observer.heard mid self e.before line t w heard) known.1 in
+    let a = c.in-Ok-entry.ensures.accepted first.consumer.now mid.consumer.now history e is follows seen.0 (consumer_sees g.C.Observer.heard mid self e.before line t w heard) known.1 in
     let items : c.deref.result.now ≡ a.0.0 = (let written = a.0.2 in search rules) in
     let name = name_kept g.C.Observer.heard mid self e.before line t w heard ∙ known.0 in
     ((after_first_line (report new.found) c.deref.result.now, (a.0.0, a.0.1, ap (after_first_line (report new.found)) items ∙ report_between report history e a.0.0 new.found stops found some begins), c.in-Err.ensures.bytes), name)

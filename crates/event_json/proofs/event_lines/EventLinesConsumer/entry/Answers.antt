@@ -7,6 +7,6 @@ use Rattle.event_json.proofs.event_lines.EventLinesConsumer.entry.Goals as goal
 
 -- memory is exhausted while the explanation is found: the line is that of a granted request
 pub returns-in_default-clause-accepted : goal.returns-in_default-clause-accepted
-returns-in_default-clause-accepted g c first = λ mid history e is seen observed known.
+returns-in_default-clause-accepted g c first = λ mid history e is follows seen observed known.
     let events = events_of_line c.args.line_number c.args.walk.now c.args.line_event.now in
     ((subst EndsWithAnswer (sym is.events) (granted_answer events c.in_default.ensures), Keeps-refl (g.W.Write.contents c.args.writer.now.inner)), tt)

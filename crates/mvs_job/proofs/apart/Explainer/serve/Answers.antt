@@ -18,7 +18,7 @@ returns g c = elim c.match-print_explanation.branch [
       rw (w.result-is, ← c.self.view_is) (record {
         executed = c.in-Ok.ensures.ran.0;
         printed = c.in-Ok.ensures.ran.1;
-        explained = stands_after _ _ c.args.walk.now set c.args.line.now c.run_line.new.walk c.in-Ok.line_event (explanation_text c.run_line.new.self (events_of_line c.args.walk.now.number c.run_line.new.walk c.in-Ok.line_event) c.run_line.new.walk.step) p.bytes c.in-Ok.ensures.explained;
+        explained = stands_after _ _ c.args.walk.now set c.args.line.now c.run_line.new.walk c.in-Ok.line_event (explanation_text c.run_line.new.self c.run_line.new.walk.read (events_of_line c.args.walk.now.number c.run_line.new.walk c.in-Ok.line_event) c.run_line.new.walk.step) p.bytes c.in-Ok.ensures.explained;
         lines = subst (λ later. RecordsOrigins c.args.walk.now set c.args.line.now c.run_line.new.walk c.in-Ok.line_event later) (sym c.print_explanation.ensures.lines) c.in-Ok.ensures.lines;
         full_answer = c.in-Ok.ensures.full_answer;
         number = c.in-Ok.ensures.number;
