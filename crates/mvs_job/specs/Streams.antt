@@ -109,6 +109,21 @@ abbrev pub Takes : {S : Type 0} → Piece → Known S → Option (List ℕ) → 
 Takes piece knows unread left start now count room w pending s (On n) = IsUnderWay piece knows unread left start now (count + n) w pending s
 Takes piece knows unread left start now count room w pending s (Ended outcome) = HasEnded piece knows unread left start now (count + room) s outcome
 
+-- The effect of one read of at most a number of bytes on a job under way, which is in the second state then: it takes the bytes, or it
+-- stops for a fault.
+abbrev pub ReadsOnce : {S : Type 0} → Piece → Known S → Option (List ℕ) → Option (List ℕ) → Option (List ℕ) → Option (List ℕ) → ℕ → WalkValue → List ℕ → S → WalkValue → List ℕ → S → Result Progress RunFault → Type 0
+ReadsOnce piece knows left left' before after room w pending s w' pending' s' result =
+    (unread start : Option (List ℕ)) (count : ℕ) → IsUnderWay piece knows unread left start before count w pending s → MatchResult result
+    (λ progress. Takes piece knows unread left' start after count room w' pending' s' progress)
+    (λ fault. HasGivenUp piece knows unread left' start after (count + room) s' fault)
+
+-- The effect of the last read on a job under way: the job ends, or it stops for a fault.
+abbrev pub ReadsLast : {S : Type 0} → Piece → Known S → Option (List ℕ) → Option (List ℕ) → Option (List ℕ) → Option (List ℕ) → WalkValue → List ℕ → S → S → Result Outcome RunFault → Type 0
+ReadsLast piece knows left left' before after w pending s s' result =
+    (unread start : Option (List ℕ)) (count : ℕ) → IsUnderWay piece knows unread left start before count w pending s → MatchResult result
+    (λ outcome. HasEnded piece knows unread left' start after count s' outcome)
+    (λ fault. HasGivenUp piece knows unread left' start after count s' fault)
+
 -- the error of a job that stops
 abbrev pub fault_of : Stop → RunFault
 fault_of stop.Write = Write

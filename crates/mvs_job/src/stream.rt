@@ -4,7 +4,7 @@ ghost use Rattle.std.specs.Prelude.{◌≡◌, ◌≢◌, ◌<◌, ◌≤◌, �
 ghost use Rattle.std.specs.Io.KnownBytes.{Consumes, IsAtEnd, Keeps};
 ghost use Rattle.mvs_job.specs.Consuming.{RunsNext};
 ghost use Rattle.mvs_job.specs.LineEvents.{new_walk};
-ghost use Rattle.mvs_job.specs.Streams.{Feeds, FeedsSome, Finishes, HasEnded, HasGivenUp, IsUnderWay, Takes, fault_of};
+ghost use Rattle.mvs_job.specs.Streams.{Feeds, FeedsSome, Finishes, ReadsLast, ReadsOnce, fault_of};
 
 use crate::consumer::Consumer;
 use crate::driver::{run_end, run_entry};
@@ -292,15 +292,10 @@ impl Stream {
         requires room { length self.old.line < 256 }
         requires number { self.old.walk.number + length chunk.old + 1 < 2 ^ 32 }
         requires chunk { 0 < length chunk.old }
-        ensures pump { (first : C) (unread start : Option (List ℕ)) (count : ℕ)
-            → IsUnderWay C.piece (C.knows first) unread (S.left reader.old) start
-            (W.contents writer.old.inner) count self.old.walk self.old.line consumer.old
-            → MatchResult result
-            (λ pump. Takes C.piece (C.knows first) unread (S.left reader.new) start
-            (W.contents writer.new.inner) count (length chunk.old) self.new.walk
-            self.new.line consumer.new pump)
-            (λ fault. HasGivenUp C.piece (C.knows first) unread (S.left reader.new) start
-            (W.contents writer.new.inner) (count + length chunk.old) consumer.new fault) }
+        ensures pump { (first : C) → ReadsOnce C.piece (C.knows first) (S.left reader.old)
+            (S.left reader.new) (W.contents writer.old.inner) (W.contents writer.new.inner)
+            (length chunk.old) self.old.walk self.old.line consumer.old self.new.walk self.new.line
+            consumer.new result }
         ensures on { (n : ℕ) → result ≡ Ok (Progress.On n)
             → (0 < n) × (n ≤ length chunk.old) × (self.new.walk.number ≤ self.old.walk.number + n)
             × (length self.new.line < 256) }
@@ -338,14 +333,9 @@ impl Stream {
         consumer: &mut C,
     ) -> Result<Outcome, RunFault>
         requires { self.old.walk.number + 1 < 2 ^ 32 }
-        ensures pump { (first : C) (unread start : Option (List ℕ)) (count : ℕ)
-            → IsUnderWay C.piece (C.knows first) unread (S.left reader.old) start
-            (W.contents writer.old.inner) count self.old.walk self.old.line consumer.old
-            → MatchResult result
-            (λ outcome. HasEnded C.piece (C.knows first) unread (S.left reader.new) start
-            (W.contents writer.new.inner) count consumer.new outcome)
-            (λ fault. HasGivenUp C.piece (C.knows first) unread (S.left reader.new) start
-            (W.contents writer.new.inner) count consumer.new fault) }
+        ensures pump { (first : C) → ReadsLast C.piece (C.knows first) (S.left reader.old)
+            (S.left reader.new) (W.contents writer.old.inner) (W.contents writer.new.inner)
+            self.old.walk self.old.line consumer.old consumer.new result }
         ensures end { OnOk result (S.is_at_end reader.new) }
         ensures since { (start : Option (List ℕ)) → S.since start reader.old → S.since start reader.new }
         ensures healthy { OnOk result
