@@ -210,3 +210,9 @@ module _ {A : Type 0} (may_answer : A → QueryValue → List ℕ → Type 0) (m
       pub sent : List ℕ
       pub runs : Runs begun steps arrived input now sent
       pub ends : EndsSo e steps arrived input now sent
+
+  -- The effect of one step on a server, which is in the second state then: it has run one step further, or it has run and has ended so.
+  abbrev pub RunsOn : {R W : Type 0} → (R → Option (List ℕ)) → (W → Option (List ℕ)) → WatchedValue R → WatchedValue R → WatchedValue W → WatchedValue W → InputValue → InputValue → Moment A → Moment A → Result (Unit {0}) Ending → Type 0
+  RunsOn {R = R} {W = W} left contents reader reader_then writer writer_then i j s t result =
+      (begun : A) (steps : ℕ) (first : WatchedValue R) (first_writer : WatchedValue W) → IsRunning left contents first first_writer reader writer begun steps i s → MatchResult result
+      (λ _. IsRunning left contents first first_writer reader_then writer_then begun (suc steps) j t) (λ e. HasRun left contents first first_writer reader_then writer_then begun e)

@@ -1,11 +1,10 @@
 //! The loop of a server: it reads until the session or the input ends.
 
-ghost use Rattle.std.specs.Prelude.{◌≡◌, ◌≤◌, ℕ, suc, MatchResult, length, true};
+ghost use Rattle.std.specs.Prelude.{◌≡◌, ◌≤◌, MatchResult, length, true};
 ghost use Rattle.std.specs.Io.KnownBytes.{Appends};
 ghost use Rattle.line_text.specs.Writing.{AppendsFront};
-ghost use Rattle.mvs_model.specs.Watched.{WatchedValue};
 ghost use Rattle.editor_messages.specs.Frames.{IsWithin, frame_of};
-ghost use Rattle.editor_messages.specs.Serving.{IsRunning, HasRead, HasRun, HasSent, HasTaken};
+ghost use Rattle.editor_messages.specs.Serving.{HasRead, HasRun, HasSent, HasTaken, RunsOn};
 
 use crate::frames::{Frame, read_frame};
 use crate::input::{CHUNK, Input};
@@ -121,14 +120,8 @@ impl<A: Answers> Server<A> {
         chunk: &mut [u8],
     ) -> Result<(), Ending>
         requires { length chunk.old ≡ 65536 }
-        ensures { (begun : A) (steps : ℕ) (first : WatchedValue R) (first_writer : WatchedValue W)
-            → IsRunning A.may_answer A.may_lack A.may_notice R.remaining W.contents first first_writer reader.old
-            writer.old begun steps input.old self.old
-            → MatchResult result
-            (λ _. IsRunning A.may_answer A.may_lack A.may_notice R.remaining W.contents first first_writer
-            reader.new writer.new begun (suc steps) input.new self.new)
-            (λ e. HasRun A.may_answer A.may_lack A.may_notice R.remaining W.contents first first_writer
-            reader.new writer.new begun e) }
+        ensures { RunsOn A.may_answer A.may_lack A.may_notice R.remaining W.contents reader.old reader.new writer.old
+            writer.new input.old input.new self.old self.new result }
     {
         match read_frame(input.rest()) {
             Frame::Incomplete => read(input, reader, chunk, self.status()),
