@@ -1,5 +1,5 @@
 -- What one typed line does to a job.
-use Rattle.std.specs.Prelude.{◌≡◌, ◌≢◌, ◌⊎◌, ◌+◌, ◌<◌, ◌≤◌, ℕ, Bool, true, false, List, [], Option, Some, None, Result, Ok, Err}
+use Rattle.std.specs.Prelude.{◌≡◌, ◌≢◌, ◌⊎◌, ◌+◌, ◌<◌, ◌≤◌, ℕ, Bool, true, false, List, [], Option, Some, None, Result, Ok, Err, IfErr, IfOk}
 use Rattle.std.specs.List.{AllByRecursion}
 use Rattle.std.specs.Io.KnownBytes.{Consumes}
 use Rattle.mvs_model.specs.declared.outcome.Outcome.TheVariants.{ScriptFault}
@@ -18,7 +18,7 @@ use Rattle.terminal_session.specs.declared.session.JobStop.{JobStop}
 use Rattle.terminal_session.specs.declared.session.JobStop.TheVariants as stopped
 use Rattle.terminal_session.specs.declared.session.Step.{Step}
 use Rattle.terminal_session.specs.declared.session.Step.TheVariants.{Again, Faulted, Next, Quit}
-use Rattle.terminal_session.specs.Sessions.{Fails, HasFault, IsOver, IsUnderWay, Stops, StopsAt, EditsLines, text_of, with_line}
+use Rattle.terminal_session.specs.Sessions.{Fails, HasFault, IsOver, IsUnderWay, SessionValue, Stops, StopsAt, EditsLines, text_of, with_line}
 
 -- What a read of a line finds: its text, or that there is none; or it fails.
 abbrev pub Awaits : {R : Type 0} → Bool → Option (List ℕ) → Option (List ℕ) → InputValue R → InputValue R → Result (Option (List ℕ)) RunFault → Type 0
@@ -59,6 +59,24 @@ Steps piece knows cleans unread left before after ended count lines new w s (Ok 
     Stops piece knows cleans unread left before after ended lines new s (stopped.Ended ScriptFault)
 Steps piece knows cleans unread left before after ended count lines new w s (Ok Again) = Stops piece knows cleans unread left before after ended lines new s stopped.Again
 Steps piece knows cleans unread left before after ended count lines new w s (Err fault) = Fails piece knows cleans unread left before after count lines s fault
+
+-- What a typed line does to a session whose job is under way, whatever was typed before.
+abbrev pub StepsFrom : {R S : Type 0} → (R → Option (List ℕ)) → Piece → Known S → SessionValue R → SessionValue R → Option (List ℕ) → Option (List ℕ) → WalkValue → WalkValue → S → S → Result Step RunFault → Type 0
+StepsFrom remaining piece knows old new now after w w' s s' result =
+    (unread before : Option (List ℕ)) (lines : List (List ℕ)) → IsUnderWay piece knows old.cleans unread (remaining old.input.inner.inner) before now old.input.ended lines old.script w s
+    → Steps piece knows old.cleans unread (remaining new.input.inner.inner) before after new.input.ended new.input.count lines new.script w' s' result
+
+-- How the run of a job that is under way ends, after further lines are typed.
+abbrev pub StopsFrom : {R S : Type 0} → (R → Option (List ℕ)) → Piece → Known S → SessionValue R → SessionValue R → Option (List ℕ) → Option (List ℕ) → WalkValue → S → S → Result JobStop RunFault → Type 0
+StopsFrom remaining piece knows old new now after w s s' result =
+    (unread before : Option (List ℕ)) (lines : List (List ℕ)) → IsUnderWay piece knows old.cleans unread (remaining old.input.inner.inner) before now old.input.ended lines old.script w s
+    → IfOk result (Stops piece knows old.cleans unread (remaining new.input.inner.inner) before after new.input.ended lines new.script s')
+
+-- How it stops with an error.
+abbrev pub FailsFrom : {R S : Type 0} → (R → Option (List ℕ)) → Piece → Known S → SessionValue R → SessionValue R → Option (List ℕ) → Option (List ℕ) → WalkValue → S → S → Result JobStop RunFault → Type 0
+FailsFrom remaining piece knows old new now after w s s' result =
+    (unread before : Option (List ℕ)) (lines : List (List ℕ)) → IsUnderWay piece knows old.cleans unread (remaining old.input.inner.inner) before now old.input.ended lines old.script w s
+    → IfErr result (Fails piece knows old.cleans unread (remaining new.input.inner.inner) before after new.input.count lines s')
 
 -- What the end of a job does.
 abbrev pub EndsJob : {S : Type 0} → Piece → Known S → Option (List ℕ) → Option (List ℕ) → WalkValue → S → S → Result JobStop RunFault → Type 0

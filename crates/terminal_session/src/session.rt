@@ -5,7 +5,7 @@ ghost use Rattle.std.specs.Io.KnownBytes.{Consumes, IsAtEnd};
 ghost use Rattle.mvs_model.specs.Numbers.{most_script_bytes};
 ghost use Rattle.shell.specs.Edits.{edit_of};
 ghost use Rattle.terminal_session.specs.Sessions.{Fails, IsUnderWay, Stops, without_keys};
-ghost use Rattle.terminal_session.specs.Steps.{Accepts, Awaits, EndsJob, Obeys, Steps};
+ghost use Rattle.terminal_session.specs.Steps.{Accepts, Awaits, EndsJob, FailsFrom, Obeys, StepsFrom, StopsFrom};
 
 use crate::answers::View;
 use crate::keeping::{keep, next_number, script_of};
@@ -293,14 +293,9 @@ impl<R: Read, H: Host> TerminalSession<R, H> {
         consumer: &mut C,
     ) -> Result<Step, RunFault>
         requires { walk.old.number ≡ 1 + length self.old.script }
-        ensures steps { (first : C) (unread before : Option (List ℕ)) (lines : List (List ℕ))
-            → IsUnderWay C.piece (C.knows first) self.old.cleans unread
-            (R.remaining self.old.input.inner.inner) before (W.contents writer.old.inner)
-            self.old.input.ended lines self.old.script walk.old consumer.old
-            → Steps C.piece (C.knows first) self.old.cleans unread
-            (R.remaining self.new.input.inner.inner) before (W.contents writer.new.inner)
-            self.new.input.ended self.new.input.count lines self.new.script walk.new consumer.new
-            result }
+        ensures steps { (first : C) → StepsFrom R.remaining C.piece (C.knows first) self.old self.new
+            (W.contents writer.old.inner) (W.contents writer.new.inner) walk.old walk.new
+            consumer.old consumer.new result }
         ensures at_end { (self.old.input.ended ≡ true
             → IsAtEnd (R.remaining self.old.input.inner.inner))
             → self.new.input.ended ≡ true → IsAtEnd (R.remaining self.new.input.inner.inner) }
@@ -345,20 +340,12 @@ impl<R: Read, H: Host> TerminalSession<R, H> {
             × (lines : List (List ℕ)) × IsUnderWay C.piece (C.knows first) self.old.cleans unread
             (R.remaining self.old.input.inner.inner) before (W.contents writer.old.inner)
             self.old.input.ended lines self.old.script walk.old consumer.old }
-        ensures stops { (first : C) (unread before : Option (List ℕ)) (lines : List (List ℕ))
-            → IsUnderWay C.piece (C.knows first) self.old.cleans unread
-            (R.remaining self.old.input.inner.inner) before (W.contents writer.old.inner)
-            self.old.input.ended lines self.old.script walk.old consumer.old
-            → IfOk result (Stops C.piece (C.knows first) self.old.cleans unread
-            (R.remaining self.new.input.inner.inner) before (W.contents writer.new.inner)
-            self.new.input.ended lines self.new.script consumer.new) }
-        ensures fails { (first : C) (unread before : Option (List ℕ)) (lines : List (List ℕ))
-            → IsUnderWay C.piece (C.knows first) self.old.cleans unread
-            (R.remaining self.old.input.inner.inner) before (W.contents writer.old.inner)
-            self.old.input.ended lines self.old.script walk.old consumer.old
-            → IfErr result (Fails C.piece (C.knows first) self.old.cleans unread
-            (R.remaining self.new.input.inner.inner) before (W.contents writer.new.inner)
-            self.new.input.count lines consumer.new) }
+        ensures stops { (first : C) → StopsFrom R.remaining C.piece (C.knows first) self.old self.new
+            (W.contents writer.old.inner) (W.contents writer.new.inner) walk.old consumer.old
+            consumer.new result }
+        ensures fails { (first : C) → FailsFrom R.remaining C.piece (C.knows first) self.old self.new
+            (W.contents writer.old.inner) (W.contents writer.new.inner) walk.old consumer.old
+            consumer.new result }
         ensures at_end { (self.old.input.ended ≡ true
             → IsAtEnd (R.remaining self.old.input.inner.inner))
             → self.new.input.ended ≡ true → IsAtEnd (R.remaining self.new.input.inner.inner) }
