@@ -93,15 +93,34 @@ module _ (n : ℕ) (line : List ℕ) (w : WalkValue) (e : Entry) where
     same_after : (t : LineEvent) → x.reason ≡ line_reason w.step w.read after.why.reason t → (events : List Event) → explanation_text (kept_with set line w.read mid after x.lines (line_reason w.step w.read after.why.reason t)) w.read events w.step ≡ explanation_text x w.read events w.step
     same_after t reason events = ap (λ (y : Explained). explanation_text y w.read events w.step) (kept_same set line w.read mid after x.lines x (line_reason w.step w.read after.why.reason t) why naming reason refl)
 
+    -- the explanations of a line that is executed
+    why_executed : (t : LineEvent) → x.reason ≡ line_reason w.step w.read after.why.reason t → IsEntry n line w t e → e.bytes ≡ line → ServesAs before_it line t w → ObservesLine keeps mid e.before line t w after
+        → IsExplanationText e.before set e.bytes e.events e.after (explanation_text x w.read (events_of_line n w t) w.step)
+    why_executed t reason entry bytes tells observed =
+        let events = events_of_line n w t in
+        let trailing = (kept_after set line w.read mid after x.lines before_it w entry.read look t tells observed).0 in
+        let here : IsExplanationText e.before set line events w.step (explanation_text x w.read events w.step) = subst (λ y. IsExplanationText e.before set line events w.step y) (same_after t reason events) trailing in
+        subst (λ b. IsExplanationText e.before set b e.events e.after (explanation_text x w.read events w.step)) (sym bytes)
+        (subst (λ v. IsExplanationText e.before set line v e.after (explanation_text x w.read events w.step)) (sym entry.events) (subst (λ o. IsExplanationText e.before set line events o (explanation_text x w.read events w.step)) (sym entry.after) here))
+
     executed_text : (t : LineEvent) → x.reason ≡ line_reason w.step w.read after.why.reason t → IsEntry n line w t e → (said : Line) → e.kind ≡ Executed said → e.bytes ≡ line → ServesAs before_it line t w → ObservesLine keeps mid e.before line t w after
         → IsExplainedAs set e e.kind (printing (events_of_line n w t) ++ explanation_text x w.read (events_of_line n w t) w.step)
     executed_text t reason entry said kind bytes tells observed =
         let events = events_of_line n w t in
-        let trailing = (kept_after set line w.read mid after x.lines before_it w entry.read look t tells observed).0 in
-        let here : IsExplanationText e.before set line events w.step (explanation_text x w.read events w.step) = subst (λ y. IsExplanationText e.before set line events w.step y) (same_after t reason events) trailing in
-        let at : IsExplanationText e.before set e.bytes e.events e.after (explanation_text x w.read events w.step) = subst (λ b. IsExplanationText e.before set b e.events e.after (explanation_text x w.read events w.step)) (sym bytes)
-        (subst (λ v. IsExplanationText e.before set line v e.after (explanation_text x w.read events w.step)) (sym entry.events) (subst (λ o. IsExplanationText e.before set line events o (explanation_text x w.read events w.step)) (sym entry.after) here)) in
-        subst (λ k. IsExplainedAs set e k (printing events ++ explanation_text x w.read events w.step)) (sym kind) (explanation_text x w.read events w.step, at, ap (λ v. printing v ++ explanation_text x w.read events w.step) (sym entry.events))
+        subst (λ k. IsExplainedAs set e k (printing events ++ explanation_text x w.read events w.step)) (sym kind)
+        (explanation_text x w.read events w.step, why_executed t reason entry bytes tells observed, ap (λ v. printing v ++ explanation_text x w.read events w.step) (sym entry.events))
+
+    why_of : (t : LineEvent) → x.reason ≡ line_reason w.step w.read after.why.reason t → IsEntry n line w t e → Said n line t w e → ObservesLine keeps mid e.before line t w after → (said : Line) → e.kind ≡ Executed said
+        → IsExplanationText e.before set e.bytes e.events e.after (explanation_text x w.read (events_of_line n w t) w.step)
+    why_of (line_event.Faulted fault) reason entry (of, kind, same) observed said executed = absurd (let f : Faulty fault ≡ Executed said = sym kind ∙ executed in cc)
+    why_of line_event.Nothing reason entry (other, of, serves, kind, number, bytes) observed said executed = why_executed line_event.Nothing reason entry bytes (other, of, serves) observed
+    why_of (line_event.StepBegan end card) reason entry (other, of, serves, kind, number, bytes) observed said executed = why_executed (line_event.StepBegan end card) reason entry bytes (other, of, serves) observed
+    why_of (line_event.Answered t a) reason entry (other, of, serves, kind, number, bytes) observed said executed = why_executed (line_event.Answered t a) reason entry bytes (other, of, serves) observed
+
+    -- the explanations of an entry that is executed
+    pub executed_why : (t : LineEvent) → x.reason ≡ line_reason w.step w.read after.why.reason t → IsEntry n line w t e → ObservesLine keeps mid e.before line t w after → (said : Line) → e.kind ≡ Executed said
+        → IsExplanationText e.before set e.bytes e.events e.after (explanation_text x w.read (events_of_line n w t) w.step)
+    executed_why t reason entry observed said executed = why_of t reason entry (said_by t entry) observed said executed
 
     text_of : (t : LineEvent) → x.reason ≡ line_reason w.step w.read after.why.reason t → IsEntry n line w t e → Said n line t w e → ObservesLine keeps mid e.before line t w after → IsExplainedAs set e e.kind (text_of_event x n w t)
     text_of (line_event.Faulted fault) reason entry (of, kind, same) observed = subst (λ k. IsExplainedAs set e k (printing (events_of_line n w (line_event.Faulted fault)))) (sym kind) (ap printing (sym entry.events))
@@ -180,7 +199,8 @@ end_kind n (end.Exhausted o) e ((l, (said, events, of, takes, is)), same) P clos
 end_text : (n : ℕ) (how : End) (e : Entry) → IsEnd n how e → (set : NameOrigins) (text : List ℕ) → text ≡ printing e.events → IsExplainedAs set e e.kind text
 end_text n how e is set text same = end_kind n how e is (λ k. IsExplainedAs set e k text) same (λ said. same)
 
-end_set : (n : ℕ) (how : End) (e : Entry) → IsEnd n how e → (history : List Entry) → set_by_entries history ≡ set_by_entries (history ++ e ∷ [])
+-- the last entry sets no name
+pub end_set : (n : ℕ) (how : End) (e : Entry) → IsEnd n how e → (history : List Entry) → set_by_entries history ≡ set_by_entries (history ++ e ∷ [])
 end_set n how e is history = end_kind n how e is (λ k. set_by_entries history ≡ set_after (set_by_entries history) e k) refl (λ said. refl) ∙ sym (set_then no_lines history e)
 
 pub explains_end : {X : Type 0} (before after : Option (List ℕ)) (first x : Explained) (n : ℕ) (how : End) (result : Result X Failed) (events : List Event) → ((e : Entry) → IsEnd n how e → e.events ≡ events) → WritesAll before after result (printing events)

@@ -185,7 +185,7 @@ module _ (before after : Option (List ℕ)) (w : WalkValue) (line : List ℕ) (n
   any_line e (inr (inr (said, events, of, takes, is))) f = stopped_front w line events before after (said, of, takes) (front_at e events (ap (λ e. e.events) is) f)
 
   -- an entry that leads to the step of the job
-  so_far : List Entry
+  abbrev so_far : List Entry
   so_far = record { number = 0; bytes = []; kind = Closed; events = []; before = None; after = w.step } ∷ []
 
   -- what is written for an entry

@@ -281,7 +281,7 @@ impl Explained {
 
     /// Prints why a line with these events was refused, the name that has the address of the reason, the subpools that were freed
     /// if it ended a task, and what it changed if it was granted.
-    pub(crate) fn print_explanation<W: Write>(
+    pub fn print_explanation<W: Write>(
         &mut self,
         walk: &Walk,
         line_event: &LineEvent,

@@ -35,8 +35,7 @@ use Rattle.mvs_laws.proofs.Walking.{leads_next, served_first, served_in}
 use Rattle.page.specs.declared.change.Change.{Change}
 use Rattle.page.specs.Changes.{begin_changes, changes_of, line_changes, statement_changes}
 use Rattle.page.specs.Lines.{carried}
-use Rattle.page.specs.Pages.{IsReadAs}
-use Rattle.page.specs.Picture.{Both, ChangesDraw, Draws, EachIsDrawn, IsDrawn, IsMark, Means, Picture, Shows, ShowsBy, blank, replayed_all}
+use Rattle.page.specs.Picture.{Both, ChangesDraw, Draws, EachIsDrawn, IsDrawn, IsMark, IsReadAs, Means, Picture, Shows, ShowsBy, blank, replayed_all}
 use Rattle.page.proofs.AreasRead.{AreasFit, LineFits, line_fits}
 use Rattle.page.proofs.DrawnAnswers.{IsKept}
 use Rattle.page.proofs.DrawnLines.{does_shown}

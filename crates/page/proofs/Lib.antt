@@ -1,4 +1,5 @@
 pub mod Plain
+pub mod Heard
 pub mod Paged
 pub mod Served
 mod GrantedPlaces

@@ -1,103 +1,154 @@
--- The page of a script, a line at a time.
-use Rattle.std.proofs.Common.{◌≡◌, ℕ, ◌+◌, List, [], ◌∷◌, ◌++◌, take, drop, append_assoc, append-nil, codes, Option, Some, None, Result, Bool, true, false, Ok, Err, inl, inr, refl, sym, ap, ◌∙◌, subst}
-use Rattle.std.proofs.lemmas.List.{drop-drop}
+-- The items of the entries of a run.
+use Rattle.std.proofs.Common.{◌≡◌, ℕ, ◌+◌, List, [], ◌∷◌, ◌++◌, take, append-nil, codes, decimal, Option, Some, None, Result, Bool, true, false, IfOk, Ok, Err, inl, inr, refl, sym, ap, ◌∙◌, subst, arith}
+use Rattle.std.specs.Prelude.{◌≢◌}
 use Rattle.std.proofs.lemmas.Grind.{flat_map-append}
-use Rattle.std.specs.Io.KnownBytes.{Appends, Keeps}
-use Rattle.std.proofs.KnownBytes.{Appends-trans}
-use Rattle.mvs_model.specs.declared.outcome.Outcome.{Outcome}
-use Rattle.mvs_model.specs.declared.outcome.Outcome.TheVariants.{ScriptFault}
+use Rattle.std.proofs.lemmas.List.{take-take}
+use Rattle.std.specs.Io.KnownBytes.{Appends}
+use Rattle.std.proofs.KnownBytes.{Appends-nil, Appends-trans}
+use Rattle.mvs_model.specs.declared.line.Fault.{Fault}
 use Rattle.mvs_model.specs.declared.line.Line.{Line}
+use Rattle.mvs_model.specs.declared.line.Line.TheVariants as line
 use Rattle.mvs_model.specs.declared.name.Name.{Name}
-use Rattle.mvs_model.specs.Answers.{Answer, Event}
+use Rattle.mvs_model.specs.declared.outcome.Outcome.{Outcome}
+use Rattle.mvs_model.specs.declared.watched.Failed.{Failed}
+use Rattle.mvs_model.specs.Answers.{Answer, AnswerTo, Event, Region}
 use Rattle.mvs_model.specs.Answers as answer
+use Rattle.mvs_model.specs.FullAnswers.{ended_with_in}
 use Rattle.mvs_model.specs.Job.{JobValue}
 use Rattle.mvs_model.specs.Lines.{lines_of}
+use Rattle.mvs_model.specs.Memory.{TakesMemory}
+use Rattle.mvs_model.specs.Reading.{LineOf}
 use Rattle.mvs_model.specs.Runs.{machine}
 use Rattle.mvs_model.specs.Texts.{printing}
-use Rattle.mvs_model.specs.Walk.{JobEnds, Walks}
+use Rattle.mvs_model.specs.Walk.{Serves, is_first}
+use Rattle.mvs_model.proofs.Reading.{one_reading}
 use Rattle.mvs_laws.proofs.Going.{printed_both}
-use Rattle.line_text.specs.Writing.{AppendsFront}
-use Rattle.line_text.proofs.Appending.{Appends-kept}
+use Rattle.line_text.specs.Writing.{AppendsFront, WritesAll}
+use Rattle.mvs_job.specs.declared.consumer.End.TheVariants as end
 use Rattle.mvs_job.specs.declared.printing.Stop.{Stop}
 use Rattle.mvs_job.specs.declared.printing.Stop.TheVariants as stop
-use Rattle.mvs_job.specs.NamedAddress.{NameOrigins, no_lines}
+use Rattle.mvs_job.specs.declared.walk.LineEvent.{LineEvent}
+use Rattle.mvs_job.specs.declared.walk.LineEvent.TheVariants as line_event
+use Rattle.mvs_job.specs.Consuming.{Accepts, AcceptsLast, IsEnd, IsEntry, IsWritten, LeavesText, WritesText, WrittenAfter, keeps_nothing}
+use Rattle.mvs_job.specs.Explained.{SetsNames, set_by_entries}
+use Rattle.mvs_job.specs.Explaining.{IsExplanationText}
+use Rattle.mvs_job.specs.NamedAddress.{NameOrigins}
+use Rattle.mvs_job.specs.LineEvents.{IsReadIn, WalkValue, closing, ended, events_of_line, full_answer_in}
+use Rattle.mvs_job.specs.Trace.{Closed, Ending, Ends, Entry, Executed, Exhausted, Faulty, IsClosed, IsExecuted, IsFaulty, IsTrace, Kind, Traces, events_of}
+use Rattle.mvs_job.proofs.ExplainedLine.{end_set}
+use Rattle.mvs_job.proofs.Tracing.{traces_are_runs}
+use Rattle.page.specs.declared.pages.PageItems.{PageItems}
 use Rattle.page.specs.Changes.{answer_in, changes_of}
+use Rattle.page.specs.Items.{item_of_event}
 use Rattle.page.specs.Lines.{change_lines}
-use Rattle.page.specs.Markup.{Inside, class_of, answer_class, escaped, escaped_byte, fault_of, head_of, is_plain, item_of, pre_texts, reply_of, tail_of}
-use Rattle.page.specs.Pages.{EndsSo, IsClosing, Items, ShowsPrinting, SoFar, WritesItem, WritesPage, WritesShown}
+use Rattle.page.specs.Markup.{Inside, answer_class, article_tag, class_of, closing_of, escaped, escaped_byte, fault_of, head_of, is_plain, item_of, pre_texts, reply_of, shown_line, tail_of}
+use Rattle.page.specs.Pages.{IsItemOf, IsPage, NeedsMemory, ShowsPrinting, WritesItem, WritesPage, WritesShown, knows_items, paged}
 use Rattle.page.proofs.Plain.{Shows, both_shown, head_shown, none_shown, note_of_shown, plain_shown, reply_shown, tail_shown}
 
--- ---- the lines so far
+-- ---- the item of an entry
 
-pub so_far_start : (start after : Option (List ℕ)) (frame script : List ℕ) (set : NameOrigins) → set ≡ no_lines → Appends start after frame → SoFar start after frame script 1 None set script
-so_far_start start after frame script set e a =
-    ([], subst (Appends start after) (sym (append-nil frame)) a, λ how text h. subst (λ set. Items how 1 None set (lines_of script) text) e h)
+module _ (n : ℕ) (line : List ℕ) (w : WalkValue) (e : Entry) where
+  one_read : (said : Line) → LineOf (is_first e.before) line said → IsReadIn e.before line w.read → w.read ≡ said
+  one_read said of (inl here) = one_reading.one_line (is_first e.before) line w.read said here of
+  one_read said of (inr f) = absurd (one_reading.not_both (is_first e.before) line said f.0 of f.1)
 
-module _ (start before after : Option (List ℕ)) (frame script left : List ℕ) (number : ℕ) (step : Option JobValue) (set : NameOrigins) (s : SoFar start before frame script number step set left) where
-  both : (x : List ℕ) → Appends before after x → Appends start after (frame ++ (s.0 ++ x))
-  both x a = subst (Appends start after) (append_assoc frame s.0 x) (Appends-trans start before after (frame ++ s.0) x s.1 a)
+  module _ (set : NameOrigins) (why : List ℕ) where
+    executed_item : (events : List Event) → e.events ≡ events → e.after ≡ w.step → IsReadIn e.before line w.read → ((said : Line) → e.kind ≡ Executed said → IsExplanationText e.before set e.bytes e.events e.after why) → IsExecuted n e.before line e
+        → IsItemOf set e e.kind (item_of n line w.read events w.step why)
+    executed_item events same_events same_after reading whys (said, others, new, of, serves, is) =
+        let kind : e.kind ≡ Executed said = ap (λ (e : Entry). e.kind) is in
+        let number : n ≡ e.number = sym (ap (λ (e : Entry). e.number) is) in
+        let bytes : line ≡ e.bytes = sym (ap (λ (e : Entry). e.bytes) is) in
+        let read : w.read ≡ said = one_read said of reading in
+        let these : events ≡ e.events = sym same_events in
+        let after : w.step ≡ e.after = sym same_after in
+        let same : item_of n line w.read events w.step why ≡ item_of e.number e.bytes said e.events e.after why = λ i. item_of (number i) (bytes i) (read i) (these i) (after i) why in
+        subst (λ k. IsItemOf set e k (item_of n line w.read events w.step why)) (sym kind) (why, whys said kind, same)
 
-  -- what ends after the lines so far is a page
-  ends : (how : Result Outcome Stop) (x : List ℕ) → Appends before after x → Items how 1 None no_lines (lines_of script) (s.0 ++ x) → WritesPage start after frame script how
-  ends how x a h = (frame ++ (s.0 ++ x), both x a, inl (s.0 ++ x, refl, h))
+    fault_item : (events : List Event) → e.events ≡ events → IsFaulty n e.before line e → IsItemOf set e e.kind (fault_of n line events)
+    fault_item events same_events (fault, of, is) =
+        let kind : e.kind ≡ Faulty fault = ap (λ (e : Entry). e.kind) is in
+        let number : n ≡ e.number = sym (ap (λ (e : Entry). e.number) is) in
+        let bytes : take 256 line ≡ e.bytes = sym (ap (λ (e : Entry). e.bytes) is) in
+        let short : shown_line line ≡ shown_line e.bytes = ap escaped (sym (take-take 255 256 line (omega arith)) ∙ ap (take 255) bytes) in
+        let these : events ≡ e.events = sym same_events in
+        let notice = codes "<p>The job ends here.</p>\n</article>\n" in
+        let head : head_of n (codes "js") line ≡ head_of e.number (codes "js") e.bytes =
+        λ i. article_tag (number i) (codes "js") ++ (codes "\n<h2>" ++ (escaped (decimal (number i)) ++ (codes " <code>" ++ (short i ++ codes "</code></h2>\n")))) in
+        let same : fault_of n line events ≡ fault_of e.number e.bytes e.events = λ i. head i ++ (reply_of (printing (these i)) ++ notice) in
+        subst (λ k. IsItemOf set e k (fault_of n line events)) (sym kind) same
 
-  module _ (l : List ℕ) (lines : List (List ℕ)) (cut : lines_of left ≡ l ∷ lines) where
-    here : (how : Result Outcome Stop) (text : List ℕ) → Items how number step set (l ∷ lines) text → Items how 1 None no_lines (lines_of script) (s.0 ++ text)
-    here how text h = s.2 how text (subst (λ ls. Items how number step set ls text) (sym cut) h)
+    -- the item of a line may be written for its entry
+    pub may_item : (t : LineEvent) → IsEntry n line w t e → ((said : Line) → e.kind ≡ Executed said → IsExplanationText e.before set e.bytes e.events e.after why) → IsItemOf set e e.kind (item_of_event n line w.read w t why)
+    may_item (line_event.Faulted fault) entry whys = fault_item (events_of_line n w (line_event.Faulted fault)) entry.events entry.of_line
+    may_item line_event.Nothing entry whys = executed_item (events_of_line n w line_event.Nothing) entry.events entry.after entry.read whys entry.of_line
+    may_item (line_event.StepBegan end card) entry whys = executed_item (events_of_line n w (line_event.StepBegan end card)) entry.events entry.after entry.read whys entry.of_line
+    may_item (line_event.Answered t a) entry whys = executed_item (events_of_line n w (line_event.Answered t a)) entry.events entry.after entry.read whys entry.of_line
 
-    pub so_far_fault : (new : Option JobValue) (later : NameOrigins) → WritesItem before after number step set l new later (Ok false) → WritesPage start after frame script (Ok ScriptFault)
-    so_far_fault new later x = ends (Ok ScriptFault) x.0 x.1 (here (Ok ScriptFault) x.0 (inl (x.2, refl)))
+  -- ---- the memory that it needs
 
-    pub so_far_stopped : (new : Option JobValue) (later : NameOrigins) (why : Stop) → WritesItem before after number step set l new later (Err why) → WritesPage start after frame script (Err why)
-    so_far_stopped new later stop.Write (text, a, inl none) = ends (Err stop.Write) text a (here (Err stop.Write) text (inl (inl none)))
-    so_far_stopped new later stop.Write (text, a, inr next) = ends (Err stop.Write) text a (here (Err stop.Write) text (inl (inr next)))
-    so_far_stopped new later stop.Memory (kept, needs) =
-        (frame ++ s.0, Appends-kept start before after (frame ++ s.0) s.1 kept, inl (s.0, refl, subst (Items (Err stop.Memory) 1 None no_lines (lines_of script)) (append-nil s.0) (here (Err stop.Memory) [] (inl (refl, needs)))))
+  some_needs : (events : List Event) → (events ≡ [] → ⊥) → e.events ≡ events → IsExecuted n e.before line e → NeedsMemory e.kind
+  some_needs events some same (said, others, new, of, serves, is) =
+      let here : others ≡ events = sym (ap (λ (e : Entry). e.events) is) ∙ same in
+      subst NeedsMemory (sym (ap (λ (e : Entry). e.kind) is)) (λ none. some (sym here ∙ (subst (λ l. Serves machine n e.before l others new) none serves).0))
 
-  pub so_far_next : (new : Option JobValue) (later : NameOrigins) (l more : List ℕ) (next : ℕ) → lines_of left ≡ l ∷ lines_of more → next ≡ number + 1 → WritesItem before after number step set l new later (Ok true) → SoFar start after frame script next new later more
-  so_far_next new later l more next cut e x = (
-    s.0 ++ x.0,
-    both x.0 x.1,
-    λ how text h.
-        subst (Items how 1 None no_lines (lines_of script)) (sym (append_assoc s.0 x.0 text))
-        (here l (lines_of more) cut how (x.0 ++ text) (inr (new, later, x.0, text, x.2, refl, subst (λ n. Items how n new later (lines_of more) text) e h))),
-  )
+  one_more : (front : List Event) (x : Event) → front ++ x ∷ [] ≡ [] → ⊥
+  one_more [] x is = absurd (let f : x ∷ [] ≡ [] = is in cc)
+  one_more (y ∷ front) x is = absurd (let f : y ∷ (front ++ x ∷ []) ≡ [] = is in cc)
 
-  module _ (none : lines_of left ≡ []) where
-    last : (how : Result Outcome Stop) (text : List ℕ) → EndsSo how number step set [] text → Items how 1 None no_lines (lines_of script) (s.0 ++ text)
-    last how text h = s.2 how text (subst (λ ls. Items how number step set ls text) (sym none) h)
+  pub item_needs : (t : LineEvent) → IsEntry n line w t e → t ≢ line_event.Nothing → NeedsMemory e.kind
+  item_needs line_event.Nothing entry some = absurd (some refl)
+  item_needs (line_event.Faulted fault) entry some = faulty entry.of_line where
+    faulty : IsFaulty n e.before line e → NeedsMemory e.kind
+    faulty (other, of, is) = subst NeedsMemory (sym (ap (λ (e : Entry). e.kind) is)) tt
+  item_needs (line_event.StepBegan end card) entry some = some_needs _ (one_more (ended end) (AnswerTo n card.name (Region card))) entry.events entry.of_line
+  item_needs (line_event.Answered t a) entry some = some_needs _ (one_more [] (AnswerTo n t (full_answer_in w.step (ended_with_in w.reply) t a))) entry.events entry.of_line
 
-    pub so_far_end : (outcome : Outcome) (item : List ℕ) → IsClosing number step outcome item → Appends before after item → WritesPage start after frame script (Ok outcome)
-    so_far_end outcome item closing a = ends (Ok outcome) item a (last (Ok outcome) item closing)
+-- a line that says nothing takes no memory
+takes_none : (old : Option JobValue) → TakesMemory old line.Nothing [] → ⊥
+takes_none None h = h
+takes_none (Some job) h = h
 
-    pub so_far_in_end : (outcome : Outcome) (item : List ℕ) → IsClosing number step outcome item → AppendsFront before after item → WritesPage start after frame script (Err stop.Write)
-    so_far_in_end outcome item closing f = ends (Err stop.Write) f.0 f.3 (last (Err stop.Write) f.0 (inr (f.1, (outcome, subst (IsClosing number step outcome) f.2 closing))))
+-- an entry that needs memory for its names needs it for its item
+pub names_need : (e : Entry) (k : Kind) → SetsNames e k → NeedsMemory k
+names_need e (Executed said) sets = λ none. takes_none e.before (subst (λ l. TakesMemory e.before l []) none sets)
+names_need e (Faulty fault) sets = absurd sets
+names_need e Closed sets = absurd sets
+names_need e (Exhausted said) sets = absurd sets
 
-    pub so_far_no_end : Keeps before after → WritesPage start after frame script (Err stop.Memory)
-    so_far_no_end kept =
-        (frame ++ s.0, Appends-kept start before after (frame ++ s.0) s.1 kept, inl (s.0, refl, subst (Items (Err stop.Memory) 1 None no_lines (lines_of script)) (append-nil s.0) (last (Err stop.Memory) [] (refl, tt))))
+-- ---- what a call does
 
--- a front of the fixed part
-pub in_frame : (start after : Option (List ℕ)) (frame script : List ℕ) → AppendsFront start after frame → WritesPage start after frame script (Err stop.Write)
-in_frame start after frame script f = (f.0, f.3, inr (refl, (f.1, f.2)))
+module _ (before after : Option (List ℕ)) (first now : PageItems) (history : List Entry) (e : Entry) where
+  pub accepts_item : {X : Type 0} (t : LineEvent) (item : List ℕ) (r : Result X Stop) → WritesItem before after t item r → IsItemOf (set_by_entries history) e e.kind item → (t ≢ line_event.Nothing → NeedsMemory e.kind)
+      → now.explained.lines ≡ set_by_entries (history ++ e ∷ []) → Accepts {S = PageItems} {X = X} paged (knows_items first) before after now history e r
+  accepts_item t item (Ok x) wrote may needs known = ((item, may, wrote), known)
+  accepts_item t item (Err stop.Write) wrote may needs known = ((item, may, wrote), tt)
+  accepts_item t item (Err stop.Memory) (some, kept) may needs known = ((needs some, kept), tt)
 
--- the line of a script at an index
-module _ (start before after : Option (List ℕ)) (frame script rest : List ℕ) (at end number : ℕ) (step new : Option JobValue) (set later : NameOrigins) (is : rest ≡ drop at script) (cut : lines_of rest ≡ take end rest ∷ lines_of (drop (end + 1) rest))
-    (s : SoFar start before frame script number step set (drop at script)) where
-  here_cut : lines_of (drop at script) ≡ take end rest ∷ lines_of (drop (end + 1) rest)
-  here_cut = ap lines_of (sym is) ∙ cut
+  closed_item : (n : ℕ) (o : Option Bool) → IsEnd n (end.Closed o) e → IsItemOf (set_by_entries history) e e.kind (closing_of (closing n o))
+  closed_item n o ((outcome, (events, closes, is)), same) = subst (λ k. IsItemOf (set_by_entries history) e k (closing_of (closing n o))) (sym (ap (λ (e : Entry). e.kind) is)) (ap closing_of (sym same))
 
-  pub line_on : (next : ℕ) → next ≡ number + 1 → (b : Bool) → b ≡ true → WritesItem before after number step set (take end rest) new later (Ok b) → SoFar start after frame script next new later (drop (at + (end + 1)) script)
-  line_on next e b so x =
-      subst (λ left. SoFar start after frame script next new later left) (ap (drop (end + 1)) is ∙ drop-drop (end + 1) at script)
-      (so_far_next start before after frame script (drop at script) number step set s new later (take end rest) (drop (end + 1) rest) next here_cut e (subst (λ b. WritesItem before after number step set (take end rest) new later (Ok b)) so x))
+  pub accepts_closed : {X : Type 0} (n : ℕ) (o : Option Bool) (r : Result X Failed) → IsEnd n (end.Closed o) e → WritesAll before after r (closing_of (closing n o)) → now.explained.lines ≡ set_by_entries history → AcceptsLast {S = PageItems} {X = X} paged (knows_items first) before after now history e r
+  accepts_closed n o (Ok x) is wrote known = ((closing_of (closing n o), closed_item n o is, wrote), known ∙ end_set n (end.Closed o) e is history)
+  accepts_closed n o (Err failed) is wrote known = ((closing_of (closing n o), closed_item n o is, wrote), tt)
 
-  pub line_fault : (b : Bool) → b ≡ false → WritesItem before after number step set (take end rest) new later (Ok b) → WritesPage start after frame script (Ok ScriptFault)
-  line_fault b so x =
-      so_far_fault start before after frame script (drop at script) number step set s (take end rest) (lines_of (drop (end + 1) rest)) here_cut new later (subst (λ b. WritesItem before after number step set (take end rest) new later (Ok b)) so x)
+-- memory was exhausted: nothing is written
+module _ (before : Option (List ℕ)) (first now : PageItems) (history : List Entry) (e : Entry) where
+  none_item : (n : ℕ) (o : Option Bool) → IsEnd n (end.Exhausted o) e → IsItemOf (set_by_entries history) e e.kind []
+  none_item n o ((l, (said, events, of, takes, is)), same) = subst (λ k. IsItemOf (set_by_entries history) e k []) (sym (ap (λ (e : Entry). e.kind) is)) refl
 
-  pub line_gave_up : (why : Stop) → WritesItem before after number step set (take end rest) new later (Err why) → WritesPage start after frame script (Err why)
-  line_gave_up = so_far_stopped start before after frame script (drop at script) number step set s (take end rest) (lines_of (drop (end + 1) rest)) here_cut new later
+  pub accepts_exhausted : {X : Type 0} (n : ℕ) (o : Option Bool) (x : X) → IsEnd n (end.Exhausted o) e → now.explained.lines ≡ set_by_entries history → AcceptsLast {S = PageItems} {X = X} paged (knows_items first) before before now history e (Ok x)
+  accepts_exhausted n o x is known = (([], none_item n o is, Appends-nil before), known ∙ end_set n (end.Exhausted o) e is history)
+
+-- ---- a page
+
+-- the fixed part, and then what is written for a run
+pub page_after : (before mid after : Option (List ℕ)) (frame script : List ℕ) (how : Result Outcome Stop) → Appends before mid frame → LeavesText paged mid after script how → WritesPage before after frame script how
+page_after before mid after frame script how a (items, b, w) = (frame ++ items, Appends-trans before mid after frame items a b, inl (items, refl, w))
+
+-- a front of the fixed part, if a write fails
+pub page_cut : (before after : Option (List ℕ)) (frame script : List ℕ) → AppendsFront before after frame → WritesPage before after frame script (Err stop.Write)
+page_cut before after frame script (front, rest, is, a) = (front, a, inr (refl, (rest, is)))
 
 -- ---- what a reader sees
 
@@ -152,26 +203,56 @@ fault_shown number l events =
 shown_both : (events more : List Event) → shown_of (events ++ more) ≡ shown_of events ++ shown_of more
 shown_both events more = ap escaped (printed_both events more) ∙ flat_map-append escaped_byte (printing events) (printing more)
 
-abbrev Seen : Outcome → ℕ → Option JobValue → List (List ℕ) → List ℕ → Type 0
-Seen outcome number old lines text = (events : List Event) × Walks machine (JobEnds machine outcome) number old lines events × Shows text (shown_of events)
+closing_shown : (events : List Event) → Shows (closing_of events) (shown_of events)
+closing_shown events = reply_shown (printing events)
 
-seen_so : (outcome : Outcome) (lines : List (List ℕ)) (number : ℕ) (old : Option JobValue) (set : NameOrigins) (text : List ℕ) → Items (Ok outcome) number old set lines text → Seen outcome number old lines text
-seen_so outcome [] number old set text h = (h.0, h.1, subst (λ t. Shows t (shown_of h.0)) (sym h.2) (reply_shown (printing h.0)))
-seen_so outcome (l ∷ lines) number old set text (inl ((events, faults, e), out)) = (events, inl (faults, out), subst (λ t. Shows t (shown_of events)) (sym e) (fault_shown number l events))
-seen_so outcome (l ∷ lines) number old set text (inr (mid, later, item, rest, (read, events, trailing, reads, serves, sets, is, e), cut, more)) =
-    let s = seen_so outcome lines (number + 1) mid later rest more in
-    let one = subst (λ t. Shows t (shown_of events)) (sym e) (item_shown number l read events mid trailing) in (
-      events ++ s.0,
-      inr (mid, events, s.0, serves, refl, s.1),
-      subst (λ t. Shows t (shown_of (events ++ s.0))) (sym cut) (subst (Shows (item ++ rest)) (sym (shown_both events s.0)) (both_shown item rest (shown_of events) (shown_of s.0) one s.2)),
-    )
+-- an entry before the end of a job that ends shows its events
+kind_shown : (set : NameOrigins) (e : Entry) (k : Kind) (text : List ℕ) → ((said : Line) → k ≡ Exhausted said → ⊥) → IsItemOf set e k text → Shows text (shown_of e.events)
+kind_shown set e (Executed said) text some (why, explained, is) = subst (λ t. Shows t (shown_of e.events)) (sym is) (item_shown e.number e.bytes said e.events e.after why)
+kind_shown set e (Faulty fault) text some is = subst (λ t. Shows t (shown_of e.events)) (sym is) (fault_shown e.number e.bytes e.events)
+kind_shown set e Closed text some is = subst (λ t. Shows t (shown_of e.events)) (sym is) (closing_shown e.events)
+kind_shown set e (Exhausted said) text some is = absurd (some said refl)
 
-shows_printing : (script items : List ℕ) (outcome : Outcome) → Items (Ok outcome) 1 None no_lines (lines_of script) items → ShowsPrinting script items outcome
-shows_printing script items outcome h =
-    let s = seen_so outcome (lines_of script) 1 None no_lines items h in
-    record { events = s.0; run = s.1; shown = ap (pre_texts (Inside false)) (sym (append-nil items)) ∙ s.2 [] ∙ append-nil (shown_of s.0) }
+module _ (history : List Entry) (e : Entry) (rest : List Entry) (text : List ℕ) (some : (said : Line) → e.kind ≡ Exhausted said → ⊥) where
+  entry_shown : WrittenAfter paged history (e ∷ rest) text → ((others : List ℕ) → WrittenAfter paged (history ++ e ∷ []) rest others → Shows others (shown_of (events_of rest))) → Shows text (shown_of (events_of (e ∷ rest)))
+  entry_shown (one, others, may, more, is) shows =
+      subst (λ t. Shows t (shown_of (events_of (e ∷ rest)))) (sym is)
+      (subst (Shows (one ++ others)) (sym (shown_both e.events (events_of rest)))
+      (both_shown one others (shown_of e.events) (shown_of (events_of rest)) (kind_shown (set_by_entries history) e e.kind one some may) (shows others more)))
+
+none_left : (history : List Entry) (others : List ℕ) → WrittenAfter paged history [] others → Shows others (shown_of (events_of []))
+none_left history others is = subst (λ t. Shows t []) (sym is) (λ rest. refl)
+
+closed_kind : (n : ℕ) (old : Option JobValue) (outcome : Outcome) (e : Entry) → IsClosed n old outcome e → (said : Line) → e.kind ≡ Exhausted said → ⊥
+closed_kind n old outcome e (events, closes, is) said exhausted = absurd (let f : Closed ≡ Exhausted said = sym (ap (λ (e : Entry). e.kind) is) ∙ exhausted in cc)
+
+faulty_kind : (n : ℕ) (old : Option JobValue) (l : List ℕ) (e : Entry) → IsFaulty n old l e → (said : Line) → e.kind ≡ Exhausted said → ⊥
+faulty_kind n old l e (fault, of, is) said exhausted = absurd (let f : Faulty fault ≡ Exhausted said = sym (ap (λ (e : Entry). e.kind) is) ∙ exhausted in cc)
+
+executed_kind : (n : ℕ) (old : Option JobValue) (l : List ℕ) (e : Entry) → IsExecuted n old l e → (said : Line) → e.kind ≡ Exhausted said → ⊥
+executed_kind n old l e (other, events, new, of, serves, is) said exhausted = absurd (let f : Executed other ≡ Exhausted said = sym (ap (λ (e : Entry). e.kind) is) ∙ exhausted in cc)
+
+abbrev Seen : List Entry → List Entry → Type 0
+Seen history entries = (text : List ℕ) → WrittenAfter paged history entries text → Shows text (shown_of (events_of entries))
+
+trace_shown : (outcome : Outcome) (lines : List (List ℕ)) (number : ℕ) (old : Option JobValue) (history entries : List Entry) → Traces (Ends outcome) number old lines entries → Seen history entries
+trace_shown outcome [] number old history entries (e, closed, is) =
+    subst (Seen history) (sym is) (λ text w. entry_shown history e [] text (closed_kind number old outcome e closed) w (none_left (history ++ e ∷ [])))
+trace_shown outcome (l ∷ lines) number old history entries (inl (e, faulty, is, same)) =
+    subst (Seen history) (sym is) (λ text w. entry_shown history e [] text (faulty_kind number old l e faulty) w (none_left (history ++ e ∷ [])))
+trace_shown outcome (l ∷ lines) number old history entries (inr (e, rest, executed, is, more)) =
+    subst (Seen history) (sym is) (λ text w. entry_shown history e rest text (executed_kind number old l e executed) w (trace_shown outcome lines (number + 1) e.after (history ++ e ∷ []) rest more))
+
+shows_printing : (script items : List ℕ) (outcome : Outcome) → WritesText paged script items (Ok outcome) → ShowsPrinting script items outcome
+shows_printing script items outcome w =
+    let shown = trace_shown outcome (lines_of script) 1 None [] w.entries w.trace items w.is in
+    record { events = events_of w.entries; run = traces_are_runs script w.entries outcome w.trace; shown = ap (pre_texts (Inside false)) (sym (append-nil items)) ∙ shown [] ∙ append-nil (shown_of (events_of w.entries)) }
 
 -- The page of a run shows its printing.
-pub shows : (start after : Option (List ℕ)) (frame script : List ℕ) (outcome : Outcome) → WritesPage start after frame script (Ok outcome) → WritesShown start after frame script outcome
-shows start after frame script outcome (text, a, inl (items, e, h)) = (items, subst (Appends start after) e a, shows_printing script items outcome h)
+shows : (start after : Option (List ℕ)) (frame script : List ℕ) (outcome : Outcome) → WritesPage start after frame script (Ok outcome) → WritesShown start after frame script outcome
+shows start after frame script outcome (text, a, inl (items, e, w)) = (items, subst (Appends start after) e a, shows_printing script items outcome w)
 shows start after frame script outcome (text, a, inr (e, rest)) = absurd (let f : ◌≡◌ {A = Result Outcome Stop} (Ok outcome) (Err stop.Write) = e in cc)
+
+pub page_shows : (start after : Option (List ℕ)) (frame script : List ℕ) (how : Result Outcome Stop) → WritesPage start after frame script how → IfOk how (WritesShown start after frame script)
+page_shows start after frame script (Ok outcome) w = shows start after frame script outcome w
+page_shows start after frame script (Err why) w = tt

@@ -1,15 +1,10 @@
 -- The item of a line, from what the library returns.
-use Rattle.std.specs.Prelude.{ℕ, List, Bool, true, false}
+use Rattle.std.specs.Prelude.{ℕ, List}
 use Rattle.mvs_model.specs.declared.line.Line.{Line}
 use Rattle.mvs_job.specs.declared.walk.LineEvent.{LineEvent}
 use Rattle.mvs_job.specs.declared.walk.LineEvent.TheVariants as line_event
 use Rattle.mvs_job.specs.LineEvents.{WalkValue, events_of_line}
 use Rattle.page.specs.Markup.{fault_of, item_of}
-
--- whether a job continues after a line with these events
-abbrev pub continues : LineEvent → Bool
-continues (line_event.Faulted fault) = false
-continues t = true
 
 -- the item of a line with this number and these bytes, with this meaning and these events, by the state of the job after it
 abbrev pub item_of_event : ℕ → List ℕ → Line → WalkValue → LineEvent → List ℕ → List ℕ

@@ -1,77 +1,48 @@
--- The page of a script.
-use Rattle.std.specs.Prelude.{◌≡◌, ◌⊎◌, ℕ, ◌+◌, List, [], ◌∷◌, ◌++◌, Option, None, Result, Ok, Err, Bool, true, false}
+-- The page of a script: a fixed part, and an item for each entry of a run.
+use Rattle.std.specs.Prelude.{◌≡◌, ◌≢◌, ◌⊎◌, ℕ, List, [], ◌++◌, Option, Result, Ok, Err, false}
 use Rattle.std.specs.Io.KnownBytes.{Appends, Keeps}
-use Rattle.mvs_model.specs.declared.line.Fault.{Fault}
-use Rattle.mvs_model.specs.declared.line.Line.{Line}
+use Rattle.line_text.specs.Writing.{AppendsFront}
 use Rattle.mvs_model.specs.declared.line.Line.TheVariants as line
 use Rattle.mvs_model.specs.declared.outcome.Outcome.{Outcome}
-use Rattle.mvs_model.specs.declared.outcome.Outcome.TheVariants.{ScriptFault}
 use Rattle.mvs_model.specs.Answers.{Event}
-use Rattle.mvs_model.specs.Job.{JobValue}
-use Rattle.mvs_model.specs.Lines.{lines_of}
-use Rattle.mvs_model.specs.Reading.{LineOf, FaultOf}
-use Rattle.mvs_model.specs.Runs.{machine, IsRun}
+use Rattle.mvs_model.specs.Runs.{IsRun}
 use Rattle.mvs_model.specs.Texts.{printing}
-use Rattle.mvs_model.specs.Walk.{ServesLine, Faults, Closes, is_first}
 use Rattle.mvs_job.specs.declared.printing.Stop.{Stop}
 use Rattle.mvs_job.specs.declared.printing.Stop.TheVariants as stop
+use Rattle.mvs_job.specs.declared.walk.LineEvent.{LineEvent}
+use Rattle.mvs_job.specs.declared.walk.LineEvent.TheVariants as line_event
+use Rattle.mvs_job.specs.Consuming.{Known, Piece, WritesText}
+use Rattle.mvs_job.specs.Explained.{set_by_entries}
 use Rattle.mvs_job.specs.Explaining.{IsExplanationText}
-use Rattle.mvs_job.specs.NamedAddress.{AreNamesAfter, NameOrigins, no_lines}
+use Rattle.mvs_job.specs.NamedAddress.{NameOrigins}
+use Rattle.mvs_job.specs.Trace.{Closed, Entry, Executed, Exhausted, Faulty, Kind}
+use Rattle.page.specs.declared.pages.PageItems.{PageItems}
 use Rattle.page.specs.Markup.{Inside, closing_of, escaped, fault_of, item_of, pre_texts}
 
--- A line was read as this; one with a fault, as anything.
-abbrev pub IsReadAs : Option JobValue → List ℕ → Line → Type 0
-IsReadAs old l read = LineOf (is_first old) l read ⊎ ((fault : Fault) × FaultOf (is_first old) l fault)
+-- The text is the item of an entry of this kind, before which these names are set: of a line that was executed, with its explanations;
+-- of a line with a fault; and of the end of the job. An entry at which memory is exhausted has none.
+abbrev pub IsItemOf : NameOrigins → Entry → Kind → List ℕ → Type 0
+IsItemOf set e (Executed said) text = (why : List ℕ) × IsExplanationText e.before set e.bytes e.events e.after why × (text ≡ item_of e.number e.bytes said e.events e.after why)
+IsItemOf set e (Faulty fault) text = text ≡ fault_of e.number e.bytes e.events
+IsItemOf set e Closed text = text ≡ closing_of e.events
+IsItemOf set e (Exhausted said) text = text ≡ []
 
--- The item is that of the line with this number, which is executed and leads from one step to another, and from the lines that have
--- set names before it to those after it.
-abbrev pub IsItem : ℕ → Option JobValue → NameOrigins → List ℕ → Option JobValue → NameOrigins → List ℕ → Type 0
-IsItem number old set l new later item =
-    (read : Line) × (events : List Event) × (explanation : List ℕ)
-    × IsReadAs old l read × ServesLine machine number old l events new × AreNamesAfter number old set l events later × IsExplanationText old set l events new explanation
-    × (item ≡ item_of number l read events new explanation)
+-- Memory may be needed for an entry of this kind: the line is answered, or has a fault. A blank line, a comment and the end need none.
+abbrev pub NeedsMemory : Kind → Type 0
+NeedsMemory (Executed said) = said ≢ line.Nothing
+NeedsMemory (Faulty fault) = Unit {0}
+NeedsMemory Closed = ⊥
+NeedsMemory (Exhausted said) = ⊥
 
--- The item is that of the line of this number, which has a fault.
-abbrev pub IsFaultItem : ℕ → Option JobValue → List ℕ → List ℕ → Type 0
-IsFaultItem number old l item = (events : List Event) × Faults number (is_first old) l events × (item ≡ fault_of number l events)
+-- what is written for an entry
+abbrev pub paged : Piece
+paged = record { may = λ history e text. IsItemOf (set_by_entries history) e e.kind text; needs = λ e. NeedsMemory e.kind }
 
--- The item is the end of a job that has no more lines.
-abbrev pub IsClosing : ℕ → Option JobValue → Outcome → List ℕ → Type 0
-IsClosing number old outcome item = (events : List Event) × Closes machine number old events outcome × (item ≡ closing_of events)
-
--- the item that may come next, of these lines
-abbrev pub IsNext : ℕ → Option JobValue → NameOrigins → List (List ℕ) → List ℕ → Type 0
-IsNext number old set [] item = (outcome : Outcome) × IsClosing number old outcome item
-IsNext number old set (l ∷ lines) item = ((new : Option JobValue) × (later : NameOrigins) × IsItem number old set l new later item) ⊎ IsFaultItem number old l item
-
--- Memory may be needed for the next item: the next of these lines is answered, or the job ends. A blank line and a comment need none.
-abbrev pub NeedsMemory : Option JobValue → List (List ℕ) → Type 0
-NeedsMemory old [] = Unit {0}
-NeedsMemory old (l ∷ lines) = LineOf (is_first old) l line.Nothing → ⊥
-
--- How a page may end, with the number of the next line, in this step or before the first, with these lines left: with the end of
--- the job, or with a line that has a fault; with the beginning of the next item, if a write fails; and before an item that needs
--- memory, if that is exhausted.
-abbrev pub EndsSo : Result Outcome Stop → ℕ → Option JobValue → NameOrigins → List (List ℕ) → List ℕ → Type 0
-EndsSo (Ok outcome) number old set [] text = IsClosing number old outcome text
-EndsSo (Ok outcome) number old set (l ∷ lines) text = IsFaultItem number old l text × (outcome ≡ ScriptFault)
-EndsSo (Err stop.Write) number old set lines text = (text ≡ []) ⊎ ((rest : List ℕ) × IsNext number old set lines (text ++ rest))
-EndsSo (Err stop.Memory) number old set lines text = (text ≡ []) × NeedsMemory old lines
-
--- From the line with this number on, these are the items: the page ends before the first of the lines, or that line has its item,
--- and the page continues after it.
-abbrev pub Items : Result Outcome Stop → ℕ → Option JobValue → NameOrigins → List (List ℕ) → List ℕ → Type 0
-Items how number old set [] text = EndsSo how number old set [] text
-Items how number old set (l ∷ lines) text =
-    EndsSo how number old set (l ∷ lines) text
-    ⊎ ((mid : Option JobValue) × (later : NameOrigins) × (item : List ℕ) × (rest : List ℕ)
-    × IsItem number old set l mid later item × (text ≡ item ++ rest) × Items how (number + 1) mid later lines rest)
-
--- The text is the page of a run of the script, which ends so: the fixed part, and an item for each line; or a front of the fixed
--- part, where a write fails.
+-- The text is the page of a run of the script, which stops so: the fixed part, and what is written for its entries; or a front of the
+-- fixed part, if a write fails.
 abbrev pub IsPage : List ℕ → List ℕ → List ℕ → Result Outcome Stop → Type 0
 IsPage frame script text how =
-    ((items : List ℕ) × (text ≡ frame ++ items) × Items how 1 None no_lines (lines_of script) items)
+    ((items : List ℕ) × (text ≡ frame ++ items) × WritesText paged script items how)
     ⊎ ((how ≡ Err stop.Write) × ((rest : List ℕ) × (frame ≡ text ++ rest)))
 
 -- the text between two moments of a writer is such a page
@@ -90,18 +61,13 @@ WritesShown before after frame script outcome = (items : List ℕ) × Appends be
 
 -- ---- what calls do
 
--- The effect of the call for one line, between two moments of a writer: it writes the item, and the job continues or has ended; or
--- it stops and has written nothing, or the beginning of the item if a write fails.
-abbrev pub WritesItem : Option (List ℕ) → Option (List ℕ) → ℕ → Option JobValue → NameOrigins → List ℕ → Option JobValue → NameOrigins → Result Bool Stop → Type 0
-WritesItem before after number old set l new later (Ok true) = (item : List ℕ) × Appends before after item × IsItem number old set l new later item
-WritesItem before after number old set l new later (Ok false) = (item : List ℕ) × Appends before after item × IsFaultItem number old l item
-WritesItem before after number old set l new later (Err stop.Write) =
-    (text : List ℕ) × Appends before after text × ((text ≡ []) ⊎ ((rest : List ℕ) × IsNext number old set (l ∷ []) (text ++ rest)))
-WritesItem before after number old set l new later (Err stop.Memory) = Keeps before after × NeedsMemory old (l ∷ [])
+-- What is known of a writer of items: it has the names that the entries have set, each with its line.
+abbrev pub knows_items : PageItems → Known PageItems
+knows_items first = record { has = λ now entries. now.explained.lines ≡ set_by_entries entries; had = λ now entries. Unit {0} }
 
--- The text between two moments of a writer is written after the fixed part for the lines before, in whatever way the page ends
--- after it.
-abbrev pub SoFar : Option (List ℕ) → Option (List ℕ) → List ℕ → List ℕ → ℕ → Option JobValue → NameOrigins → List ℕ → Type 0
-SoFar before after frame script number step set left =
-    (written : List ℕ) × Appends before after (frame ++ written)
-    × ((how : Result Outcome Stop) (text : List ℕ) → Items how number step set (lines_of left) text → Items how 1 None no_lines (lines_of script) (written ++ text))
+-- The effect of the call for the item of a line with these events, between two moments of a writer: all of it is written, or a front
+-- if a write fails. If memory is exhausted, nothing is; that happens only if the line has events.
+abbrev pub WritesItem : {X : Type 0} → Option (List ℕ) → Option (List ℕ) → LineEvent → List ℕ → Result X Stop → Type 0
+WritesItem before after t item (Ok x) = Appends before after item
+WritesItem before after t item (Err stop.Write) = AppendsFront before after item
+WritesItem before after t item (Err stop.Memory) = (t ≢ line_event.Nothing) × Keeps before after

@@ -1,9 +1,10 @@
 -- The picture that a reader of the lines of change has of a step, and that it is the step's.
-use Rattle.std.specs.Prelude.{◌≡◌, ℕ, ◌+◌, ◌-◌, Bool, true, false, not, ◌&&◌, ◌||◌, ◌==◌, List, [], ◌∷◌, ◌++◌, Option, Some, None, unwrap_or, if◌then◌else◌}
+use Rattle.std.specs.Prelude.{◌≡◌, ◌⊎◌, ℕ, ◌+◌, ◌-◌, Bool, true, false, not, ◌&&◌, ◌||◌, ◌==◌, List, [], ◌∷◌, ◌++◌, Option, Some, None, unwrap_or, if◌then◌else◌}
 use Rattle.std.specs.List.{list_any, slice_get}
 use Rattle.std.specs.Option.{option_map}
 use Rattle.std.specs.FinMap.{get}
 use Rattle.std.specs.FinSet as set
+use Rattle.mvs_model.specs.declared.line.Fault.{Fault}
 use Rattle.mvs_model.specs.declared.line.Line.{Line}
 use Rattle.mvs_model.specs.declared.name.Name.{Name}
 use Rattle.mvs_model.specs.Answers.{Event}
@@ -13,15 +14,15 @@ use Rattle.mvs_model.specs.Name.{same_name}
 use Rattle.mvs_model.specs.Owners.{Owners, Task, entry}
 use Rattle.mvs_model.specs.Place.{PlaceValue}
 use Rattle.mvs_model.specs.Pools.{Part, Pool}
+use Rattle.mvs_model.specs.Reading.{FaultOf, LineOf}
 use Rattle.mvs_model.specs.Runs.{machine}
 use Rattle.mvs_model.specs.State.{Holding}
 use Rattle.mvs_model.specs.Storage.{Regions, covers, has_address}
-use Rattle.mvs_model.specs.Walk.{Leads, ServesLine}
+use Rattle.mvs_model.specs.Walk.{Leads, ServesLine, is_first}
 use Rattle.page.specs.declared.change.Change.{Change}
 use Rattle.page.specs.declared.change.Change.TheVariants as change
 use Rattle.page.specs.Changes.{changes_of}
 use Rattle.page.specs.Lines.{carried}
-use Rattle.page.specs.Pages.{IsReadAs}
 
 -- ---- the picture
 
@@ -226,6 +227,10 @@ Shows p None = p ≡ blank
 Shows p (Some job) = ShowsBy (Means job.state.owners) p job
 
 -- ---- the law
+
+-- A line was parsed as this; one with a fault, as anything.
+abbrev pub IsReadAs : Option JobValue → List ℕ → Line → Type 0
+IsReadAs old l read = LineOf (is_first old) l read ⊎ ((fault : Fault) × FaultOf (is_first old) l fault)
 
 -- From a step and a picture, the lines from this number on may lead to a step, and their lines of change, replayed, to a picture.
 abbrev pub Draws : ℕ → Option JobValue → Picture → List (List ℕ) → Option JobValue → Picture → Type 0

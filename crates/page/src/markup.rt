@@ -2,12 +2,13 @@
 
 ghost use Rattle.std.specs.Prelude.{◌≡◌, ◌≤◌, ◌<◌, ◌+◌, ◌++◌, ◌∷◌, [], true, IfOk, OnOk, decimal, drop, length, take};
 ghost use Rattle.line_text.specs.Writing.{Prints};
-ghost use Rattle.page.specs.Markup.{article_tag, escaped, escaped_byte, head_of, most_of_line, note_of, note_tag, reply_of, shown_line, tail_of, words_of};
+ghost use Rattle.mvs_job.specs.LineEvents.{closing};
+ghost use Rattle.page.specs.Markup.{article_tag, closing_of, escaped, escaped_byte, head_of, most_of_line, note_of, note_tag, reply_of, shown_line, tail_of, words_of};
 
 use job_script::MOST_LINE_BYTES;
 use line_text::text::LineText;
 use line_text::write_all;
-use mvs_job::line_end;
+use mvs_job::{line_end, print_closing};
 use mvs_model::watched::{Failed, Watched};
 use std::alloc::AllocError;
 use std::io::Write;
@@ -221,4 +222,17 @@ pub fn print_note<W: Write>(writer: &mut Watched<W>, number: u32, line: &[u8]) -
     print_note_tag(writer, number)?;
     print_escaped(writer, front(line))?;
     write_all(writer, b"</p>\n")
+}
+
+/// Writes the item at the end of a job that has no more lines. It allocates no memory.
+pub fn print_end<W: Write>(
+    writer: &mut Watched<W>,
+    line_number: u32,
+    end: Option<bool>,
+) -> Result<(), Failed>
+    ensures { Prints W.contents writer.old writer.new result (closing_of (closing line_number end)) }
+{
+    write_all(writer, b"<pre>")?;
+    print_closing(writer, line_number, end)?;
+    write_all(writer, b"</pre>\n")
 }

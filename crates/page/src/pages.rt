@@ -1,36 +1,96 @@
 //! Writes the page of a script.
 
-ghost use Rattle.std.specs.Prelude.{◌≡◌, ◌≤◌, ◌<◌, ◌+◌, ◌^◌, [], Some, false, true, length, IfOk, OnOk, IsErrOf};
+ghost use Rattle.std.specs.Prelude.{◌≡◌, ◌≢◌, ◌≤◌, length, true, IfOk, OnOk, IsErrOf};
 ghost use Rattle.mvs_model.specs.Numbers.{most_script_bytes};
-ghost use Rattle.mvs_model.specs.Reading.{LineOf};
 ghost use Rattle.mvs_model.specs.Texts.{printing};
-ghost use Rattle.mvs_job.specs.Apart.{AppendsExplanation};
-ghost use Rattle.mvs_job.specs.NamedAddress.{RecordsOrigins, no_lines};
-ghost use Rattle.mvs_job.specs.LineEvents.{IsAvailable, ServesAs, closing, events_of_line};
-ghost use Rattle.mvs_model.specs.Walk.{is_first};
-ghost use Rattle.page.specs.Markup.{closing_of};
-ghost use Rattle.page.specs.Pages.{IsReadAs, WritesItem, WritesPage, WritesShown};
-ghost use Rattle.page.specs.Items.{continues};
+ghost use Rattle.mvs_job.specs.Explaining.{explanation_text};
+ghost use Rattle.mvs_job.specs.Looking.{IsLooking, KeepsExplained};
+ghost use Rattle.mvs_job.specs.NamedAddress.{no_lines};
+ghost use Rattle.mvs_job.specs.LineEvents.{IsAvailable, events_of_line};
+ghost use Rattle.page.specs.Items.{item_of_event};
+ghost use Rattle.page.specs.Pages.{WritesItem, WritesPage, WritesShown, knows_items, paged};
 
 use crate::changes::ChangeBuffers;
 use crate::item::{Numbered, PrintedLine, item_of};
-use crate::markup::{print_note, push_reply};
-use job_script::read_line;
+use crate::markup::{print_end, print_note};
 use line_text::write_all;
-use mvs_job::{Explainer, LineEvent, Stop, Walk, line_end, print_closing};
-use mvs_model::line::Line;
+use mvs_job::{Consumer, End, Explained, Job, LineEvent, Observer, Stop, Walk, print_line, run_lines};
+use mvs_model::name::Name;
 use mvs_model::outcome::Outcome;
+use mvs_model::reason::Shortfall;
+use mvs_model::refusal::Refusal;
+use mvs_model::request::Request;
 use mvs_model::want::Placement;
-use mvs_model::watched::Watched;
+use mvs_model::watched::{Failed, Watched};
 use std::alloc::{AllocError, Global};
 use std::io::Write;
 
-// Room for what is looked at at a line, which is long.
+/// Writes an item of the page for each line of a run, and one for its end. It keeps what it has seen of a line, in large buffers, and
+/// which lines have set the names of the step.
 #[derive(Drop)]
-struct PageMaker {
-    explainer: Explainer,
-    read: Line,
+pub struct PageItems {
+    alloc: Global,
+    explained: Explained,
     buffers: ChangeBuffers,
+}
+
+impl Observer for PageItems {
+    ghost heard = { λ old job t request refusal left new.
+        KeepsExplained old.explained job t request refusal new.explained };
+
+    fn refused(
+        &mut self,
+        job: &Job,
+        task: &Name,
+        request: &Request,
+        refusal: Refusal,
+        left: &Shortfall,
+    ) {
+        self.explained.refused(job, task, request, refusal, left);
+    }
+}
+
+impl Consumer for PageItems {
+    ghost piece = { paged };
+
+    ghost knows = { knows_items };
+
+    ghost sees = { λ s step read. IsLooking step s.explained.lines read s.explained };
+
+    fn look(&mut self, walk: &Walk) {
+        self.explained.look_at(walk);
+    }
+
+    fn entry<W: Write>(
+        &mut self,
+        writer: &mut Watched<W>,
+        line_number: u32,
+        line: &[u8],
+        walk: &Walk,
+        line_event: &LineEvent,
+    ) -> Result<(), Stop> {
+        let Ok(()) = self.explained.keep(line_number, walk, line_event) else {
+            return Err(Stop::Memory);
+        };
+        let numbered = Numbered {
+            number: line_number,
+            line,
+        };
+        self.write_item(writer, &numbered, walk, line_event)
+    }
+
+    fn end<W: Write>(
+        &mut self,
+        writer: &mut Watched<W>,
+        line_number: u32,
+        _walk: &Walk,
+        end: End,
+    ) -> Result<(), Failed> {
+        match end {
+            End::Closed(ended) => print_end(writer, line_number, ended),
+            End::Exhausted(_) => Ok(()),
+        }
+    }
 }
 
 // Returns what was written to memory, where no growth was refused.
@@ -40,191 +100,111 @@ fn written(text: Watched<Vec<u8>>) -> Vec<u8>
     text.into_inner()
 }
 
-// Returns whether no step has begun.
-fn is_first(walk: &Walk) -> bool
-    ensures { result ≡ is_first walk.now.step }
-{
-    match walk.job() {
-        Some(_) => false,
-        None => true,
-    }
-}
-
-// Parses a line of a job in this state, and returns whether it is blank or a comment.
-fn is_blank_or_comment(walk: &Walk, line: &[u8], read: &mut Line) -> bool
-    ensures read { IsReadAs walk.now.step line.now read.new }
-    ensures nothing { result ≡ true → LineOf (is_first walk.now.step) line.now Line.Nothing }
-    ensures something { result ≡ false → LineOf (is_first walk.now.step) line.now Line.Nothing → ⊥ }
-{
-    match read_line(line, is_first(walk), read) {
-        Ok(()) => match read {
-            Line::Nothing => true,
-            Line::Statement(..) => false,
-        },
-        Err(_) => false,
-    }
-}
-
-// Returns whether a job continues after a line with these events.
-fn continues(line_event: &LineEvent) -> bool
-    ensures { result ≡ continues line_event.now }
-{
-    match line_event {
-        LineEvent::Faulted(_) => false,
-        LineEvent::Nothing | LineEvent::StepBegan { .. } | LineEvent::Answered { .. } => true,
-    }
-}
-
-impl PageMaker {
-    fn new(alloc: Global) -> PageMaker
-        ensures { result.explainer ≡ no_lines }
+impl PageItems {
+    /// Makes a writer that has seen no line. It allocates no memory.
+    pub fn new(alloc: Global) -> PageItems
+        ensures { result.explained.lines ≡ no_lines }
     {
-        PageMaker {
-            explainer: Explainer::new(alloc),
-            read: Line::Nothing,
+        PageItems {
+            alloc,
+            explained: Explained::new(alloc),
             buffers: ChangeBuffers::new(),
         }
     }
 
-    // Executes a line. Memory can be exhausted there, or by what it prints.
-    fn serve(
+    // Returns what a line prints, and its explanations.
+    fn printed(
         &mut self,
-        alloc: Global,
-        walk: &mut Walk,
-        line: &[u8],
+        number: u32,
+        walk: &Walk,
+        line_event: &LineEvent,
     ) -> Result<PrintedLine, AllocError>
-        requires { walk.old.number + 1 < 2 ^ 32 }
-        ensures executed { IfOk result (λ served. ServesAs walk.old line.now served.line_event walk.new) }
+        requires { IsAvailable walk.now line_event.now }
+        ensures line_event { IfOk result (λ served. served.line_event ≡ line_event.now) }
         ensures printed { IfOk result
-            (λ served. served.printed.items
-            ≡ printing (events_of_line walk.old.number walk.new served.line_event)) }
-        ensures explained { IfOk result
-            (λ served. AppendsExplanation (Some []) (Some served.explanation.items) walk.old
-            self.old.explainer line.now walk.new served.line_event) }
-        ensures lines { IfOk result
-            (λ served. RecordsOrigins walk.old self.old.explainer line.now walk.new served.line_event
-            self.new.explainer) }
-        ensures full_answer { IfOk result (λ served. IsAvailable walk.new served.line_event) }
-        ensures read { self.new.read ≡ self.old.read }
-        ensures number { walk.new.number ≡ walk.old.number + 1 }
+            (λ served. served.printed.items ≡ printing (events_of_line number walk.now line_event.now)) }
+        ensures explanation { IfOk result
+            (λ served. served.explanation.items
+            ≡ explanation_text self.old.explained walk.now.read (events_of_line number walk.now line_event.now)
+            walk.now.step) }
+        ensures lines { self.new.explained.lines ≡ self.old.explained.lines }
     {
-        let mut printed = Watched::new(Vec::new(alloc));
-        let mut explanation = Watched::new(Vec::new(alloc));
-        match self
-            .explainer
-            .serve(walk, line, &mut printed, &mut explanation)
-        {
-            Ok(line_event) => Ok(PrintedLine {
-                line_event,
-                printed: written(printed),
-                explanation: written(explanation),
-            }),
-            Err(_) => Err(AllocError),
-        }
+        let mut printed = Watched::new(Vec::new(self.alloc));
+        let Ok(()) = print_line(&mut printed, number, walk, line_event) else {
+            return Err(AllocError);
+        };
+        let mut explanation = Watched::new(Vec::new(self.alloc));
+        let Ok(()) = self
+            .explained
+            .print_explanation(walk, line_event, &mut explanation)
+        else {
+            return Err(AllocError);
+        };
+        Ok(PrintedLine {
+            line_event: *line_event,
+            printed: written(printed),
+            explanation: written(explanation),
+        })
     }
 
-    // Executes a line that is blank or a comment, and writes its item. It needs no memory.
-    fn write_note<W: Write>(
+    // Returns the item of a line that is answered or has a fault.
+    fn item(
         &mut self,
-        walk: &mut Walk,
-        line: &[u8],
-        writer: &mut Watched<W>,
-    ) -> Result<bool, Stop>
-        requires number { walk.old.number + 1 < 2 ^ 32 }
-        requires nothing { LineOf (is_first walk.old.step) line.now Line.Nothing }
-        ensures ran { WritesItem (W.contents writer.old.inner) (W.contents writer.new.inner)
-            walk.old.number walk.old.step self.old.explainer line.now walk.new.step
-            self.new.explainer result }
-        ensures number { walk.new.number ≡ walk.old.number + 1 }
-        ensures ok { OnOk result (writer.new.failed ≡ writer.old.failed) }
-        ensures write { IsErrOf result Stop.Write → writer.new.failed ≡ true }
+        numbered: &Numbered<'_>,
+        walk: &Walk,
+        line_event: &LineEvent,
+    ) -> Result<Vec<u8>, AllocError>
+        requires full_answer { IsAvailable walk.now line_event.now }
+        requires answered { line_event.now ≢ LineEvent.Nothing }
+        ensures item { IfOk result
+            (λ item. item.items
+            ≡ item_of_event numbered.now.number numbered.now.line.now walk.now.read walk.now line_event.now
+            (explanation_text self.old.explained walk.now.read (events_of_line numbered.now.number walk.now
+            line_event.now) walk.now.step)) }
+        ensures lines { self.new.explained.lines ≡ self.old.explained.lines }
     {
-        let number = walk.number();
-        match self.explainer.line(walk, line) {
-            Ok(_) => {}
-            Err(_) => unreachable!(),
-        }
-        match print_note(writer, number, line) {
-            Ok(()) => Ok(true),
-            Err(_) => Err(Stop::Write),
-        }
-    }
-
-    // Executes a line that was read, and is a statement or has a fault, and writes its item. Returns whether the job continues.
-    fn write_answered<W: Write>(
-        &mut self,
-        alloc: Global,
-        walk: &mut Walk,
-        line: &[u8],
-        writer: &mut Watched<W>,
-    ) -> Result<bool, Stop>
-        requires number { walk.old.number + 1 < 2 ^ 32 }
-        requires read { IsReadAs walk.old.step line.now self.old.read }
-        requires something { LineOf (is_first walk.old.step) line.now Line.Nothing → ⊥ }
-        ensures ran { WritesItem (W.contents writer.old.inner) (W.contents writer.new.inner)
-            walk.old.number walk.old.step self.old.explainer line.now walk.new.step
-            self.new.explainer result }
-        ensures number { walk.new.number ≡ walk.old.number + 1 }
-        ensures ok { OnOk result (writer.new.failed ≡ writer.old.failed) }
-        ensures write { IsErrOf result Stop.Write → writer.new.failed ≡ true }
-    {
-        let numbered = Numbered {
-            number: walk.number(),
-            line,
-        };
-        let Ok(served) = self.serve(alloc, walk, line) else {
-            return Err(Stop::Memory);
-        };
-        let Ok(item) = item_of(
-            alloc,
-            &numbered,
-            &self.read,
+        let served = self.printed(numbered.number, walk, line_event)?;
+        item_of(
+            self.alloc,
+            numbered,
+            walk.read(),
             walk,
             &served,
             &mut self.buffers,
-        ) else {
-            return Err(Stop::Memory);
-        };
-        match write_all(writer, &item) {
-            Ok(()) => Ok(continues(&served.line_event)),
-            Err(_) => Err(Stop::Write),
-        }
+        )
     }
 
-    // Executes a line, and writes its item. Returns whether the job continues.
+    // Writes the item of a line. It needs no memory for a line that is blank or a comment.
     fn write_item<W: Write>(
         &mut self,
-        alloc: Global,
-        walk: &mut Walk,
-        line: &[u8],
         writer: &mut Watched<W>,
-    ) -> Result<bool, Stop>
-        requires { walk.old.number + 1 < 2 ^ 32 }
-        ensures ran { WritesItem (W.contents writer.old.inner) (W.contents writer.new.inner)
-            walk.old.number walk.old.step self.old.explainer line.now walk.new.step
-            self.new.explainer result }
-        ensures number { walk.new.number ≡ walk.old.number + 1 }
+        numbered: &Numbered<'_>,
+        walk: &Walk,
+        line_event: &LineEvent,
+    ) -> Result<(), Stop>
+        requires { IsAvailable walk.now line_event.now }
+        ensures item { WritesItem (W.contents writer.old.inner) (W.contents writer.new.inner) line_event.now
+            (item_of_event numbered.now.number numbered.now.line.now walk.now.read walk.now line_event.now
+            (explanation_text self.old.explained walk.now.read (events_of_line numbered.now.number walk.now
+            line_event.now) walk.now.step)) result }
+        ensures lines { self.new.explained.lines ≡ self.old.explained.lines }
         ensures ok { OnOk result (writer.new.failed ≡ writer.old.failed) }
         ensures write { IsErrOf result Stop.Write → writer.new.failed ≡ true }
     {
-        if is_blank_or_comment(walk, line, &mut self.read) {
-            return self.write_note(walk, line, writer);
+        if let LineEvent::Nothing = line_event {
+            return match print_note(writer, numbered.number, numbered.line) {
+                Ok(()) => Ok(()),
+                Err(_) => Err(Stop::Write),
+            };
         }
-        self.write_answered(alloc, walk, line, writer)
+        let Ok(item) = self.item(numbered, walk, line_event) else {
+            return Err(Stop::Memory);
+        };
+        match write_all(writer, &item) {
+            Ok(()) => Ok(()),
+            Err(_) => Err(Stop::Write),
+        }
     }
-}
-
-// Returns the item at the end of a job that has no more lines.
-fn closing_of(alloc: Global, number: u32, end: Option<bool>) -> Result<Vec<u8>, AllocError>
-    ensures { IfOk result (λ item. item.items ≡ closing_of (closing number end)) }
-{
-    let mut printed = Watched::new(Vec::new(alloc));
-    let Ok(()) = print_closing(&mut printed, number, end) else {
-        return Err(AllocError);
-    };
-    let mut item = Vec::new(alloc);
-    push_reply(&mut item, &written(printed))?;
-    Ok(item)
 }
 
 /// Writes the page of a script: a fixed part, which is given, and an item for each line. The script has at most 16,777,215 bytes.
@@ -236,8 +216,8 @@ pub fn write_page<W: Write>(
     placement: Placement,
 ) -> Result<Outcome, Stop>
     requires { length script.now ≤ most_script_bytes }
-    // What is written is the page of a run of the script, or the beginning of one if the job stops. Memory is exhausted only at a line
-    // that is answered, and at the end of the job.
+    // What is written is the page of a run of the script, or the beginning of one if the job stops. Memory is exhausted only where a run
+    // needs it, and at a line that is answered or has a fault.
     ensures page { WritesPage (W.contents writer.old.inner) (W.contents writer.new.inner)
         frame.now script.now result }
     // The texts of its `<pre>` without a class are the printing of a run.
@@ -251,24 +231,6 @@ pub fn write_page<W: Write>(
         Ok(()) => {}
         Err(_) => return Err(Stop::Write),
     }
-    let mut walk = Walk::new(alloc, placement);
-    let mut maker = PageMaker::new(alloc);
-    let mut at = 0;
-    'lines: while at < script.len() {
-        let rest = &script[at..];
-        let end = line_end(rest);
-        match maker.write_item(alloc, &mut walk, &rest[..end], writer) {
-            Ok(true) => at += end + 1,
-            Ok(false) => return Ok(Outcome::ScriptFault),
-            Err(stop) => return Err(stop),
-        }
-    }
-    let closing = walk.close();
-    let Ok(item) = closing_of(alloc, walk.number(), closing.ended) else {
-        return Err(Stop::Memory);
-    };
-    match write_all(writer, &item) {
-        Ok(()) => Ok(closing.outcome),
-        Err(_) => Err(Stop::Write),
-    }
+    let mut items = PageItems::new(alloc);
+    run_lines(alloc, script, writer, placement, &mut items)
 }
