@@ -1,4 +1,5 @@
 pub mod Plain
+mod Closings
 pub mod Heard
 pub mod Paged
 pub mod Served

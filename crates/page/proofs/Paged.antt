@@ -1,5 +1,5 @@
 -- The items of the entries of a run.
-use Rattle.std.proofs.Common.{◌≡◌, ℕ, ◌+◌, List, [], ◌∷◌, ◌++◌, take, append-nil, codes, decimal, Option, Some, None, Result, Bool, true, false, IfOk, Ok, Err, inl, inr, refl, sym, ap, ◌∙◌, subst, arith}
+use Rattle.std.proofs.Common.{◌≡◌, ◌≤◌, ℕ, ◌+◌, length, List, [], ◌∷◌, ◌++◌, take, append-nil, codes, decimal, Option, Some, None, Result, Bool, true, false, IfOk, Ok, Err, inl, inr, refl, sym, ap, ◌∙◌, subst, arith}
 use Rattle.std.specs.Prelude.{◌≢◌}
 use Rattle.std.proofs.lemmas.Grind.{flat_map-append}
 use Rattle.std.proofs.lemmas.List.{take-take}
@@ -27,13 +27,17 @@ use Rattle.line_text.specs.Writing.{AppendsFront, WritesAll}
 use Rattle.mvs_job.specs.declared.consumer.End.TheVariants as end
 use Rattle.mvs_job.specs.declared.printing.Stop.{Stop}
 use Rattle.mvs_job.specs.declared.printing.Stop.TheVariants as stop
+use Rattle.mvs_job.specs.declared.run.RunFault.{RunFault}
+use Rattle.mvs_job.specs.declared.run.RunFault.TheVariants.{Write}
 use Rattle.mvs_job.specs.declared.walk.LineEvent.{LineEvent}
 use Rattle.mvs_job.specs.declared.walk.LineEvent.TheVariants as line_event
 use Rattle.mvs_job.specs.Consuming.{Accepts, AcceptsLast, IsEnd, IsEntry, IsWritten, LeavesText, WritesText, WrittenAfter, keeps_nothing}
+use Rattle.mvs_job.specs.Exchanging.{Exchanges}
 use Rattle.mvs_job.specs.Explained.{SetsNames, set_by_entries}
 use Rattle.mvs_job.specs.Explaining.{IsExplanationText}
 use Rattle.mvs_job.specs.NamedAddress.{NameOrigins}
 use Rattle.mvs_job.specs.LineEvents.{IsReadIn, WalkValue, closing, ended, events_of_line, full_answer_in}
+use Rattle.mvs_job.specs.Streams.{StopsText}
 use Rattle.mvs_job.specs.Trace.{Closed, Ending, Ends, Entry, Executed, Exhausted, Faulty, IsClosed, IsExecuted, IsFaulty, IsTrace, Kind, Traces, events_of}
 use Rattle.mvs_job.proofs.ExplainedLine.{end_set}
 use Rattle.mvs_job.proofs.Tracing.{traces_are_runs}
@@ -42,7 +46,7 @@ use Rattle.page.specs.Changes.{answer_in, changes_of}
 use Rattle.page.specs.Items.{item_of_event}
 use Rattle.page.specs.Lines.{change_lines}
 use Rattle.page.specs.Markup.{Inside, answer_class, article_tag, class_of, closing_of, escaped, escaped_byte, fault_of, head_of, is_plain, item_of, pre_texts, reply_of, shown_line, tail_of}
-use Rattle.page.specs.Pages.{IsItemOf, IsPage, NeedsMemory, ShowsPrinting, WritesItem, WritesPage, WritesShown, knows_items, paged}
+use Rattle.page.specs.Pages.{IsItemOf, IsPage, IsShown, NeedsMemory, ShowsPrinting, StopsPage, WritesItem, WritesPage, WritesShown, knows_items, paged}
 use Rattle.page.proofs.Plain.{Shows, both_shown, head_shown, none_shown, note_of_shown, plain_shown, reply_shown, tail_shown}
 
 -- ---- the item of an entry
@@ -150,6 +154,22 @@ page_after before mid after frame script how a (items, b, w) = (frame ++ items, 
 pub page_cut : (before after : Option (List ℕ)) (frame script : List ℕ) → AppendsFront before after frame → WritesPage before after frame script (Err stop.Write)
 page_cut before after frame script (front, rest, is, a) = (front, a, inr (refl, (rest, is)))
 
+-- the same of a script that is read
+module _ (unread left before mid after : Option (List ℕ)) (frame : List ℕ) (a : Appends before mid frame) where
+  page_read : (P Q : List ℕ → List ℕ → List ℕ → Type 0) → ((consumed script items : List ℕ) → P consumed script items → Q consumed script (frame ++ items)) → Exchanges unread left mid after P → Exchanges unread left before after Q
+  page_read P Q f (consumed, rest, items, read, is, b, p) = (consumed, rest, frame ++ items, read, is, Appends-trans before mid after frame items a b, f consumed (consumed ++ rest) items p)
+
+  pub page_ended : (outcome : Outcome) → Exchanges unread left mid after (λ consumed script items. (length consumed ≤ 16777215) × WritesText paged script items (Ok outcome)) → Exchanges unread left before after (λ consumed script text. (length consumed ≤ 16777215) × IsPage frame script text (Ok outcome))
+  page_ended outcome h = page_read (λ consumed script items. (length consumed ≤ 16777215) × WritesText paged script items (Ok outcome)) (λ consumed script text. (length consumed ≤ 16777215) × IsPage frame script text (Ok outcome)) (λ consumed script items (few, w). (few, inl (items, refl, w))) h
+
+  pub page_given_up : (fault : RunFault) → Exchanges unread left mid after (λ consumed script items. StopsText paged consumed script items fault) → Exchanges unread left before after (λ consumed script text. StopsPage frame consumed script text fault)
+  page_given_up fault h = page_read (λ consumed script items. StopsText paged consumed script items fault) (λ consumed script text. StopsPage frame consumed script text fault) (λ consumed script items w. inl (items, refl, w)) h
+
+-- nothing was read before a write of the fixed part failed
+pub page_unread : (unread before after : Option (List ℕ)) (frame : List ℕ) → AppendsFront before after frame → Exchanges unread unread before after (λ consumed script text. StopsPage frame consumed script text Write)
+page_unread None before after frame (front, rest, is, a) = ([], [], front, tt, tt, a, inr (refl, refl, (rest, is)))
+page_unread (Some xs) before after frame (front, rest, is, a) = ([], xs, front, refl, refl, a, inr (refl, refl, (rest, is)))
+
 -- ---- what a reader sees
 
 class_plain : (a : Answer) → is_plain (answer_class a) ≡ true
@@ -252,6 +272,11 @@ shows_printing script items outcome w =
 shows : (start after : Option (List ℕ)) (frame script : List ℕ) (outcome : Outcome) → WritesPage start after frame script (Ok outcome) → WritesShown start after frame script outcome
 shows start after frame script outcome (text, a, inl (items, e, w)) = (items, subst (Appends start after) e a, shows_printing script items outcome w)
 shows start after frame script outcome (text, a, inr (e, rest)) = absurd (let f : ◌≡◌ {A = Result Outcome Stop} (Ok outcome) (Err stop.Write) = e in cc)
+
+-- the same of a script that is read
+pub read_shows : (unread left before after : Option (List ℕ)) (frame : List ℕ) (outcome : Outcome) → Exchanges unread left before after (λ consumed script text. (length consumed ≤ 16777215) × IsPage frame script text (Ok outcome)) → Exchanges unread left before after (λ consumed script text. IsShown frame script text outcome)
+read_shows unread left before after frame outcome (consumed, rest, text, read, is, b, (few, inl (items, e, w))) = (consumed, rest, text, read, is, b, (items, e, shows_printing (consumed ++ rest) items outcome w))
+read_shows unread left before after frame outcome (consumed, rest, text, read, is, b, (few, inr (e, more))) = absurd (let f : ◌≡◌ {A = Result Outcome Stop} (Ok outcome) (Err stop.Write) = e in cc)
 
 pub page_shows : (start after : Option (List ℕ)) (frame script : List ℕ) (how : Result Outcome Stop) → WritesPage start after frame script how → IfOk how (WritesShown start after frame script)
 page_shows start after frame script (Ok outcome) w = shows start after frame script outcome w

@@ -9,12 +9,15 @@ use Rattle.mvs_model.specs.Runs.{IsRun}
 use Rattle.mvs_model.specs.Texts.{printing}
 use Rattle.mvs_job.specs.declared.printing.Stop.{Stop}
 use Rattle.mvs_job.specs.declared.printing.Stop.TheVariants as stop
+use Rattle.mvs_job.specs.declared.run.RunFault.{RunFault}
+use Rattle.mvs_job.specs.declared.run.RunFault.TheVariants.{Write}
 use Rattle.mvs_job.specs.declared.walk.LineEvent.{LineEvent}
 use Rattle.mvs_job.specs.declared.walk.LineEvent.TheVariants as line_event
 use Rattle.mvs_job.specs.Consuming.{Known, Piece, WritesText}
 use Rattle.mvs_job.specs.Explained.{set_by_entries}
 use Rattle.mvs_job.specs.Explaining.{IsExplanationText}
 use Rattle.mvs_job.specs.NamedAddress.{NameOrigins}
+use Rattle.mvs_job.specs.Streams.{StopsText}
 use Rattle.mvs_job.specs.Trace.{Closed, Entry, Executed, Exhausted, Faulty, Kind}
 use Rattle.page.specs.declared.pages.PageItems.{PageItems}
 use Rattle.page.specs.Markup.{Inside, closing_of, escaped, fault_of, item_of, pre_texts}
@@ -58,6 +61,17 @@ pub record ShowsPrinting (script items : List ℕ) (outcome : Outcome) : Type 0 
 -- the text between two moments of a writer is the fixed part and such items
 abbrev pub WritesShown : Option (List ℕ) → Option (List ℕ) → List ℕ → List ℕ → Outcome → Type 0
 WritesShown before after frame script outcome = (items : List ℕ) × Appends before after (frame ++ items) × ShowsPrinting script items outcome
+
+-- The text is the fixed part and such items.
+abbrev pub IsShown : List ℕ → List ℕ → List ℕ → Outcome → Type 0
+IsShown frame script text outcome = (items : List ℕ) × (text ≡ frame ++ items) × ShowsPrinting script items outcome
+
+-- The text is that of a page when the job stopped for a fault, where these bytes of the script were consumed: the fixed part, and what is
+-- written for the first entries of a run; or a front of the fixed part, if a write fails before the first read.
+abbrev pub StopsPage : List ℕ → List ℕ → List ℕ → List ℕ → RunFault → Type 0
+StopsPage frame consumed script text fault =
+    ((items : List ℕ) × (text ≡ frame ++ items) × StopsText paged consumed script items fault)
+    ⊎ ((fault ≡ Write) × (consumed ≡ []) × ((rest : List ℕ) × (frame ≡ text ++ rest)))
 
 -- ---- what calls do
 

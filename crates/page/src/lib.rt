@@ -10,7 +10,7 @@ mod markup;
 mod pages;
 
 pub use frame::FRAME;
-pub use pages::{PageItems, write_page};
+pub use pages::{PageItems, write_page, write_page_from};
 
 /// The line after which the items of a second run follow, which the page compares with the first.
 pub const SECOND_RUN: &str = "<hr id=\"with\">\n";

@@ -1,20 +1,23 @@
 //! Writes the page of a script.
 
-ghost use Rattle.std.specs.Prelude.{◌≡◌, ◌≢◌, ◌≤◌, length, true, IfOk, OnOk, IsErrOf};
+ghost use Rattle.std.specs.Prelude.{◌≡◌, ◌≢◌, ◌≤◌, Ok, false, length, true, IfErr, IfOk, OnOk, IsErrOf};
 ghost use Rattle.mvs_model.specs.Numbers.{most_script_bytes};
 ghost use Rattle.mvs_model.specs.Texts.{printing};
+ghost use Rattle.mvs_job.specs.Exchanging.{Exchanges};
 ghost use Rattle.mvs_job.specs.Explaining.{explanation_text};
 ghost use Rattle.mvs_job.specs.Looking.{IsLooking, KeepsExplained};
 ghost use Rattle.mvs_job.specs.NamedAddress.{no_lines};
 ghost use Rattle.mvs_job.specs.LineEvents.{IsAvailable, events_of_line};
 ghost use Rattle.page.specs.Items.{item_of_event};
-ghost use Rattle.page.specs.Pages.{WritesItem, WritesPage, WritesShown, knows_items, paged};
+ghost use Rattle.page.specs.Pages.{IsPage, IsShown, StopsPage, WritesItem, WritesPage, WritesShown, knows_items, paged};
 
 use crate::changes::ChangeBuffers;
 use crate::item::{Numbered, PrintedLine, item_of};
 use crate::markup::{print_end, print_note};
 use line_text::write_all;
-use mvs_job::{Consumer, End, Explained, Job, LineEvent, Observer, Stop, Walk, print_line, run_lines};
+use mvs_job::{
+    AddressHints, Consumer, End, Explained, Job, LineEvent, Observer, RunFault, Source, Stop, Walk, print_line, run_lines, run_source,
+};
 use mvs_model::name::Name;
 use mvs_model::outcome::Outcome;
 use mvs_model::reason::Shortfall;
@@ -233,4 +236,47 @@ pub fn write_page<W: Write>(
     }
     let mut items = PageItems::new(alloc);
     run_lines(alloc, script, writer, placement, &mut items)
+}
+
+/// Writes the page of a script that comes from a source: a fixed part, which is given, and the item of each line before the next one is
+/// read. It reads at most 16,777,215 bytes, and one more to see that there are too many.
+pub fn write_page_from<S: Source, W: Write>(
+    alloc: Global,
+    frame: &[u8],
+    reader: &mut S,
+    writer: &mut Watched<W>,
+    placement: Placement,
+) -> Result<Outcome, RunFault>
+    requires reader { S.failed reader.old ≡ false }
+    requires writer { writer.old.failed ≡ false }
+    // What is written is the page of a run of the script: of what was consumed and what the reader has left.
+    ensures page { IfOk result
+        (λ outcome. Exchanges (S.left reader.old) (S.left reader.new)
+        (W.contents writer.old.inner) (W.contents writer.new.inner)
+        (λ consumed script text. (length consumed ≤ most_script_bytes)
+        × IsPage frame.now script text (Ok outcome))) }
+    // The texts of its `<pre>` without a class are the printing of a run.
+    ensures shown { IfOk result
+        (λ outcome. Exchanges (S.left reader.old) (S.left reader.new)
+        (W.contents writer.old.inner) (W.contents writer.new.inner)
+        (λ consumed script text. IsShown frame.now script text outcome)) }
+    // Otherwise it is the beginning of such a page; if memory is exhausted, it ends with a whole item.
+    ensures fault { IfErr result
+        (λ fault. Exchanges (S.left reader.old) (S.left reader.new)
+        (W.contents writer.old.inner) (W.contents writer.new.inner)
+        (λ consumed script text. StopsPage frame.now consumed script text fault)) }
+    // All was read, or the script has a fault.
+    ensures end { IfOk result
+        (λ outcome. outcome ≢ Outcome.ScriptFault → S.is_at_end reader.new) }
+    ensures healthy { OnOk result ((S.failed reader.new ≡ false) × (writer.new.failed ≡ false)) }
+    ensures read { IsErrOf result RunFault.Read → S.failed reader.new ≡ true }
+    ensures write { IsErrOf result RunFault.Write → writer.new.failed ≡ true }
+{
+    match write_all(writer, frame) {
+        Ok(()) => {}
+        Err(_) => return Err(RunFault::Write),
+    }
+    let hints = AddressHints::nothing(alloc);
+    let mut items = PageItems::new(alloc);
+    run_source(alloc, reader, writer, placement, hints, &mut items)
 }

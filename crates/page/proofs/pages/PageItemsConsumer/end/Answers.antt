@@ -7,4 +7,4 @@ returns-in-Closed-clause-accepted g c first =
 
 pub returns-in-Exhausted-clause-accepted : goal.returns-in-Exhausted-clause-accepted
 returns-in-Exhausted-clause-accepted g c first =
-    rw (c.in-Exhausted.is) (λ history e is in_step follows known. accepts_exhausted _ first c.args.self.now history e c.args.line_number c.in-Exhausted.field-0 tt is known)
+    rw (c.in-Exhausted.is) (λ history e is in_step follows known. accepts_exhausted _ first c.args.self.now history e {X = Unit {0}} c.args.line_number c.in-Exhausted.field-0 tt is known)
