@@ -22,6 +22,11 @@ module _ (left unread more before after : Option (List ℕ)) (same : left ≡ un
   written_by P (Ok outcome) h = subst (λ l. Writes l before after (P outcome)) same (writes_of left more before after (λ read script written. (length read ≤ 16777215) × P outcome script written) (P outcome) (λ read script written h. h.1) h)
   written_by P (Err fault) h = tt
 
+  -- the same of what holds of the whole script
+  pub written_whole : (P : Outcome → List ℕ → List ℕ → Type 0) (r : Result Outcome RunFault) → IfOk r (λ outcome. Exchanges left more before after (λ read script written. P outcome script written)) → IfOk r (λ outcome. Writes unread before after (P outcome))
+  written_whole P (Ok outcome) h = subst (λ l. Writes l before after (P outcome)) same (writes_of left more before after (λ read script written. P outcome script written) (P outcome) (λ read script written h. h) h)
+  written_whole P (Err fault) h = tt
+
   pub written_ok : (r : Result Outcome RunFault) → IfOk r (λ outcome. Exchanges left more before after (λ read script written. (length read ≤ 16777215) × IsPrinting script written outcome))
       → IfOk r (λ outcome. Writes unread before after (λ script written. IsPrinting script written outcome))
   written_ok r h = written_by (λ outcome script written. IsPrinting script written outcome) r h

@@ -22,7 +22,6 @@ use Rattle.mvs_job.specs.Trace.{Entry, events_of}
 use Rattle.mvs_job.specs.Streams.{PrintedUpTo}
 use Rattle.reference.specs.Texts.{IsAbout}
 use Rattle.mvs_job.specs.Strict.{ObservesFront, PrintsStrictly, RunsObserved, Skipped, is_of_served}
-use Rattle.page.specs.Pages.{WritesPage, WritesShown}
 use Rattle.mvsjob.specs.declared.ending.ExitReason.TheVariants.{Ran, Printed, Judged}
 use Rattle.mvsjob.specs.declared.ending.CliError.{CliError}
 use Rattle.mvsjob.specs.declared.ending.CliError.TheVariants.{Job}
@@ -38,24 +37,6 @@ IsFaultOf script ScriptFault None = ⊥
 IsFaultOf script ScriptFault (Some faulty) =
     ((events : List Event) → IsRun script events ScriptFault → EndsAt faulty.number faulty.fault events) × IsLineOf 1 (lines_of script) faulty.number faulty.line.now
 IsFaultOf script outcome faulty = faulty ≡ None
-
--- A mode ends as the call that it made: with the outcome, and the line to report, or as the call stopped.
-abbrev pub EndsAs : List ℕ → Result Outcome Stop → Result ModeResult CliError → Type 0
-EndsAs script (Ok outcome) (Ok served) = (served.ending ≡ Ran outcome) × IsFaultOf script outcome served.faulty
-EndsAs script (Err stop) (Err why) = why ≡ gave_up stop
-EndsAs script _ _ = ⊥
-
--- Its run is written as a page with a fixed part.
-abbrev pub Pages : Option (List ℕ) → Option (List ℕ) → List ℕ → List ℕ → Result ModeResult CliError → Type 0
-Pages before after frame script result = (ended : Result Outcome Stop) × WritesPage before after frame script ended × EndsAs script ended result
-
--- The run is written as a page, and then, unless that stops, the run of another script after a line; it ends as the first run.
-abbrev pub PagesBoth : Option (List ℕ) → Option (List ℕ) → List ℕ → List ℕ → List ℕ → List ℕ → Result ModeResult CliError → Type 0
-PagesBoth before after frame line script other (Ok served) =
-    (mid : Option (List ℕ)) × (second : ModeResult) × Pages before mid frame script (Ok served) × Pages mid after line other (Ok second)
-PagesBoth before after frame line script other (Err why) =
-    Pages before after frame script (Err why)
-    ⊎ ((mid : Option (List ℕ)) × (first : ModeResult) × Pages before mid frame script (Ok first) × Pages mid after line other (Err why))
 
 -- Its run is printed, and an observer is called for exactly the lines that were not executed, or if the run stops for those among
 -- the first lines.

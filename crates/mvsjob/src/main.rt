@@ -1,9 +1,8 @@
 //! Simulates the virtual storage services that an unauthorized program of MVS uses in its own region.
 #![tactic(auto)]
 
-ghost use Rattle.std.specs.Prelude.{◌≡◌, ◌≤◌, false, length, IfOk, IfSome};
+ghost use Rattle.std.specs.Prelude.{◌≡◌, false, IfOk};
 ghost use Rattle.std.specs.Process.{exit_status};
-ghost use Rattle.mvs_model.specs.Numbers.{most_script_bytes};
 ghost use Rattle.mvsjob.specs.Endings.{status_of};
 
 mod answers;
@@ -22,6 +21,7 @@ mod kept_memory;
 mod opened;
 mod options;
 mod page_file;
+mod pages;
 mod piped;
 mod queries;
 mod recorder;
@@ -40,13 +40,12 @@ use ending::{Cause, CliError, ExitReason};
 use event_json::EventLines;
 use faulty::FaultyLine;
 use kept_memory::keep_freed_memory;
-use line_text::write_all;
 use mvs_job::{Explained, RunFault};
 use mvs_model::outcome::Outcome;
 use mvs_model::watched::Watched;
 use opened::OpenReader;
 use options::{Apart, Mode, RunOutput, Settings};
-use page_file::new_page_file;
+use pages::write_page_of;
 use piped::Piped;
 use recorder::LineRecorder;
 use script::{read_output, read_script};
@@ -104,10 +103,10 @@ fn finish_output(
 }
 
 // Passes on how a job ended, or why a read of it failed, and reports the line that ended it, if one did.
-pub(crate) fn passed_on(
+pub(crate) fn passed_on<W: Write>(
     rt: &HostRuntime,
     settings: &Settings<'_>,
-    writer: &mut Watched<Output<'_>>,
+    writer: &mut Watched<W>,
     ended: Result<Outcome, RunFault>,
     read_failure: CliError,
     faulty: &FaultyLine<'_>,
@@ -165,28 +164,6 @@ fn run_lines<R: Read + Drop>(
     )
 }
 
-// Writes the page of a script to a new file, and prints the name of the file.
-fn write_page_file(
-    rt: &HostRuntime,
-    settings: &Settings<'_>,
-    script: &[u8],
-    other: &[u8],
-    writer: &mut Watched<Output<'_>>,
-) -> Result<ExitReason, CliError>
-    requires script { length script.now ≤ most_script_bytes }
-    requires other { IfSome settings.now.second (λ _. length other.now ≤ most_script_bytes) }
-{
-    let page = new_page_file(rt)?;
-    let mut file = Watched::new(page.file);
-    let mut teller = Teller::new(rt, settings.file, script);
-    let served = serve_script(rt.alloc(), settings, script, other, &mut file, &mut teller)?;
-    let name = page.name.as_bytes();
-    if write_all(writer, name).is_err() || write_all(writer, b"\n").is_err() {
-        return Err(CliError::Job(RunFault::Write));
-    }
-    Ok(served.ending)
-}
-
 // Serves the script that a reader has.
 fn serve_reader<R: Read + Drop>(
     rt: &HostRuntime,
@@ -196,6 +173,9 @@ fn serve_reader<R: Read + Drop>(
 ) -> Result<ExitReason, CliError>
     requires { writer.old.failed ≡ false }
 {
+    if settings.mode == Mode::Run && settings.output.is_page() {
+        return write_page_of(rt, reader, settings, writer);
+    }
     if settings.is_as_it_comes() && is_at_terminal(rt, settings) {
         return run_at_terminal(rt, OpenReader::new(reader), settings, writer);
     }
@@ -203,12 +183,9 @@ fn serve_reader<R: Read + Drop>(
         return run_lines(rt, OpenReader::new(reader), settings, writer);
     }
     let script = read_script(rt.alloc(), reader)?;
-    let other = other_file(rt, settings)?;
-    if settings.output == RunOutput::PageFile {
-        return write_page_file(rt, settings, &script, &other, writer);
-    }
+    let output = judged_output(rt, settings)?;
     let mut teller = Teller::new(rt, settings.file, &script);
-    let served = serve_script(rt.alloc(), settings, &script, &other, writer, &mut teller)?;
+    let served = serve_script(rt.alloc(), settings, &script, &output, writer, &mut teller)?;
     if let Some(faulty) = &served.faulty {
         if writer.flush().is_err() {
             return Err(CliError::Job(RunFault::Write));
@@ -218,29 +195,8 @@ fn serve_reader<R: Read + Drop>(
     Ok(served.ending)
 }
 
-// Reads the script of a second run.
-fn second_script(rt: &HostRuntime, file: &str) -> Result<Vec<u8>, CliError>
-    ensures { IfOk result (λ script. length script.items ≤ most_script_bytes) }
-{
-    let script = match File::open(rt, file) {
-        Ok(script) => script,
-        Err(error) => return Err(CliError::Second(Cause::from(error.kind()))),
-    };
-    match read_script(rt.alloc(), script) {
-        Ok(script) => Ok(script),
-        Err(CliError::Script(cause)) => Err(CliError::Second(cause)),
-        Err(why) => Err(why),
-    }
-}
-
-// Reads the other file: the script of a second run, or the output that is judged. There is none without `--with` and `--judge`.
-fn other_file(rt: &HostRuntime, settings: &Settings<'_>) -> Result<Vec<u8>, CliError>
-    ensures { IfOk result
-        (λ other. IfSome settings.now.second (λ _. length other.items ≤ most_script_bytes)) }
-{
-    if let Some(second) = settings.second {
-        return second_script(rt, second);
-    }
+// Reads the output that is judged; it is empty without `--judge`.
+fn judged_output(rt: &HostRuntime, settings: &Settings<'_>) -> Result<Vec<u8>, CliError> {
     if settings.mode != Mode::Judge {
         return Ok(Vec::new(rt.alloc()));
     }

@@ -14,7 +14,7 @@ ghost use Rattle.mvsjob.specs.declared.options.Recipe.{Recipe};
 ghost use Rattle.mvsjob.specs.Checking.{Checks};
 ghost use Rattle.mvsjob.specs.CommandLine.{is_page};
 ghost use Rattle.mvsjob.specs.Endings.{strict_ending};
-ghost use Rattle.mvsjob.specs.ModeResult.{Asks, Blanks, ConsumesStrictly, EndsAtFault, HasNoForeign, IsFaultOf, IsPrinted, Judges, Pages, PagesBoth, ReportsLeaks, RunsStrictly, WritesAbout, WritesText};
+ghost use Rattle.mvsjob.specs.ModeResult.{Asks, Blanks, ConsumesStrictly, EndsAtFault, HasNoForeign, IsFaultOf, IsPrinted, Judges, ReportsLeaks, RunsStrictly, WritesAbout, WritesText};
 ghost use Rattle.reference.specs.Texts.{IsRule, names, rule_name};
 
 use crate::answers::{check_answers, write_blanks, write_questions};
@@ -36,7 +36,6 @@ use mvs_job::{
 use mvs_model::outcome::Outcome;
 use mvs_model::want::Placement;
 use mvs_model::watched::Watched;
-use page::{FRAME, SECOND_RUN, write_page};
 use random_script::{RandomFault, write_script};
 use reference::{code, rule};
 use std::alloc::Global;
@@ -91,67 +90,6 @@ pub fn fault_of(script: &[u8], outcome: Outcome) -> Option<FaultyLine<'_>>
     match outcome {
         Outcome::Clean | Outcome::SomeAbend => None,
         Outcome::ScriptFault => Some(faulty_in(script)),
-    }
-}
-
-// Writes a run as a page with a fixed part.
-fn page<'a, W: Write>(
-    alloc: Global,
-    frame: &str,
-    script: &'a [u8],
-    writer: &mut Watched<W>,
-    placement: Placement,
-) -> Result<ModeResult<'a>, CliError>
-    requires { length script.now ≤ most_script_bytes }
-    ensures { Pages (W.contents writer.old.inner) (W.contents writer.new.inner) frame.now
-        script.now result }
-{
-    match write_page(alloc, frame.as_bytes(), script, writer, placement) {
-        Ok(outcome) => Ok(ModeResult {
-            ending: ExitReason::Ran(outcome),
-            faulty: fault_of(script, outcome),
-        }),
-        Err(stop) => Err(CliError::of(stop)),
-    }
-}
-
-// Returns where the areas of a second run are placed: at the other end, if its script is that of the first run.
-fn second_placement(settings: &Settings<'_>, second: &str) -> Placement {
-    match settings.placement {
-        Placement::Low if second == settings.file => Placement::High,
-        Placement::High if second == settings.file => Placement::Low,
-        placement => placement,
-    }
-}
-
-// Writes a run as a page, and if there is a second one, that after it.
-fn pages<'a, W: Write>(
-    alloc: Global,
-    settings: &Settings<'_>,
-    script: &'a [u8],
-    other: &[u8],
-    writer: &mut Watched<W>,
-) -> Result<ModeResult<'a>, CliError>
-    requires script { length script.now ≤ most_script_bytes }
-    requires other { IfSome settings.now.second (λ _. length other.now ≤ most_script_bytes) }
-    ensures one { settings.now.second ≡ None
-        → Pages (W.contents writer.old.inner) (W.contents writer.new.inner) FRAME.now script.now
-        result }
-    ensures both { IsSome settings.now.second
-        → PagesBoth (W.contents writer.old.inner) (W.contents writer.new.inner) FRAME.now
-        SECOND_RUN.now script.now other.now result }
-{
-    let first = match page(alloc, FRAME, script, writer, settings.placement) {
-        Ok(first) => first,
-        Err(why) => return Err(why),
-    };
-    let Some(second) = settings.second else {
-        return Ok(first);
-    };
-    let placement = second_placement(settings, second);
-    match page(alloc, SECOND_RUN, other, writer, placement) {
-        Ok(_) => Ok(first),
-        Err(why) => Err(why),
     }
 }
 
@@ -409,12 +347,11 @@ fn run<'a, W: Write, H: SkipObserver>(
     alloc: Global,
     settings: &Settings<'_>,
     script: &'a [u8],
-    other: &[u8],
     writer: &mut Watched<W>,
     hearer: &mut H,
 ) -> Result<ModeResult<'a>, CliError>
     requires script { length script.now ≤ most_script_bytes }
-    requires other { IfSome settings.now.second (λ _. length other.now ≤ most_script_bytes) }
+    requires page { is_page settings.now.output ≡ false }
     ensures json { settings.now.output ≡ RunOutput.Json → settings.now.leaks ≡ false
         → settings.now.explains ≡ false
         → ConsumesStrictly event_lines (W.contents writer.old.inner) (W.contents writer.new.inner)
@@ -423,14 +360,6 @@ fn run<'a, W: Write, H: SkipObserver>(
         → IsTrue settings.now.explains
         → ConsumesStrictly (with_history json_findings event_lines) (W.contents writer.old.inner) (W.contents writer.new.inner)
         (H.heard hearer.old) (H.heard hearer.new) script.now result }
-    ensures page { IsTrue (is_page settings.now.output)
-        → settings.now.second ≡ None
-        → Pages (W.contents writer.old.inner) (W.contents writer.new.inner) FRAME.now script.now
-        result }
-    ensures pages { IsTrue (is_page settings.now.output)
-        → IsSome settings.now.second
-        → PagesBoth (W.contents writer.old.inner) (W.contents writer.new.inner) FRAME.now
-        SECOND_RUN.now script.now other.now result }
     ensures json_leaks { settings.now.output ≡ RunOutput.Json → IsTrue settings.now.leaks
         → settings.now.explains ≡ false
         → ReportsLeaks json_report settings.now.strict event_lines (W.contents writer.old.inner)
@@ -458,7 +387,7 @@ fn run<'a, W: Write, H: SkipObserver>(
 {
     let placement = settings.placement;
     match settings.output {
-        RunOutput::Page | RunOutput::PageFile => pages(alloc, settings, script, other, writer),
+        RunOutput::Page | RunOutput::PageFile => unreachable!(),
         RunOutput::Replies | RunOutput::Json if settings.leaks => {
             run_with_leaks(alloc, settings, script, writer, hearer)
         }
@@ -472,8 +401,8 @@ fn run<'a, W: Write, H: SkipObserver>(
     }
 }
 
-/// Serves a script that was read whole, and with it another file, as the settings have it: the output that is judged, or the script
-/// of a second run.
+/// Serves a script that was read whole, and with it the output that is judged, as the settings have it. A run of which a page is
+/// written is not among the modes: its script is not read whole.
 pub fn serve_script<'a, W: Write, H: SkipObserver>(
     alloc: Global,
     settings: &Settings<'_>,
@@ -483,13 +412,7 @@ pub fn serve_script<'a, W: Write, H: SkipObserver>(
     hearer: &mut H,
 ) -> Result<ModeResult<'a>, CliError>
     requires script { length script.now ≤ most_script_bytes }
-    requires other { IfSome settings.now.second (λ _. length other.now ≤ most_script_bytes) }
-    ensures page { settings.now.mode ≡ Mode.Run → IsTrue (is_page settings.now.output) → settings.now.second ≡ None
-        → Pages (W.contents writer.old.inner) (W.contents writer.new.inner) FRAME.now script.now
-        result }
-    ensures pages { settings.now.mode ≡ Mode.Run → IsTrue (is_page settings.now.output) → IsSome settings.now.second
-        → PagesBoth (W.contents writer.old.inner) (W.contents writer.new.inner) FRAME.now
-        SECOND_RUN.now script.now other.now result }
+    requires page { settings.now.mode ≡ Mode.Run → is_page settings.now.output ≡ false }
     ensures json_leaks { settings.now.mode ≡ Mode.Run → settings.now.output ≡ RunOutput.Json
         → IsTrue settings.now.leaks → settings.now.explains ≡ false
         → ReportsLeaks json_report settings.now.strict event_lines (W.contents writer.old.inner)
@@ -539,7 +462,7 @@ pub fn serve_script<'a, W: Write, H: SkipObserver>(
         result }
 {
     match settings.mode {
-        Mode::Run => run(alloc, settings, script, other, writer, hearer),
+        Mode::Run => run(alloc, settings, script, writer, hearer),
         Mode::Check => check_answers(alloc, settings, script, writer),
         Mode::Judge => judge_output(alloc, script, other, writer),
         Mode::Blank => write_blanks(script, writer),
