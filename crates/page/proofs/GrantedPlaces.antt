@@ -1,5 +1,5 @@
 -- The places whose bytes may be read, by the test and byte by byte.
-use Rattle.std.proofs.Common.{◌≡◌, ◌+◌, ◌-◌, Bool, true, false, ap, ◌∙◌, arith}
+use Rattle.std.proofs.Common.{◌≡◌, ◌+◌, ◌-◌, true, false, ap, ◌∙◌, arith}
 use Rattle.std.proofs.lemmas.Bool.{false_from_ne_true}
 use Rattle.mvs_model.specs.Changes.{Granted}
 use Rattle.mvs_model.specs.Place.{PlaceValue}

@@ -5,7 +5,6 @@ use Rattle.std.proofs.lemmas.Grind.{flat_map-append}
 use Rattle.std.proofs.lemmas.List.{take-take}
 use Rattle.std.specs.Io.KnownBytes.{Appends}
 use Rattle.std.proofs.KnownBytes.{Appends-nil, Appends-trans}
-use Rattle.mvs_model.specs.declared.line.Fault.{Fault}
 use Rattle.mvs_model.specs.declared.line.Line.{Line}
 use Rattle.mvs_model.specs.declared.line.Line.TheVariants as line
 use Rattle.mvs_model.specs.declared.name.Name.{Name}
@@ -31,14 +30,14 @@ use Rattle.mvs_job.specs.declared.run.RunFault.{RunFault}
 use Rattle.mvs_job.specs.declared.run.RunFault.TheVariants.{Write}
 use Rattle.mvs_job.specs.declared.walk.LineEvent.{LineEvent}
 use Rattle.mvs_job.specs.declared.walk.LineEvent.TheVariants as line_event
-use Rattle.mvs_job.specs.Consuming.{Accepts, AcceptsLast, IsEnd, IsEntry, IsWritten, LeavesText, WritesText, WrittenAfter, keeps_nothing}
+use Rattle.mvs_job.specs.Consuming.{Accepts, AcceptsLast, IsEnd, IsEntry, LeavesText, WritesText, WrittenAfter}
 use Rattle.mvs_job.specs.Exchanging.{Exchanges}
 use Rattle.mvs_job.specs.Explained.{SetsNames, set_by_entries}
 use Rattle.mvs_job.specs.Explaining.{IsExplanationText}
 use Rattle.mvs_job.specs.NamedAddress.{NameOrigins}
 use Rattle.mvs_job.specs.LineEvents.{IsReadIn, WalkValue, closing, ended, events_of_line, full_answer_in}
 use Rattle.mvs_job.specs.Streams.{StopsText}
-use Rattle.mvs_job.specs.Trace.{Closed, Ending, Ends, Entry, Executed, Exhausted, Faulty, IsClosed, IsExecuted, IsFaulty, IsTrace, Kind, Traces, events_of}
+use Rattle.mvs_job.specs.Trace.{Closed, Ends, Entry, Executed, Exhausted, Faulty, IsClosed, IsExecuted, IsFaulty, Kind, Traces, events_of}
 use Rattle.mvs_job.proofs.ExplainedLine.{end_set}
 use Rattle.mvs_job.proofs.Tracing.{traces_are_runs}
 use Rattle.page.specs.declared.pages.PageItems.{PageItems}
