@@ -16,7 +16,8 @@ use crate::item::{Numbered, PrintedLine, item_of};
 use crate::markup::{print_end, print_note};
 use line_text::write_all;
 use mvs_job::{
-    AddressHints, Consumer, End, Explained, Job, LineEvent, Observer, RunFault, Source, Stop, Walk, print_line, run_lines, run_source,
+    AddressHints, Consumer, End, Explained, Job, LineEvent, Observer, RunFault, Source, Stop, Walk,
+    print_line, run_lines, run_source,
 };
 use mvs_model::name::Name;
 use mvs_model::outcome::Outcome;
