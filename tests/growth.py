@@ -1,7 +1,7 @@
 """How the cost of a line grows with each dimension of a script, in each view: counts of instructions, which a busy machine does not change.
 
 `bench/measure growth` prints the figures. What grows is in KNOWN. With `--long` there are more dimensions, and what is known to grow must still do so.
-The scripts of bench/measure must have the bytes for which figures were published.
+The scripts of bench/measure must have the bytes for which figures were published. No view keeps a script in memory.
 """
 
 import hashlib
@@ -14,6 +14,7 @@ from cases import IS_LONG, Lacking, each, whole
 sys.path.insert(0, str(Path(__file__).resolve().parent.parent / "bench"))
 from counting import has_valgrind  # noqa: E402
 from dimensions import DIMENSIONS, EXTRA, costs  # noqa: E402
+from memory import LONGEST, peak  # noqa: E402
 from scripts import SCRIPTS  # noqa: E402
 from views import PLAIN, PRINTING  # noqa: E402
 
@@ -26,6 +27,8 @@ KNOWN = {
     # A shortage looks at all areas of the step, for those who have the storage.
     "areas, at shortages": ("--explain", "--json --explain"),
 }
+# The most memory of a run of the longest script, in bytes: no view keeps the script.
+MOST_MEMORY = 4_000_000
 # The SHA-256 of the scripts of bench/measure, one after the other.
 BYTES = "b779719ddbf4348497633221a43ab999ef0a9d5391de3489afd2a6be3288a2f9"
 
@@ -49,8 +52,14 @@ def same_bytes():
     yield "bytes", hashlib.sha256(scripts).hexdigest() == BYTES
 
 
+def fits(program, view):
+    """Whether a run of the longest script needs little memory in a view."""
+    return peak(program, LONGEST, *(() if view == PLAIN else view.split())) <= MOST_MEMORY
+
+
 def groups(program):
     dimensions = [name for name in DIMENSIONS if IS_LONG or name not in EXTRA]
     cases = [(dimension, view) for view in PRINTING for dimension in dimensions]
     yield "growth", each(partial(holds, program), cases, "; ".join, chunksize=len(dimensions))
     yield "scripts of bench/measure", whole(same_bytes)
+    yield "memory", each(partial(fits, program), PRINTING, str)
