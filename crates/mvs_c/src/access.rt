@@ -139,10 +139,11 @@ pub fn read(held: &Open, address: u32, out: &mut [u8]) -> u32
 pub fn write(held: &mut Open, address: u32, bytes: &[u8]) -> u32
     ensures { AnswersWrite held.old address bytes.now held.new result }
 {
-    if !held.keeps_bytes() {
-        return NO_BYTES;
+    if held.keeps_bytes() {
+        write_bytes(held, address, bytes)
+    } else {
+        NO_BYTES
     }
-    write_bytes(held, address, bytes)
 }
 
 /// Copies the name of one of the tasks that ended with the one that abended last.
