@@ -1,6 +1,6 @@
 //! The functions that C calls. A handle is taken apart for the time of a call.
 
-ghost use Rattle.std.specs.Prelude.{◌≡◌, ◌≢◌, ◌⊎◌, ◌↔◌, ◌≤◌, ◌<◌, [], List, Bool, Some, None, Option, slice_get, true, false, IfSome, IsSome, MatchBool, MatchOption};
+ghost use Rattle.std.specs.Prelude.{◌≡◌, ◌≢◌, ◌⊎◌, ◌↔◌, ◌≤◌, ◌<◌, [], List, Bool, Some, None, Option, slice_get, true, false, IfSome, IsSome};
 ghost use Rattle.mvs_model.specs.FullAnswers.{ended_with_in};
 ghost use Rattle.mvs_model.specs.declared.report.MapRun.{MapRun};
 ghost use Rattle.mvs_c.specs.Access.{AnswersRead, AnswersSubpool, AnswersWrite, FindsRun, ReturnsOne, run_bytes, run_value, subpool_bytes};
@@ -23,7 +23,7 @@ ghost use Rattle.mvs_c.specs.Exports.{AnswersValues, AnswersEnd, AnswersLine, An
 use crate::access::{self, RunFields, Subpool};
 use crate::ask::{RawRequest, RequestKind, name_of};
 use crate::buffer::hand_over;
-use crate::byte_use::uses_bytes;
+use crate::byte_use::{new_place, uses_bytes};
 use crate::event::{Event, end_event, event_of_line, fault_event, refused_event, requested_event};
 use crate::field::RequestField;
 use crate::handle::Handle;
@@ -82,20 +82,6 @@ pub fn placement(number: u32) -> Option<Placement>
     match number {
         1 => Some(Placement::Low),
         2 => Some(Placement::High),
-        _ => None,
-    }
-}
-
-// Returns the placement of the number of a new session, and whether that has bytes: a bit says that it has none.
-fn new_place(number: u32) -> Option<(Placement, bool)>
-    ensures { MatchOption result (IsNewPlace number → ⊥) (λ p. IsNewPlace number
-        × MatchBool p.1 (IsPlaceNumber number) (IsPlaceNumber number → ⊥)) }
-{
-    match number {
-        0x001 => Some((Placement::Low, true)),
-        0x002 => Some((Placement::High, true)),
-        0x101 => Some((Placement::Low, false)),
-        0x102 => Some((Placement::High, false)),
         _ => None,
     }
 }
