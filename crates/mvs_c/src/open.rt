@@ -1,6 +1,6 @@
 //! A session, its last event, why its last request was refused, what is recorded of it, and the pages that it knows as assigned.
 
-ghost use Rattle.std.specs.Prelude.{◌≡◌, ◌≢◌, ◌+◌, ◌^◌, ◌<◌, ◌∷◌, [], List, Bool, true, false, None, Some, length, IfOk, IsOk, IsSome, MatchBool, MatchOption, MatchResult, OnErr};
+ghost use Rattle.std.specs.Prelude.{◌≡◌, ◌≢◌, ◌+◌, ◌^◌, ◌<◌, ◌∷◌, [], List, Bool, true, false, None, Some, length, IfOk, IfSome, IsOk, IsSome, MatchBool, MatchOption, MatchResult, OnErr};
 ghost use Rattle.mvs_model.specs.FullAnswers.{ended_with_in};
 ghost use Rattle.mvs_model.specs.Memory.{StopsForMemory};
 ghost use Rattle.mvs_model.specs.Runs.{machine};
@@ -137,15 +137,15 @@ impl Open {
     /// Returns the first and the last page that changed since the call before; None if there are none, or the session has bytes. It
     /// knows then how all pages are.
     pub fn changed_pages(&mut self) -> Option<PageSpan>
-        ensures kept { self.old.pages ≡ None → (self.new ≡ self.old) × (result ≡ None) }
-        ensures changed { MatchOption self.old.pages (result ≡ None) (λ known. (flags : List Bool)
-            × AreFlags self.old.session.walk.step flags × (self.new ≡ record self.old { pages = Some flags })
-            × FindsChanged known flags result) }
+        ensures changed { MatchOption self.old.pages ((self.new ≡ self.old) × (result ≡ None))
+            (λ known. (flags : List Bool) × AreFlags self.old.session.walk.step flags
+            × (self.new ≡ record self.old { pages = Some flags }) × FindsChanged known flags result) }
+        ensures low { IfSome result (λ span. (span.first < 12288) × (span.last < 12288)) }
     {
-        match &mut self.pages {
-            Some(pages) => pages.look(self.session.walk()),
-            None => None,
-        }
+        let Some(pages) = &mut self.pages else {
+            return None;
+        };
+        pages.look(self.session.walk())
     }
 
     /// Serves a line, as a session does.
