@@ -420,8 +420,8 @@ MVS_API uint32_t mvs_begin(mvs_session *session, const mvs_region *region, mvs_e
 /* Executes a request of a task, as a line does that makes the same request. It has no line number, sets no name, and mvs_text prints
  * nothing of it. *event is the reply. MVS_STATUS_OK; MVS_STATUS_NO_REQUEST, and then *event is MVS_EVENT_REFUSED and nothing else
  * changes; MVS_STATUS_NO_STEP, MVS_STATUS_WRONG_SIZE (of *event), MVS_STATUS_NO_SESSION, MVS_STATUS_OVER or MVS_STATUS_NO_BYTES, and
- * then *event does not change. The code of MVS_EVENT_REFUSED is the offset of the first field that is out of range, of size, task, kind, and then those
- * that the kind reads, in the order above. A size of *ask that is wrong is refused so too. */
+ * then *event does not change. The code of MVS_EVENT_REFUSED is the offset of the first field that is out of range, of size, task,
+ * kind, and then those that the kind reads, in the order above. A size of *ask that is wrong is refused so too. */
 MVS_API uint32_t mvs_request(mvs_session *session, const mvs_ask *ask, mvs_event *event);
 
 /* Executes a request for a list of count areas, 1 to 16, as mvs_request does. MVS_ASK_OBTAIN reads form, subpool, boundary (of a
