@@ -213,8 +213,8 @@ impl PageFlags {
 #[derive(Drop)]
 pub struct KnownPages {
     known: PageFlags,
-    // The flags of now, while they are compared.
-    now: PageFlags,
+    // The present ones, while they are compared.
+    present: PageFlags,
 }
 
 impl Model for KnownPages {
@@ -232,7 +232,7 @@ impl KnownPages {
     {
         Ok(KnownPages {
             known: PageFlags::new(alloc)?,
-            now: PageFlags::new(alloc)?,
+            present: PageFlags::new(alloc)?,
         })
     }
 
@@ -243,11 +243,11 @@ impl KnownPages {
         ensures low { IfSome result (λ span. (span.first < 12288) × (span.last < 12288)) }
     {
         match walk.job() {
-            Some(job) => self.now.fill(job.step().machine()),
-            None => self.now.set(0, END_PAGE, false),
+            Some(job) => self.present.fill(job.step().machine()),
+            None => self.present.set(0, END_PAGE, false),
         }
-        let changed = self.known.changed(&self.now);
-        self.known.copy_from(&self.now);
+        let changed = self.known.changed(&self.present);
+        self.known.copy_from(&self.present);
         changed
     }
 
@@ -257,7 +257,7 @@ impl KnownPages {
     {
         Ok(KnownPages {
             known: self.known.try_clone()?,
-            now: self.now.try_clone()?,
+            present: self.present.try_clone()?,
         })
     }
 }
