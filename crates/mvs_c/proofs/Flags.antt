@@ -1,5 +1,5 @@
 -- The flags of pages that a run of the map gives.
-use Rattle.std.proofs.Common.{◌≡◌, ◌⊎◌, ℕ, ◌+◌, ◌*◌, ◌/◌, ◌<◌, ◌≤◌, Bool, true, false, is_some, List, Option, Some, None, IsSome, arith, refl, subst, sym, ap, ◌∙◌, inl, inr}
+use Rattle.std.proofs.Common.{◌≡◌, ℕ, ◌+◌, ◌*◌, ◌/◌, ◌<◌, ◌≤◌, Bool, true, false, is_some, List, Option, Some, None, IsSome, arith, refl, subst, sym, ◌∙◌, inl, inr}
 use Rattle.std.proofs.lemmas.Bool.{cases_lt}
 use Rattle.std.specs.FinMap.{get}
 use Rattle.std.specs.Option.{option_and_then}
@@ -9,7 +9,7 @@ use Rattle.mvs_model.specs.Owners.{Owners}
 use Rattle.mvs_model.specs.Reports.{page_subpool}
 use Rattle.mvs_model.specs.State.{State}
 use Rattle.mvs_model.specs.View.{IsBounded}
-use Rattle.request_forms.specs.Reports.{IsHolder, IsMapEnd, IsMapRun, IsPages, NoneBegins}
+use Rattle.request_forms.specs.Reports.{IsHolder, IsMapEnd, IsMapRun, NoneBegins}
 use Rattle.mvs_c.specs.Held.{IsRegionPage}
 use Rattle.mvs_c.specs.Pages.{IsAssigned, IsFlagOf, flag_of}
 use Rattle.mvs_c.proofs.Mapped.{StartsIn, next_pages, no_more_pages}

@@ -1,5 +1,5 @@
 -- Which pages are assigned to a subpool, and which of them changed between two calls.
-use Rattle.std.specs.Prelude.{◌≡◌, ◌≢◌, ℕ, ◌*◌, ◌<◌, ◌≤◌, Bool, true, false, List, slice_index_or, Option, Some, None, IsSome, MatchBool, MatchOption}
+use Rattle.std.specs.Prelude.{◌≡◌, ◌≢◌, ℕ, ◌*◌, ◌<◌, ◌≤◌, Bool, false, List, slice_index_or, Option, Some, None, IsSome, MatchBool, MatchOption}
 use Rattle.std.specs.Option.{option_and_then}
 use Rattle.std.specs.FinMap.{get}
 use Rattle.mvs_model.specs.Job.{JobValue}

@@ -202,9 +202,7 @@ impl PageFlags {
     fn try_clone(&self) -> Result<PageFlags, OutOfMemory>
         ensures { IfOk result (λ copy. copy ≡ self.now) }
     {
-        let flags = Vec::from_slice(*self.flags.allocator(), &self.flags).map_err(
-            |_| OutOfMemory,
-        )?;
+        let flags = Vec::from_slice(*self.flags.allocator(), &self.flags).map_err(|_| OutOfMemory)?;
         Ok(PageFlags { flags })
     }
 }

@@ -16,6 +16,6 @@ loop-i-preserved c =
     let first : c.get-first.result / 4096 ≡ c.in-Some.pages.addr / 4096 = ap (λ (n : ℕ). n / 4096) c.get-first.ensures.value in
     let end : (c.get.result + c.in-Some.pages.len) / 4096 ≡ (c.in-Some.pages.addr + c.in-Some.pages.len) / 4096 = ap (λ (n : ℕ). (n + c.in-Some.pages.len) / 4096) c.get.ensures.value in
     let next = flags_on_run c.args.machine.now.state c.new.result c.loop-i.i c.loop-i.next (c.get-first.result / 4096) ((c.get.result + c.in-Some.pages.len) / 4096) c.in-Some.pages
-        c.loop-i.self c.set-in-loop-i.new.self c.set-in-loop-i-2.new.self c.is_some.result c.new.ensures c.requires known c.in-Some.ensures first end c.is_some.ensures
-        c.set-in-loop-i.ensures.before c.set-in-loop-i.ensures.set c.set-in-loop-i-2.ensures.before c.set-in-loop-i-2.ensures.set in
+    c.loop-i.self c.set-in-loop-i.new.self c.set-in-loop-i-2.new.self c.is_some.result c.new.ensures c.requires known c.in-Some.ensures first end c.is_some.ensures
+    c.set-in-loop-i.ensures.before c.set-in-loop-i.ensures.set c.set-in-loop-i-2.ensures.before c.set-in-loop-i-2.ensures.set in
     record { least = next.least; most = next.most; starts = next.starts; flags = next.flags }
