@@ -29,7 +29,7 @@
 #include <string.h>
 
 /* The version of these calls. A program runs with a library if the thousands agree and the library's version is not less. */
-#define MVS_VERSION 2006
+#define MVS_VERSION 2007
 
 /* What comes before each declaration of a function of the library. In libmvs.a these are hidden: a plugin that contains it does not
  * export them. */
@@ -57,7 +57,8 @@ typedef enum mvs_status {
     MVS_STATUS_NO_REQUEST = 52,   /* mvs_request, mvs_list: a field is out of range; event.code is its offset */
     MVS_STATUS_NO_STEP = 56,      /* mvs_request, mvs_list: no step runs; nothing changes */
     MVS_STATUS_NO_PLACE = 60,     /* mvs_new, mvs_run: the place is none of mvs_place; nothing changes */
-    MVS_STATUS_WRONG_SIZE = 64    /* the size field of a struct is not its size; nothing changes */
+    MVS_STATUS_WRONG_SIZE = 64,   /* the size field of a struct is not its size; nothing changes */
+    MVS_STATUS_NO_BYTES = 68      /* the session has no bytes, and the call needs them; nothing changes */
 } mvs_status;
 
 /* What an event reports. The fields that are not named are 0, and the task is blank. */
@@ -206,6 +207,15 @@ typedef struct mvs_map_run {
 } mvs_map_run;
 
 #define MVS_MAP_RUN_INIT { sizeof(mvs_map_run), 0, 0, false, 0, {0} }
+
+/* The addresses of the first and of the last page of those that changed. Not each page between them did. */
+typedef struct mvs_pages {
+    uint32_t size;
+    uint32_t first;
+    uint32_t last;
+} mvs_pages;
+
+#define MVS_PAGES_INIT { sizeof(mvs_pages), 0, 0 }
 
 /* Adjacent doublewords that are held alike: by areas of one subpool, or by parts of one cell pool. */
 typedef struct mvs_held_run {
@@ -377,11 +387,17 @@ typedef struct mvs_session {
  * one is used: tests do. */
 typedef enum mvs_place { MVS_PLACE_LOW = 1, MVS_PLACE_HIGH = 2 } mvs_place;
 
+/* A bit of the place of mvs_new, as MVS_PLACE_LOW | MVS_NO_BYTES: a session without bytes, for a program that has the bytes of storage
+ * itself. What would read or write them is MVS_STATUS_NO_BYTES, and changes nothing: mvs_read, mvs_write, mvs_lend, the statements PUT,
+ * MOVE and SHOW, and MVS_ASK_MOVE. MVS_ASK_SHOW, which returns no bytes, is served. All other replies are those of a session with bytes.
+ * mvs_changed_pages returns which pages changed. */
+#define MVS_NO_BYTES 0x100u
+
 /* Returns the version of the library, as MVS_VERSION is that of the header. */
 MVS_API uint32_t mvs_version(void);
 
-/* Begins a session, and frees the one that was there. MVS_STATUS_OK; MVS_STATUS_NO_PLACE or MVS_STATUS_NO_MEMORY, and then the
- * session stays. */
+/* Begins a session, and frees the one that was there. The place is one of mvs_place, with MVS_NO_BYTES or without. MVS_STATUS_OK;
+ * MVS_STATUS_NO_PLACE or MVS_STATUS_NO_MEMORY, and then the session stays. */
 MVS_API uint32_t mvs_new(mvs_session *session, uint32_t place);
 
 /* Makes a copy of a session, and frees the session that was in *to. The copy continues as the original would. What one of them does
@@ -390,7 +406,8 @@ MVS_API uint32_t mvs_new(mvs_session *session, uint32_t place);
 MVS_API uint32_t mvs_clone(mvs_session *from, mvs_session *to);
 
 /* Executes a line of length bytes, given without its newline. *event is the reply. MVS_STATUS_OK, MVS_STATUS_SCRIPT_FAULT or
- * MVS_STATUS_NO_MEMORY; MVS_STATUS_WRONG_SIZE, MVS_STATUS_NO_SESSION or MVS_STATUS_OVER, and then *event does not change. */
+ * MVS_STATUS_NO_MEMORY; MVS_STATUS_WRONG_SIZE, MVS_STATUS_NO_SESSION, MVS_STATUS_OVER or MVS_STATUS_NO_BYTES, and then *event does not
+ * change. */
 MVS_API uint32_t mvs_line(mvs_session *session, const char *line, size_t length, mvs_event *event);
 
 /* Does the same, except that a line with a fault changes nothing but *event: it has no line number, and the job continues. */
@@ -402,9 +419,9 @@ MVS_API uint32_t mvs_begin(mvs_session *session, const mvs_region *region, mvs_e
 
 /* Executes a request of a task, as a line does that makes the same request. It has no line number, sets no name, and mvs_text prints
  * nothing of it. *event is the reply. MVS_STATUS_OK; MVS_STATUS_NO_REQUEST, and then *event is MVS_EVENT_REFUSED and nothing else
- * changes; MVS_STATUS_NO_STEP, MVS_STATUS_WRONG_SIZE (of *event), MVS_STATUS_NO_SESSION or MVS_STATUS_OVER, and then *event does
- * not change. The code of MVS_EVENT_REFUSED is the offset of the first field that is out of range, of size, task, kind, and then those
- * that the kind reads, in the order above. A size of *ask that is wrong is refused so too. */
+ * changes; MVS_STATUS_NO_STEP, MVS_STATUS_WRONG_SIZE (of *event), MVS_STATUS_NO_SESSION, MVS_STATUS_OVER or MVS_STATUS_NO_BYTES, and
+ * then *event does not change. The code of MVS_EVENT_REFUSED is the offset of the first field that is out of range, of size, task,
+ * kind, and then those that the kind reads, in the order above. A size of *ask that is wrong is refused so too. */
 MVS_API uint32_t mvs_request(mvs_session *session, const mvs_ask *ask, mvs_event *event);
 
 /* Executes a request for a list of count areas, 1 to 16, as mvs_request does. MVS_ASK_OBTAIN reads form, subpool, boundary (of a
@@ -446,18 +463,19 @@ MVS_API uint32_t mvs_record(mvs_session *session);
  * MVS_STATUS_NO_SESSION; and then *effect does not change. The session does not change. */
 MVS_API uint32_t mvs_effect(mvs_session *session, size_t index, mvs_effect_line *effect);
 
-/* Copies length bytes, at least one, from an address on. MVS_STATUS_OK; MVS_STATUS_NO_ACCESS or MVS_STATUS_NO_SESSION, and then the
- * buffer does not change. */
+/* Copies length bytes, at least one, from an address on. MVS_STATUS_OK; MVS_STATUS_NO_ACCESS, MVS_STATUS_NO_SESSION or
+ * MVS_STATUS_NO_BYTES, and then the buffer does not change. */
 MVS_API uint32_t mvs_read(mvs_session *session, uint32_t address, uint8_t *out, size_t length);
 
-/* Writes length bytes, at least one, from an address on. MVS_STATUS_OK; MVS_STATUS_NO_ACCESS, MVS_STATUS_NO_SESSION or MVS_STATUS_OVER,
- * and then nothing changes. The text of the last line is lost. */
+/* Writes length bytes, at least one, from an address on. MVS_STATUS_OK; MVS_STATUS_NO_ACCESS, MVS_STATUS_NO_SESSION, MVS_STATUS_OVER or
+ * MVS_STATUS_NO_BYTES, and then nothing changes. The text of the last line is lost. */
 MVS_API uint32_t mvs_write(mvs_session *session, uint32_t address, const uint8_t *bytes, size_t length);
 
 /* Returns where the bytes from an address on are in the memory of the session, and how many of them can be read without a break. They are
  * borrowed: they stay there, as they are, until the next call for this session. (A call that only returns what the session has, as mvs_read
  * and mvs_map, leaves them too: tests show that, not a proof.) Do not write them: mvs_write does. MVS_STATUS_OK; MVS_STATUS_NO_ACCESS if
- * the byte at the address cannot be accessed, or MVS_STATUS_NO_SESSION, and then *lent does not change. The session does not change.
+ * the byte at the address cannot be accessed, MVS_STATUS_NO_SESSION or MVS_STATUS_NO_BYTES, and then *lent does not change. The session
+ * does not change.
  * Before the call, *lent is some bytes of yours, or none at a pointer that is not null; mvs_lend, which calls this function, has no such
  * rule. The call looks at each doubleword a few times. */
 MVS_API uint32_t mvs_lend_bytes(mvs_session *session, uint32_t address, mvs_bytes *lent);
@@ -474,6 +492,13 @@ MVS_API uint32_t mvs_subpool(mvs_session *session, const uint8_t task[8], uint8_
 /* Returns the first run of pages that begins at or after an address. MVS_STATUS_OK; MVS_STATUS_NO_MORE, MVS_STATUS_WRONG_SIZE or
  * MVS_STATUS_NO_SESSION, and then *run does not change. */
 MVS_API uint32_t mvs_map(mvs_session *session, uint32_t from, mvs_map_run *run);
+
+/* Returns the addresses of the first and of the last page that were assigned or became free since the call before, or since mvs_new: those
+ * that mvs_map shows as assigned now and did not then, or the other way round. So a call after each event returns what that changed, and
+ * a call after several of them what they changed together. Of a session without bytes: of one with bytes there are none. MVS_STATUS_OK;
+ * MVS_STATUS_NO_MORE if there are none, MVS_STATUS_WRONG_SIZE or MVS_STATUS_NO_SESSION, and then *pages does not change. The call looks at
+ * each page once or a few times. */
+MVS_API uint32_t mvs_changed_pages(mvs_session *session, mvs_pages *pages);
 
 /* Returns the first run of held doublewords that begins at or after an address. The next one begins at address + length or later.
  * Areas of one subpool that are adjacent are one run. MVS_STATUS_OK; MVS_STATUS_NO_MORE, MVS_STATUS_WRONG_SIZE or
@@ -603,6 +628,7 @@ static inline const char *mvs_status_name(uint32_t status) {
     case MVS_STATUS_NO_STEP: return "NO_STEP";
     case MVS_STATUS_NO_PLACE: return "NO_PLACE";
     case MVS_STATUS_WRONG_SIZE: return "WRONG_SIZE";
+    case MVS_STATUS_NO_BYTES: return "NO_BYTES";
     default: return "?";
     }
 }

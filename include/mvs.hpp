@@ -55,7 +55,8 @@ inline std::string statement(const mvs_ask &ask, const mvs_event &event) {
 
 class Session {
 public:
-    explicit Session(mvs_place place = MVS_PLACE_LOW) {
+    /* The place is one of mvs_place, with MVS_NO_BYTES or without. */
+    explicit Session(uint32_t place = MVS_PLACE_LOW) {
         if (mvs_new(&held, place) != MVS_STATUS_OK) throw std::bad_alloc();
     }
 
@@ -195,6 +196,14 @@ public:
         mvs_map_run run = MVS_MAP_RUN_INIT;
         for (uint32_t from = 0; mvs_map(&held, from, &run) == MVS_STATUS_OK; from = run.address + run.length) runs.push_back(run);
         return runs;
+    }
+
+    /* Returns the first and the last page that changed since the call before, of a session without bytes; nothing if there are none:
+     * mvs_changed_pages. */
+    std::optional<mvs_pages> changed_pages() {
+        mvs_pages found = MVS_PAGES_INIT;
+        if (mvs_changed_pages(&held, &found) != MVS_STATUS_OK) return std::nullopt;
+        return found;
     }
 
     /* Returns the runs of held doublewords. */

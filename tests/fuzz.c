@@ -72,7 +72,7 @@ static bool is_filled(const uint8_t *bytes, size_t from, size_t to, uint8_t fill
 
 typedef struct player {
     mvs_session session;
-    bool is_there;
+    bool is_there, has_bytes;
 } player;
 
 static bool has_event(uint32_t status) {
@@ -83,6 +83,7 @@ static bool has_event(uint32_t status) {
 static void judge(const player *p, uint32_t status, const mvs_event *before, const mvs_event *after) {
     MUST((status == MVS_STATUS_NO_SESSION) == !p->is_there || status == MVS_STATUS_WRONG_SIZE);
     MUST((status == MVS_STATUS_WRONG_SIZE) == (before->size != sizeof *before));
+    MUST(status != MVS_STATUS_NO_BYTES || !p->has_bytes);
     if (has_event(status)) MUST(after->size == sizeof *after && strcmp(mvs_event_name(after->kind), "?") != 0);
     else MUST(memcmp(before, after, sizeof *before) == 0);
     MUST(strcmp(mvs_status_name(status), "?") != 0);
@@ -96,10 +97,10 @@ static mvs_event any_event(void) {
 }
 
 static void begin(player *p) {
-    uint32_t place = byte() < 250 ? 1u + byte() % 2 : word();
-    uint32_t status = mvs_new(&p->session, place);
-    MUST(status == (place == 1 || place == 2 ? MVS_STATUS_OK : MVS_STATUS_NO_PLACE) || status == MVS_STATUS_NO_MEMORY);
-    if (status == MVS_STATUS_OK) p->is_there = true;
+    uint32_t place = byte() < 250 ? (1u + byte() % 2) | (byte() < 60 ? MVS_NO_BYTES : 0u) : word();
+    uint32_t status = mvs_new(&p->session, place), at = place & ~MVS_NO_BYTES;
+    MUST(status == (at == 1 || at == 2 ? MVS_STATUS_OK : MVS_STATUS_NO_PLACE) || status == MVS_STATUS_NO_MEMORY);
+    if (status == MVS_STATUS_OK) p->is_there = true, p->has_bytes = !(place & MVS_NO_BYTES);
 }
 
 static void say(player *p) {
@@ -151,8 +152,9 @@ static mvs_ask any_ask(void) {
 /* The bytes of a grant can be read and written. */
 static void use(player *p, const mvs_event *event) {
     uint8_t *bytes = block(event->length, 9);
-    MUST(event->length && mvs_read(&p->session, event->address, bytes, event->length) == MVS_STATUS_OK);
-    MUST(mvs_write(&p->session, event->address, bytes, event->length) == MVS_STATUS_OK);
+    uint32_t wanted = p->has_bytes ? MVS_STATUS_OK : MVS_STATUS_NO_BYTES;
+    MUST(event->length && mvs_read(&p->session, event->address, bytes, event->length) == wanted);
+    MUST(mvs_write(&p->session, event->address, bytes, event->length) == wanted);
     free(bytes);
 }
 
@@ -216,7 +218,7 @@ static void bytes(player *p) {
     size_t length = byte();
     uint8_t *at = block(length, 3);
     uint32_t address = number(), status = mvs_read(&p->session, address, at, length);
-    MUST((status == MVS_STATUS_NO_SESSION) == !p->is_there);
+    MUST((status == MVS_STATUS_NO_SESSION) == !p->is_there && (status == MVS_STATUS_NO_BYTES) == (p->is_there && !p->has_bytes));
     if (status != MVS_STATUS_OK) MUST(is_filled(at, 0, length, 3));
     uint32_t written = mvs_write(&p->session, address, at, length);
     MUST(written == status || written == MVS_STATUS_OVER);
@@ -252,6 +254,11 @@ static void reports(player *p) {
         from = run.address + run.length;
     }
     MUST(status == (p->is_there ? MVS_STATUS_NO_MORE : MVS_STATUS_NO_SESSION));
+    mvs_pages pages = MVS_PAGES_INIT;
+    status = mvs_changed_pages(&p->session, &pages);
+    MUST((status == MVS_STATUS_NO_SESSION) == !p->is_there && (status != MVS_STATUS_OK || !p->has_bytes));
+    if (status == MVS_STATUS_OK) MUST(pages.first % 4096 == 0 && pages.last % 4096 == 0 && pages.first >= 0x6000 && pages.first <= pages.last && pages.last < 0x3000000);
+    if (status == MVS_STATUS_OK) MUST(mvs_changed_pages(&p->session, &pages) == MVS_STATUS_NO_MORE);
     status = mvs_held(&p->session, from = (uint32_t)byte() << 18, &held);
     MUST((status == MVS_STATUS_NO_SESSION) == !p->is_there);
     if (status == MVS_STATUS_OK) MUST(held.length && held.length % 8 == 0 && held.address % 8 == 0 && held.address >= from);
@@ -324,7 +331,7 @@ static void run(player *p) {
 
 int LLVMFuzzerTestOneInput(const uint8_t *data, size_t size) {
     static void (*const calls[])(player *) = {say, say, say, request, request, request, request, list, region, text, why, bytes, lent, reports, end, run, copies, effects};
-    player players[2] = {{MVS_SESSION_INIT, false}, {MVS_SESSION_INIT, false}};
+    player players[2] = {{MVS_SESSION_INIT, false, false}, {MVS_SESSION_INIT, false, false}};
     input = data, left = size;
     while (left) {
         uint8_t call = byte();

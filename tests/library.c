@@ -795,6 +795,7 @@ static int lent(void) {
 }
 
 #include "recording.h"
+#include "no_bytes.h"
 
 int main(void) {
     int failed = without_session();
@@ -815,6 +816,7 @@ int main(void) {
     if (!failed) failed = tasks_and_pools();
     if (!failed) failed = copies();
     if (!failed) failed = lent();
+    if (!failed) failed = without_bytes();
     if (!failed) failed = effects();
     if (!failed) failed = list_statements();
     if (!failed) failed = statements();

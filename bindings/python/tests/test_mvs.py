@@ -83,6 +83,29 @@ class SessionTest(unittest.TestCase):
         room = {"longest": 12288, "pages_below": 3, "pages_above": 2}
         self.assertEqual(self.session.reason(), mvs.Reason(mvs.ReasonKind.SHORTAGE, 12, number=3, length=32768, **room))
 
+    def test_without_bytes(self):
+        session = mvs.Session(has_bytes=False)
+        session.begin("JOB", below=4)
+        self.assertIsNone(session.changed_pages())
+        area = session.obtain("JOB", 8192)
+        changed = mvs.ChangedPages(area.address, area.address + 4096)
+        self.assertEqual((session.changed_pages(), session.changed_pages()), (changed, None))
+        calls = {
+            "read": lambda: session.read(area.address, 1),
+            "readable": lambda: session.readable(area.address),
+            "write": lambda: session.write(area.address, b"a"),
+            "move": lambda: session.move("JOB", area.address, area.address + 8, 8),
+            "show": lambda: session.line("JOB SHOW X'6000',1"),
+        }
+        for name, call in calls.items():
+            with self.subTest(name), self.assertRaises(mvs.Error) as refused:
+                call()
+            self.assertEqual(refused.exception.status, mvs.Status.NO_BYTES)
+        self.assertEqual(session.script.count("\n"), 2)
+        session.end_task("JOB")
+        self.assertEqual((session.clone().changed_pages(), session.changed_pages()), (changed, changed))
+        self.assertIsNone(self.session.changed_pages())
+
     def test_effects(self):
         kind = mvs.EffectKind
         self.begin()

@@ -1,3 +1,4 @@
+pub mod Flags
 pub mod Handles
 pub mod Labels
 pub mod ListLines

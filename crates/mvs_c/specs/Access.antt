@@ -1,5 +1,5 @@
 -- What C gets of the running step.
-use Rattle.std.specs.Prelude.{◌≡◌, ℕ, ◌+◌, ◌^◌, ◌<◌, ◌≤◌, true, false, List, length, replicate, slice_get, Option, Some, None, MatchOption, MatchResult, Result, Err}
+use Rattle.std.specs.Prelude.{◌≡◌, ℕ, ◌+◌, ◌^◌, ◌<◌, ◌≤◌, true, false, List, length, replicate, slice_get, Option, Some, None, MatchBool, MatchOption, MatchResult, Result, Err}
 use Rattle.std.specs.FinMap.{get}
 use Rattle.mvs_model.specs.declared.name.Name.{Name}
 use Rattle.mvs_model.specs.declared.report.SubpoolLine.{SubpoolLine}
@@ -15,7 +15,7 @@ use Rattle.mvs_c.specs.declared.access.RunFields.{RunFields}
 use Rattle.mvs_job.specs.LineEvents.{WalkValue}
 use Rattle.mvs_job.specs.Valued.{WritesOf}
 use Rattle.mvs_c.specs.Asks.{IsNamed, name_value}
-use Rattle.mvs_c.specs.Opens.{OpenValue, without_line}
+use Rattle.mvs_c.specs.Opens.{OpenValue, keeps_bytes, without_line}
 use Rattle.mvs_c.specs.Reasons.{no_why}
 use Rattle.mvs_c.specs.Recording.{forgotten}
 
@@ -41,8 +41,15 @@ pub record Reads (o : OpenValue) (address : ℕ) (before after : List ℕ) (stat
 pub record WritesAt (old : OpenValue) (address : ℕ) (bytes : List ℕ) (new : OpenValue) (status : ℕ) : Type 0 where
   pub over : old.session.continues ≡ false → (new ≡ old) × (status ≡ 24)
   pub written : old.session.continues ≡ true → MayRead old address (length bytes)
-      → (later : WalkValue) × WritesOf old.session.walk (place_at address (length bytes)) bytes true later × (new ≡ without_line later no_why (forgotten old.recorder)) × (status ≡ 0)
+      → (later : WalkValue) × WritesOf old.session.walk (place_at address (length bytes)) bytes true later × (new ≡ without_line later no_why (forgotten old.recorder) old.pages) × (status ≡ 0)
   pub refused : old.session.continues ≡ true → (MayRead old address (length bytes) → ⊥) → (new ≡ old) × (status ≡ 36)
+
+-- A session returns bytes, or writes them, as these say; one without bytes does not.
+abbrev pub AnswersRead : OpenValue → ℕ → List ℕ → List ℕ → ℕ → Type 0
+AnswersRead o address before after status = MatchBool (keeps_bytes o) (Reads o address before after status) ((after ≡ before) × (status ≡ 68))
+
+abbrev pub AnswersWrite : OpenValue → ℕ → List ℕ → OpenValue → ℕ → Type 0
+AnswersWrite old address bytes new status = MatchBool (keeps_bytes old) (WritesAt old address bytes new status) ((new ≡ old) × (status ≡ 68))
 
 -- One of several things is returned, or there is none, and nothing changes.
 abbrev pub ReturnsOne : {X Y : Type 0} → Option X → (X → Y) → Y → Y → ℕ → Type 0

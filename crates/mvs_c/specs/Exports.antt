@@ -1,5 +1,5 @@
 -- What the calls of C do. The numbers of the statuses are this project's choice.
-use Rattle.std.specs.Prelude.{◌≡◌, ◌≢◌, ◌⊎◌, ℕ, ◌+◌, ◌<◌, ◌≤◌, List, [], ◌∷◌, ◌++◌, drop, length, Option, Some, None, Result, Ok, Err, IfOk, IsSome, MatchBool, MatchOption, MatchResult, true, false}
+use Rattle.std.specs.Prelude.{◌≡◌, ◌≢◌, ◌⊎◌, ℕ, ◌+◌, ◌<◌, ◌≤◌, Bool, List, [], ◌∷◌, ◌++◌, drop, length, Option, Some, None, Result, Ok, Err, IfOk, IsSome, MatchBool, MatchOption, MatchResult, true, false}
 use Rattle.mvs_model.specs.declared.name.Name.{Name}
 use Rattle.mvs_model.specs.declared.request.Request.{Request}
 use Rattle.mvs_model.specs.declared.outcome.Outcome.{Outcome}
@@ -23,7 +23,9 @@ use Rattle.mvs_c.specs.Asks.{TaskAsks, kind_numbered}
 use Rattle.mvs_c.specs.Events.{requested_event, event_of_line, end_event, refused_event}
 use Rattle.mvs_c.specs.Lists.{AsksList, area_values, listed}
 use Rattle.mvs_c.specs.Effects.{asked_of}
+use Rattle.mvs_c.specs.ByteUse.{LineLacksBytes, request_lacks_bytes}
 use Rattle.mvs_c.specs.Opens.{OpenValue, TakesLine, fault_of, last_of, recording, without_line}
+use Rattle.mvs_c.specs.Pages.{AreFlags}
 use Rattle.mvs_c.specs.Reasons.{WhyValue, no_why}
 use Rattle.mvs_c.specs.Recording.{RecordsLine, forgotten, recorded_values}
 use Rattle.mvs_c.specs.Why.{IsWhyOfLine, IsWhyOfValues}
@@ -31,6 +33,14 @@ use Rattle.mvs_c.specs.Why.{IsWhyOfLine, IsWhyOfValues}
 -- The numbers of the lowest and of the highest place.
 abbrev pub IsPlaceNumber : ℕ → Type 0
 IsPlaceNumber n = (n ≡ 1) ⊎ (n ≡ 2)
+
+-- The numbers of the places of a new session: those, and with a bit those of a session without bytes.
+abbrev pub IsNewPlace : ℕ → Type 0
+IsNewPlace n = IsPlaceNumber n ⊎ ((n ≡ 257) ⊎ (n ≡ 258))
+
+-- A new session has the bytes of storage; or it has none, and no page is assigned.
+abbrev pub BeginsWith : ℕ → Option (List Bool) → Type 0
+BeginsWith place pages = MatchOption pages (IsPlaceNumber place) (λ flags. (IsPlaceNumber place → ⊥) × AreFlags None flags)
 
 -- how a job ended
 abbrev pub outcome_status : Outcome → ℕ
@@ -58,13 +68,19 @@ ExecutesLine old line line_event new =
     × (new.session.walk.number ≡ old.session.walk.number + 1) × (new.session.continues ≡ continues line_event) × (new.last ≡ last_of old.session.walk.number line_event)
     × IfOk line_event (λ line_event. KeepsReplyOf old.session.walk line line_event new.session.walk)
     × MatchResult line_event (λ line_event. IsWhyOfLine old.session.walk.step line line_event new.session.walk new.why) (λ _. new.why ≡ no_why)
-    × RecordsLine old.recorder old.session.walk.step line line_event new.recorder
+    × RecordsLine old.recorder old.session.walk.step line line_event new.recorder × (new.pages ≡ old.pages)
 
--- The result of a call with a line: the session executes it, or accepts none, and then nothing changes.
-abbrev pub AnswersLine : OpenValue → List ℕ → OpenValue → Event → Event → ℕ → Type 0
-AnswersLine old line new before after status =
-    (TakesLine old.session → (line_event : Result LineEvent OutOfMemoryAt) × ExecutesLine old line line_event new × (after ≡ event_of_line line_event) × (status ≡ line_status line_event))
-    × ((TakesLine old.session → ⊥) → (new ≡ old) × (after ≡ before) × (status ≡ 24))
+-- A call leaves all as it was, and answers this status.
+abbrev pub Leaves : OpenValue → OpenValue → Event → Event → ℕ → ℕ → Type 0
+Leaves old new before after status answered = (new ≡ old) × (after ≡ before) × (answered ≡ status)
+
+-- The result of a call with a line: the session executes it; or it accepts none or does not have the bytes that the line reads or
+-- writes, and then nothing changes.
+pub record AnswersLine (old : OpenValue) (line : List ℕ) (new : OpenValue) (before after : Event) (status : ℕ) : Type 0 where
+  pub executed : TakesLine old.session → (LineLacksBytes old line → ⊥)
+      → (line_event : Result LineEvent OutOfMemoryAt) × ExecutesLine old line line_event new × (after ≡ event_of_line line_event) × (status ≡ line_status line_event)
+  pub without : TakesLine old.session → LineLacksBytes old line → Leaves old new before after 68 status
+  pub over : (TakesLine old.session → ⊥) → Leaves old new before after 24 status
 
 -- The result of a call that tries a line: one with a fault changes nothing but the event, and any other is executed.
 pub record TriesLine (old : OpenValue) (line : List ℕ) (new : OpenValue) (before after : Event) (status : ℕ) : Type 0 where
@@ -72,17 +88,15 @@ pub record TriesLine (old : OpenValue) (line : List ℕ) (new : OpenValue) (befo
       (λ fault. (new ≡ old) × (after ≡ event_of_line (Ok (line_event.Faulted fault))) × (status ≡ 12))
   pub over : (TakesLine old.session → ⊥) → (new ≡ old) × (after ≡ before) × (status ≡ 24)
 
--- A call leaves all as it was, and answers this status.
-abbrev pub Leaves : OpenValue → OpenValue → Event → Event → ℕ → ℕ → Type 0
-Leaves old new before after status answered = (new ≡ old) × (after ≡ before) × (answered ≡ status)
-
--- A session executes a request of a kind that is given by values. If a field does not fit, or no step runs, nothing changes but the
--- event that names the field.
+-- A session executes a request of a kind that is given by values. If a field does not fit, the session does not have the bytes, or no
+-- step runs, nothing changes but the event that names the field.
 abbrev pub AnswersValues : OpenValue → Option RequestKind → Result (Name × Request) RequestField → OpenValue → Event → Event → ℕ → Type 0
 AnswersValues old kind (Err f) new before after status = (new ≡ old) × (after ≡ refused_event f) × (status ≡ 52)
-AnswersValues old kind (Ok asked) new before after status = MatchOption old.session.walk.step
+AnswersValues old kind (Ok asked) new before after status = MatchBool (request_lacks_bytes old asked.1)
+    (Leaves old new before after 68 status)
+    (MatchOption old.session.walk.step
     (Leaves old new before after 56 status)
-    (λ _. (later : WalkValue) × (why : WhyValue) × RequestsOf old.session.walk asked.0 asked.1 true later × IsWhyOfValues old.session.walk.step asked.0 asked.1 later why × (new ≡ without_line later why (recorded_values old.recorder old.session.walk.step asked.0 (asked_of asked.1))) × (after ≡ requested_event kind asked.0 later.reply) × (status ≡ 0))
+    (λ _. (later : WalkValue) × (why : WhyValue) × RequestsOf old.session.walk asked.0 asked.1 true later × IsWhyOfValues old.session.walk.step asked.0 asked.1 later why × (new ≡ without_line later why (recorded_values old.recorder old.session.walk.step asked.0 (asked_of asked.1)) old.pages) × (after ≡ requested_event kind asked.0 later.reply) × (status ≡ 0)))
 
 -- What a call answers that gives a session a request by values, of those that a struct may ask for: a job that has ended takes none.
 abbrev pub AnswersRequest : OpenValue → RawRequest → (Result Request RequestField → Type 0) → OpenValue → Event → Event → ℕ → Type 0
@@ -100,7 +114,7 @@ AnswersList old a areas new values before after status =
 abbrev pub EndsJob : OpenValue → JobEnd → OpenValue → Type 0
 EndsJob old end new =
     Closes machine old.session.walk.number old.session.walk.step (closing old.session.walk.number end.ended) end.outcome
-    × (new ≡ record { session = record { walk = old.session.walk; continues = false }; last = last.Closed old.session.walk.number end.ended; why = no_why; recorder = forgotten old.recorder })
+    × (new ≡ record { session = record { walk = old.session.walk; continues = false }; last = last.Closed old.session.walk.number end.ended; why = no_why; recorder = forgotten old.recorder; pages = old.pages })
 
 -- The result of a call that ends a job.
 abbrev pub AnswersEnd : OpenValue → OpenValue → Event → Event → ℕ → Type 0

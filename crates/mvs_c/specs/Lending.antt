@@ -1,12 +1,12 @@
 -- What is lent to C of a session's memory.
-use Rattle.std.specs.Prelude.{◌≡◌, ℕ, ◌+◌, ◌^◌, ◌<◌, ◌≤◌, true, false, List, length, Option, Some, None, ⊤}
+use Rattle.std.specs.Prelude.{◌≡◌, ℕ, ◌+◌, ◌^◌, ◌<◌, ◌≤◌, true, false, List, length, Option, Some, None, MatchBool, ⊤}
 use Rattle.std.specs.Borrow.{follows_so, Fml, MutBor}
 use mathlib.Core.Option.{none}
 use Rattle.mvs_model.specs.State.{State, granted}
 use Rattle.mvs_c.specs.declared.handle.Handle.{Handle}
 use Rattle.mvs_c.specs.contracts.handle.Handle.{the_row}
 use Rattle.mvs_c.specs.Access.{AreAt, MayRead}
-use Rattle.mvs_c.specs.Opens.{OpenValue}
+use Rattle.mvs_c.specs.Opens.{OpenValue, keeps_bytes}
 
 -- Each byte from an address up to another can be read.
 abbrev pub AllGranted : State → ℕ → ℕ → Type 0
@@ -31,10 +31,14 @@ pub record Lends (o : OpenValue) (address : ℕ) (before after : List ℕ) (stat
   pub most : MayRead o address 1 → address + length after < 2 ^ 31 → MayRead o (address + length after) 1 → ⊥
   pub refused : (MayRead o address 1 → ⊥) → (after ≡ before) × (status ≡ 36)
 
+-- So they are of a session that has bytes; one without bytes lends none.
+abbrev pub LendsAny : OpenValue → ℕ → List ℕ → List ℕ → ℕ → Type 0
+LendsAny o address before after status = MatchBool (keeps_bytes o) (Lends o address before after status) ((after ≡ before) × (status ≡ 68))
+
 -- The same of a handle, which may have no session.
 abbrev pub AnswersLend : Option OpenValue → ℕ → List ℕ → List ℕ → ℕ → Type 0
 AnswersLend None address before after status = (after ≡ before) × (status ≡ 20)
-AnswersLend (Some o) address before after status = Lends o address before after status
+AnswersLend (Some o) address before after status = LendsAny o address before after status
 
 -- When the bytes are no longer lent, the handle has the session that it had.
 abbrev pub IsLeft : MutBor Handle → Fml

@@ -1,5 +1,6 @@
 pub mod Access
 pub mod Asks
+pub mod ByteUse
 pub mod Effects
 pub mod Events
 pub mod Exports
@@ -12,6 +13,7 @@ pub mod Lists
 pub mod Members
 pub mod Opens
 pub mod OwnedCode
+pub mod Pages
 pub mod Pools
 pub mod Reasons
 pub mod Recording

@@ -4,11 +4,11 @@ ghost use Rattle.std.specs.Prelude.{◌≡◌, ◌≢◌, ◌<◌, ◌≤◌, �
 ghost use Rattle.mvs_model.specs.FullAnswers.{ended_with_in};
 ghost use Rattle.mvs_model.specs.Place.{IsPlace, place_at};
 ghost use Rattle.mvs_model.specs.declared.report.MapRun.{MapRun};
-ghost use Rattle.mvs_c.specs.Access.{AnswersSubpool, FindsRun, FindsSubpool, Reads, ReturnsOne, WritesAt, run_bytes, run_value, subpool_bytes};
+ghost use Rattle.mvs_c.specs.Access.{AnswersRead, AnswersSubpool, AnswersWrite, FindsRun, FindsSubpool, Reads, ReturnsOne, WritesAt, run_bytes, run_value, subpool_bytes};
 
 use crate::ask::name_of;
 use crate::open::Open;
-use crate::status::{NO_ACCESS, NO_MORE, NO_TASK, OK, OVER};
+use crate::status::{NO_ACCESS, NO_BYTES, NO_MORE, NO_TASK, OK, OVER};
 use mvs_model::place::{Addr, Place};
 use mvs_model::report::{MapRun, SubpoolLine};
 
@@ -89,8 +89,8 @@ fn place_of(address: u32, len: usize) -> Option<Place>
     }
 }
 
-/// Copies the bytes from an address on.
-pub fn read(held: &Open, address: u32, out: &mut [u8]) -> u32
+// Copies the bytes from an address on.
+fn copy_bytes(held: &Open, address: u32, out: &mut [u8]) -> u32
     ensures { Reads held.now address out.old out.new result }
 {
     let Some(job) = held.job() else {
@@ -108,8 +108,8 @@ pub fn read(held: &Open, address: u32, out: &mut [u8]) -> u32
     }
 }
 
-/// Writes bytes from an address on.
-pub fn write(held: &mut Open, address: u32, bytes: &[u8]) -> u32
+// Writes bytes from an address on.
+fn write_bytes(held: &mut Open, address: u32, bytes: &[u8]) -> u32
     ensures { WritesAt held.old address bytes.now held.new result }
 {
     if !held.continues() {
@@ -122,6 +122,27 @@ pub fn write(held: &mut Open, address: u32, bytes: &[u8]) -> u32
         OK
     } else {
         NO_ACCESS
+    }
+}
+
+/// Copies the bytes from an address on, if the session has them.
+pub fn read(held: &Open, address: u32, out: &mut [u8]) -> u32
+    ensures { AnswersRead held.now address out.old out.new result }
+{
+    if !held.keeps_bytes() {
+        return NO_BYTES;
+    }
+    copy_bytes(held, address, out)
+}
+
+/// Writes bytes from an address on, if the session has them.
+pub fn write(held: &mut Open, address: u32, bytes: &[u8]) -> u32
+    ensures { AnswersWrite held.old address bytes.now held.new result }
+{
+    if held.keeps_bytes() {
+        write_bytes(held, address, bytes)
+    } else {
+        NO_BYTES
     }
 }
 

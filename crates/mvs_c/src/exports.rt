@@ -1,9 +1,9 @@
 //! The functions that C calls. A handle is taken apart for the time of a call.
 
-ghost use Rattle.std.specs.Prelude.{◌≡◌, ◌≢◌, ◌⊎◌, ◌↔◌, ◌≤◌, ◌<◌, [], Some, None, Option, slice_get, true, false, IfSome, IsSome};
+ghost use Rattle.std.specs.Prelude.{◌≡◌, ◌≢◌, ◌⊎◌, ◌↔◌, ◌≤◌, ◌<◌, [], List, Bool, Some, None, Option, slice_get, true, false, IfSome, IsSome};
 ghost use Rattle.mvs_model.specs.FullAnswers.{ended_with_in};
 ghost use Rattle.mvs_model.specs.declared.report.MapRun.{MapRun};
-ghost use Rattle.mvs_c.specs.Access.{AnswersSubpool, FindsRun, Reads, ReturnsOne, WritesAt, run_bytes, run_value, subpool_bytes};
+ghost use Rattle.mvs_c.specs.Access.{AnswersRead, AnswersSubpool, AnswersWrite, FindsRun, ReturnsOne, run_bytes, run_value, subpool_bytes};
 ghost use Rattle.mvs_c.specs.Opens.{TakesLine, events_of, new_open, text_of};
 ghost use Rattle.mvs_c.specs.Asks.{Asks, named_answer};
 ghost use Rattle.mvs_c.specs.Events.{event_bytes};
@@ -18,11 +18,12 @@ ghost use Rattle.mvs_model.specs.declared.name.Name.{Name as TheName};
 ghost use Rattle.mvs_c.specs.Reasons.{reason_bytes};
 ghost use Rattle.mvs_c.specs.Statements.{States};
 ghost use Rattle.mvs_c.specs.Lists.{AsksList, area_values, listed};
-ghost use Rattle.mvs_c.specs.Exports.{AnswersValues, AnswersEnd, AnswersLine, AnswersList, AnswersRequest, HandsOver, IsPlaceNumber, TriesLine, WithSession, line_status, outcome_status};
+ghost use Rattle.mvs_c.specs.Exports.{AnswersValues, AnswersEnd, AnswersLine, AnswersList, AnswersRequest, BeginsWith, HandsOver, IsNewPlace, IsPlaceNumber, TriesLine, WithSession, line_status, outcome_status};
 
 use crate::access::{self, RunFields, Subpool};
 use crate::ask::{RawRequest, RequestKind, name_of};
 use crate::buffer::hand_over;
+use crate::byte_use::{new_place, uses_bytes};
 use crate::event::{Event, end_event, event_of_line, fault_event, refused_event, requested_event};
 use crate::field::RequestField;
 use crate::handle::Handle;
@@ -30,13 +31,14 @@ use crate::held::{HeldFields, copy_held};
 use crate::list::{ListArea, write_listed};
 use crate::member::{TaskFields, copy_pool_name, copy_task};
 use crate::open::Open;
+use crate::pages::pages_of_new;
 use crate::pool::{PoolFields, copy_pool};
 use crate::reason::ReasonFields;
 use crate::region::RegionFields;
 use crate::statement::statement;
 use crate::status::{
-    NO_MEMORY, NO_MORE, NO_PLACE, NO_REQUEST, NO_SESSION, NO_STEP, OK, OVER, SCRIPT_FAULT,
-    TOO_LONG, WRONG_SIZE,
+    NO_BYTES, NO_MEMORY, NO_MORE, NO_PLACE, NO_REQUEST, NO_SESSION, NO_STEP, OK, OVER,
+    SCRIPT_FAULT, TOO_LONG, WRONG_SIZE,
 };
 use mvs_job::{LineEvent, OutOfMemoryAt};
 use mvs_model::name::Name;
@@ -48,7 +50,7 @@ use std::alloc::Global;
 use std::mem;
 
 /// The version of these calls.
-const VERSION: u32 = 2_006;
+const VERSION: u32 = 2_007;
 
 /// Returns the status of an outcome.
 pub fn outcome_status(outcome: Outcome) -> u32
@@ -107,6 +109,9 @@ fn execute_line(held: &mut Open, line: &[u8], event: &mut Event) -> u32
     if !held.takes_line() {
         return OVER;
     }
+    if held.line_lacks_bytes(line) {
+        return NO_BYTES;
+    }
     let line_event = held.line(line);
     *event = event_of_line(&line_event);
     line_status(&line_event)
@@ -147,6 +152,9 @@ fn serve(
             return NO_REQUEST;
         }
     };
+    if !held.keeps_bytes() && uses_bytes(request) {
+        return NO_BYTES;
+    }
     if !held.request(&task, request) {
         return NO_STEP;
     }
@@ -231,7 +239,7 @@ fn show(alloc: Global, held: &Open, out: &mut [u8], wanted: &mut usize) -> u32
 /// Returns the version of these calls.
 #[unsafe(no_mangle)]
 pub extern "C" fn mvs_version() -> u32
-    ensures { result ≡ 2006 }
+    ensures { result ≡ 2007 }
 {
     VERSION
 }
@@ -239,15 +247,19 @@ pub extern "C" fn mvs_version() -> u32
 /// Begins a session. One that the handle held is freed.
 #[unsafe(no_mangle)]
 pub extern "C" fn mvs_new(alloc: Global, session: &mut Handle, place: u32) -> u32
-    ensures begun { result ≡ 0 → session.new.open ≡ Some new_open }
+    ensures begun { result ≡ 0 → (pages : Option (List Bool)) × BeginsWith place pages
+        × (session.new.open ≡ Some (new_open pages)) }
     ensures memory { result ≢ 0 → session.new.open ≡ session.old.open }
-    ensures place { IsPlaceNumber place → (result ≡ 0) ⊎ (result ≡ 16) }
-    ensures no_place { (IsPlaceNumber place → ⊥) → result ≡ 60 }
+    ensures place { IsNewPlace place → (result ≡ 0) ⊎ (result ≡ 16) }
+    ensures no_place { (IsNewPlace place → ⊥) → result ≡ 60 }
 {
-    let Some(placement) = placement(place) else {
+    let Some((placement, keeps_bytes)) = new_place(place) else {
         return NO_PLACE;
     };
-    match Box::new(alloc, Open::new(alloc, placement)) {
+    let Ok(pages) = pages_of_new(alloc, keeps_bytes) else {
+        return NO_MEMORY;
+    };
+    match Box::new(alloc, Open::new(alloc, placement, pages)) {
         Ok(held) => {
             put(alloc, session, held);
             OK
@@ -531,7 +543,7 @@ pub extern "C" fn mvs_free_session(alloc: Global, session: &mut Handle)
 pub extern "C" fn mvs_read(alloc: Global, session: &mut Handle, address: u32, out: &mut [u8]) -> u32
     ensures session { session.new.open ≡ session.old.open }
     ensures none { session.old.open ≡ None → (result ≡ 20) × (out.new ≡ out.old) }
-    ensures read { IfSome session.old.open (λ old. Reads old address out.old out.new result) }
+    ensures read { IfSome session.old.open (λ old. AnswersRead old address out.old out.new result) }
 {
     let Some(held) = take_out(alloc, session) else {
         return NO_SESSION;
@@ -545,7 +557,7 @@ pub extern "C" fn mvs_read(alloc: Global, session: &mut Handle, address: u32, ou
 #[unsafe(no_mangle)]
 pub extern "C" fn mvs_write(alloc: Global, session: &mut Handle, address: u32, bytes: &[u8]) -> u32
     ensures { WithSession session.old.open session.new.open (result ≡ 20)
-        (λ old new. WritesAt old address bytes.now new result) }
+        (λ old new. AnswersWrite old address bytes.now new result) }
 {
     let Some(mut held) = take_out(alloc, session) else {
         return NO_SESSION;

@@ -3,12 +3,12 @@
 ghost use Rattle.std.specs.Prelude.{◌≡◌, ◌<◌, ◌≤◌, ◌^◌, ◌↔◌, IsTrue, false};
 ghost use Rattle.std.specs.Borrow.{sem};
 ghost use Rattle.mvs_model.specs.State.{granted};
-ghost use Rattle.mvs_c.specs.Lending.{AllGranted, AnswersLend, IsLeft, IsReadableEnd, Lends, Stops};
+ghost use Rattle.mvs_c.specs.Lending.{AllGranted, AnswersLend, IsLeft, IsReadableEnd, Lends, LendsAny, Stops};
 
 use crate::access::ADDRESSES;
 use crate::handle::Handle;
 use crate::open::Open;
-use crate::status::{NO_ACCESS, NO_SESSION, OK};
+use crate::status::{NO_ACCESS, NO_BYTES, NO_SESSION, OK};
 use mvs_job::Job;
 use mvs_model::place::{Addr, Place};
 
@@ -84,8 +84,8 @@ fn readable_end(job: &Job, address: u32) -> u32
     first_gap(job, end, gap)
 }
 
-// Returns where the bytes from an address on are.
-fn lend<'a>(held: &'a Open, address: u32, lent: &mut LentBytes<'a>) -> u32
+// Returns where the bytes from an address on are, in a session that has bytes.
+fn lend_bytes<'a>(held: &'a Open, address: u32, lent: &mut LentBytes<'a>) -> u32
     ensures { Lends held.now address lent.old.bytes.now lent.new.bytes.now result }
 {
     let Some(job) = held.job() else {
@@ -106,6 +106,16 @@ fn lend<'a>(held: &'a Open, address: u32, lent: &mut LentBytes<'a>) -> u32
     };
     lent.bytes = bytes;
     OK
+}
+
+// Returns where the bytes from an address on are, if the session has bytes.
+fn lend<'a>(held: &'a Open, address: u32, lent: &mut LentBytes<'a>) -> u32
+    ensures { LendsAny held.now address lent.old.bytes.now lent.new.bytes.now result }
+{
+    if !held.keeps_bytes() {
+        return NO_BYTES;
+    }
+    lend_bytes(held, address, lent)
 }
 
 /// Returns where the bytes from an address on are, as many as can be read. They are borrowed until the session is used again.

@@ -1,6 +1,6 @@
-//! A session, its last event, why its last request was refused, and what is recorded of it.
+//! A session, its last event, why its last request was refused, what is recorded of it, and the pages that it knows as assigned.
 
-ghost use Rattle.std.specs.Prelude.{◌≡◌, ◌≢◌, ◌+◌, ◌^◌, ◌<◌, ◌∷◌, [], true, false, None, length, IfOk, IsOk, IsSome, MatchBool, MatchOption, MatchResult, OnErr};
+ghost use Rattle.std.specs.Prelude.{◌≡◌, ◌≢◌, ◌+◌, ◌^◌, ◌<◌, ◌∷◌, [], List, Bool, true, false, None, Some, length, IfOk, IfSome, IsOk, IsSome, MatchBool, MatchOption, MatchResult, OnErr};
 ghost use Rattle.mvs_model.specs.FullAnswers.{ended_with_in};
 ghost use Rattle.mvs_model.specs.Memory.{StopsForMemory};
 ghost use Rattle.mvs_model.specs.Runs.{machine};
@@ -13,10 +13,14 @@ ghost use Rattle.mvs_c.specs.Effects.{asked_of};
 ghost use Rattle.mvs_c.specs.Reasons.{no_why};
 ghost use Rattle.mvs_c.specs.Recording.{RecordsLine, forgotten, recorded_values, switched_on};
 ghost use Rattle.mvs_c.specs.Why.{IsWhyOfLine, IsWhyOfValues};
-ghost use Rattle.mvs_c.specs.Opens.{TakesLine, events_of, fault_of, last_of, new_open, recording, text_of, without_line};
+ghost use Rattle.mvs_c.specs.ByteUse.{LineLacksBytes};
+ghost use Rattle.mvs_c.specs.Opens.{TakesLine, events_of, fault_of, keeps_bytes, last_of, new_open, recording, text_of, without_line};
+ghost use Rattle.mvs_c.specs.Pages.{AreFlags, FindsChanged};
 
+use crate::byte_use::line_uses_bytes;
 use crate::last::Last;
 use crate::last_reason::LastReason;
+use crate::pages::{KnownPages, PageSpan};
 use crate::reason::ReasonFields;
 use crate::recorder::Recorder;
 use job_script::read_line;
@@ -32,13 +36,15 @@ use std::alloc::Global;
 use std::io::Write;
 use std::marker::Model;
 
-/// A session, its last event, why its last request was refused, and what is recorded of it.
+/// A session, its last event, why its last request was refused, what is recorded of it, and the pages that it knows as assigned.
 #[derive(Drop)]
 pub struct Open {
     session: Session,
     last: Last,
     why: LastReason,
     recorder: Recorder,
+    // Those of a session without bytes.
+    pages: Option<KnownPages>,
 }
 
 impl Model for Open {
@@ -48,21 +54,22 @@ impl Model for Open {
 
     ghost coded = { open_code };
 
-    ghost view = { λ o. record { session = o.session; last = o.last; why = o.why; recorder = o.recorder } };
+    ghost view = { λ o. record { session = o.session; last = o.last; why = o.why; recorder = o.recorder; pages = o.pages } };
 
     ghost invariant = { λ o. LastIsAvailable o.session.walk o.last };
 }
 
 impl Open {
-    /// Makes a session before its first line.
-    pub fn new(alloc: Global, placement: Placement) -> Open
-        ensures { result ≡ new_open }
+    /// Makes a session before its first line. It has no bytes if it knows pages.
+    pub fn new(alloc: Global, placement: Placement, pages: Option<KnownPages>) -> Open
+        ensures { result ≡ new_open pages }
     {
         Open {
             session: Session::new(alloc, placement),
             last: Last::Nothing,
             why: LastReason::new(),
             recorder: Recorder::none(),
+            pages,
         }
     }
 
@@ -106,6 +113,41 @@ impl Open {
         }
     }
 
+    /// Returns whether the session has the bytes of storage.
+    pub fn keeps_bytes(&self) -> bool
+        ensures { result ≡ keeps_bytes self.now }
+    {
+        self.pages.is_none()
+    }
+
+    /// Returns whether a line reads or writes bytes that the session does not have.
+    pub fn line_lacks_bytes(&self, line: &[u8]) -> bool
+        ensures { MatchBool result (LineLacksBytes self.now line.now) (LineLacksBytes self.now line.now → ⊥) }
+    {
+        if self.keeps_bytes() {
+            return false;
+        }
+        let mut read = Line::Nothing;
+        match read_line(line, self.job().is_none(), &mut read) {
+            Ok(()) => line_uses_bytes(&read),
+            Err(_) => false,
+        }
+    }
+
+    /// Returns the first and the last page that changed since the call before; None if there are none, or the session has bytes. It
+    /// knows then how all pages are.
+    pub fn changed_pages(&mut self) -> Option<PageSpan>
+        ensures changed { MatchOption self.old.pages ((self.new ≡ self.old) × (result ≡ None))
+            (λ known. (flags : List Bool) × AreFlags self.old.session.walk.step flags
+            × (self.new ≡ record self.old { pages = Some flags }) × FindsChanged known flags result) }
+        ensures low { IfSome result (λ span. (span.first < 12288) × (span.last < 12288)) }
+    {
+        let Some(pages) = &mut self.pages else {
+            return None;
+        };
+        pages.look(self.session.walk())
+    }
+
     /// Serves a line, as a session does.
     pub fn line(&mut self, line: &[u8]) -> Result<LineEvent, OutOfMemoryAt>
         requires { TakesLine self.old.session }
@@ -123,6 +165,7 @@ impl Open {
             self.new.why) }
         ensures silent { OnErr result (self.new.why ≡ no_why) }
         ensures recorder { RecordsLine self.old.recorder self.old.session.walk.step line.now result self.new.recorder }
+        ensures pages { self.new.pages ≡ self.old.pages }
     {
         let number = self.session.walk().number();
         self.why.clear();
@@ -148,7 +191,8 @@ impl Open {
             → RequestsOf self.old.session.walk task.now request.now true self.new.session.walk
             × IsWhyOfValues self.old.session.walk.step task.now request.now self.new.session.walk self.new.why
             × (self.new ≡ without_line self.new.session.walk self.new.why
-            (recorded_values self.old.recorder self.old.session.walk.step task.now (asked_of request.now))) }
+            (recorded_values self.old.recorder self.old.session.walk.step task.now (asked_of request.now))
+            self.old.pages) }
     {
         let Some(job) = self.session.walk().job() else {
             return false;
@@ -166,7 +210,7 @@ impl Open {
         requires len { length bytes.now ≡ place.len }
         ensures walk { WritesOf self.old.session.walk place bytes.now result self.new.session.walk }
         ensures written { result ≡ true → self.new
-            ≡ without_line self.new.session.walk no_why (forgotten self.old.recorder) }
+            ≡ without_line self.new.session.walk no_why (forgotten self.old.recorder) self.old.pages }
         ensures refused { result ≡ false → self.new ≡ self.old }
     {
         let written = self.session.write(place, bytes);
@@ -209,6 +253,7 @@ impl Open {
         ensures last { self.new.last ≡ last.Closed self.old.session.walk.number result.ended }
         ensures why { self.new.why ≡ no_why }
         ensures recorder { self.new.recorder ≡ forgotten self.old.recorder }
+        ensures pages { self.new.pages ≡ self.old.pages }
     {
         let number = self.session.walk().number();
         let closing = self.session.close();
@@ -271,11 +316,16 @@ impl Open {
     pub fn try_clone(&self) -> Result<Open, OutOfMemory>
         ensures { IfOk result (λ copy. copy ≡ self.now) }
     {
+        let pages = match &self.pages {
+            Some(pages) => Some(pages.try_clone()?),
+            None => None,
+        };
         Ok(Open {
             session: self.session.try_clone()?,
             last: self.last,
             why: self.why.copied(),
             recorder: self.recorder.try_clone()?,
+            pages,
         })
     }
 }

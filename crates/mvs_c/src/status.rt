@@ -28,3 +28,5 @@ pub const NO_STEP: u32 = 56;
 pub const NO_PLACE: u32 = 60;
 /// The size field of a struct is not its size.
 pub const WRONG_SIZE: u32 = 64;
+/// The session does not have the bytes of storage.
+pub const NO_BYTES: u32 = 68;

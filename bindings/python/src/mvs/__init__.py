@@ -30,6 +30,7 @@ from dataclasses import dataclass
 from typing import Union
 
 from ._library import (
+    NO_BYTES,
     AskKind,
     EffectKind,
     EventKind,
@@ -44,6 +45,7 @@ from ._library import (
     RawEffect,
     RawEvent,
     RawHeld,
+    RawPages,
     RawPool,
     RawReason,
     RawRegion,
@@ -62,6 +64,7 @@ from ._statements import statement
 __all__ = [
     "Area",
     "AskKind",
+    "ChangedPages",
     "Effect",
     "EffectKind",
     "Error",
@@ -170,6 +173,14 @@ class Run:
     length: int
     number: int
     owner: Union[str, None]
+
+
+@dataclass(frozen=True)
+class ChangedPages:
+    """The addresses of the first and of the last page of those that changed. Not each page between them did."""
+
+    first: int
+    last: int
 
 
 @dataclass(frozen=True)
@@ -334,12 +345,14 @@ class Session:
     """A job that executes its statements one by one.
 
     It is a context manager: at the end of `with`, the session is freed. `place` says which of the places that fit is used.
+    With `has_bytes=False` it has no bytes, for a program that has the bytes of storage itself: what would read or write them raises Error
+    with the status NO_BYTES, and `changed_pages` returns which pages changed.
     """
 
-    def __init__(self, place: Place = Place.LOW):
+    def __init__(self, place: Place = Place.LOW, has_bytes: bool = True):
         self._session = RawSession()
         self._lines: list[str] = []
-        self._check(library.mvs_new(self._session, place))
+        self._check(library.mvs_new(self._session, place if has_bytes else place | NO_BYTES))
 
     def clone(self) -> Session:
         """Returns a copy, which continues as this session would. What one of them does later does not change the other."""
@@ -651,6 +664,15 @@ class Session:
             owner = bytes(raw.owner).decode("ascii").rstrip()
             yield Run(raw.address, raw.length, raw.number, owner if raw.assigned else None)
             address = raw.address + raw.length
+
+    def changed_pages(self) -> Union[ChangedPages, None]:
+        """Returns the first and the last page that changed since the call before, of a session without bytes; None if there are none."""
+        raw = RawPages(size=ctypes.sizeof(RawPages))
+        status = Status(library.mvs_changed_pages(self._session, raw))
+        if status is Status.NO_MORE:
+            return None
+        self._check(status)
+        return ChangedPages(raw.first, raw.last)
 
     def held_runs(self) -> Iterator[HeldRun]:
         """Iterates over the runs of doublewords that are held alike, in the order of their addresses."""

@@ -7,7 +7,7 @@ import ctypes.util
 import enum
 import os
 
-VERSION = 2006
+VERSION = 2007
 """The version of the calls that this module was written for."""
 
 
@@ -29,6 +29,7 @@ class Status(enum.IntEnum):
     NO_STEP = 56
     NO_PLACE = 60
     WRONG_SIZE = 64
+    NO_BYTES = 68
 
 
 class EventKind(enum.IntEnum):
@@ -177,6 +178,10 @@ class Place(enum.IntEnum):
     HIGH = 2
 
 
+NO_BYTES = 0x100
+"""A bit of the place of mvs_new: MVS_NO_BYTES."""
+
+
 class RawEvent(ctypes.Structure):
     """mvs_event."""
 
@@ -241,6 +246,12 @@ class RawRun(ctypes.Structure):
         ("number", ctypes.c_uint32),
         ("owner", ctypes.c_char * 8),
     ]
+
+
+class RawPages(ctypes.Structure):
+    """mvs_pages."""
+
+    _fields_ = [("size", ctypes.c_uint32), ("first", ctypes.c_uint32), ("last", ctypes.c_uint32)]
 
 
 class RawHeld(ctypes.Structure):
@@ -336,6 +347,7 @@ _FUNCTIONS = {
     "mvs_fallen": [_SESSION, ctypes.c_size_t, ctypes.c_char_p],
     "mvs_subpool": [_SESSION, ctypes.c_char_p, ctypes.c_uint8, _POINTER(RawSubpool)],
     "mvs_map": [_SESSION, ctypes.c_uint32, _POINTER(RawRun)],
+    "mvs_changed_pages": [_SESSION, _POINTER(RawPages)],
     "mvs_held": [_SESSION, ctypes.c_uint32, _POINTER(RawHeld)],
     "mvs_pool": [_SESSION, ctypes.c_char_p, _POINTER(RawPool)],
     "mvs_next_task": [_SESSION, ctypes.c_char_p, _POINTER(RawTask)],

@@ -5,7 +5,7 @@ use core::ffi::{c_char, c_void};
 use core::mem::size_of;
 
 /// The version of the calls that these declarations are for: `MVS_VERSION`.
-pub const MVS_VERSION: u32 = 2_006;
+pub const MVS_VERSION: u32 = 2_007;
 
 pub const MVS_STATUS_OK: u32 = 0;
 pub const MVS_STATUS_SOME_ABEND: u32 = 8;
@@ -22,6 +22,7 @@ pub const MVS_STATUS_NO_REQUEST: u32 = 52;
 pub const MVS_STATUS_NO_STEP: u32 = 56;
 pub const MVS_STATUS_NO_PLACE: u32 = 60;
 pub const MVS_STATUS_WRONG_SIZE: u32 = 64;
+pub const MVS_STATUS_NO_BYTES: u32 = 68;
 
 pub const MVS_EVENT_NOTHING: u32 = 1;
 pub const MVS_EVENT_STEP_BEGAN: u32 = 2;
@@ -128,6 +129,8 @@ pub const MVS_POSITION_NO_CELL: u32 = 3;
 
 pub const MVS_PLACE_LOW: u32 = 1;
 pub const MVS_PLACE_HIGH: u32 = 2;
+
+pub const MVS_NO_BYTES: u32 = 0x100;
 
 /// `mvs_event` of `mvs.h`.
 #[repr(C)]
@@ -276,6 +279,27 @@ impl Default for mvs_map_run {
             assigned: false,
             number: 0,
             owner: [0; 8],
+        }
+    }
+}
+
+/// `mvs_pages` of `mvs.h`.
+#[repr(C)]
+#[derive(Clone, Copy, Debug, PartialEq, Eq)]
+#[allow(non_camel_case_types)]
+pub struct mvs_pages {
+    pub size: u32,
+    pub first: u32,
+    pub last: u32,
+}
+
+impl Default for mvs_pages {
+    /// All fields are 0, except the size.
+    fn default() -> Self {
+        Self {
+            size: size_of::<Self>() as u32,
+            first: 0,
+            last: 0,
         }
     }
 }
@@ -528,6 +552,7 @@ unsafe extern "C" {
     pub fn mvs_fallen(session: *mut mvs_session, index: usize, name: *mut [u8; 8]) -> u32;
     pub fn mvs_subpool(session: *mut mvs_session, task: *const [u8; 8], from: u8, line: *mut mvs_subpool_line) -> u32;
     pub fn mvs_map(session: *mut mvs_session, from: u32, run: *mut mvs_map_run) -> u32;
+    pub fn mvs_changed_pages(session: *mut mvs_session, pages: *mut mvs_pages) -> u32;
     pub fn mvs_held(session: *mut mvs_session, from: u32, run: *mut mvs_held_run) -> u32;
     pub fn mvs_pool(session: *mut mvs_session, name: *const [u8; 8], pool: *mut mvs_pool_line) -> u32;
     pub fn mvs_next_task(session: *mut mvs_session, after: *const [u8; 8], task: *mut mvs_task_line) -> u32;

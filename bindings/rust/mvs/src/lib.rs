@@ -27,6 +27,6 @@ mod session;
 pub use numbers::{EffectKind, EventKind, Form, Location, Place, Position, ReasonKind, Status, StepEnd};
 pub use request::{Area, Name, Obtain, Pool, Region, Request, Subtask};
 pub use session::{
-    run, statement, version, AddressHolder, Effect, Error, Event, HeldRun, HeldRuns, Holder, Pages, PoolNames, PoolState, Reason, Run,
+    run, statement, version, AddressHolder, ChangedPages, Effect, Error, Event, HeldRun, HeldRuns, Holder, Pages, PoolNames, PoolState, Reason, Run,
     Session, Subpool, Subpools, Task, Tasks,
 };

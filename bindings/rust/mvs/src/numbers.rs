@@ -63,6 +63,8 @@ numbers! {
         NoPlace = MVS_STATUS_NO_PLACE,
         /// A struct has a size that the library does not know.
         WrongSize = MVS_STATUS_WRONG_SIZE,
+        /// The session has no bytes, and the call needs them.
+        NoBytes = MVS_STATUS_NO_BYTES,
     }
 }
 

@@ -3,7 +3,7 @@
 use crate::numbers::{EffectKind, EventKind, Form, Place, Position, ReasonKind, Status, StepEnd};
 use crate::request::{Area, Name, Region, Request};
 use mvs_sys::{
-    mvs_area, mvs_ask, mvs_bytes, mvs_effect_line, mvs_event, mvs_held_run, mvs_map_run, mvs_pool_line, mvs_reason, mvs_region, mvs_session,
+    mvs_area, mvs_ask, mvs_bytes, mvs_effect_line, mvs_event, mvs_held_run, mvs_map_run, mvs_pages, mvs_pool_line, mvs_reason, mvs_region, mvs_session,
     mvs_subpool_line, mvs_task_line,
 };
 use std::ffi::c_char;
@@ -116,6 +116,15 @@ pub struct Run {
     pub area: Area,
     /// The task that owns their subpool, and its number there; None if they are free.
     pub owner: Option<(Name, u32)>,
+}
+
+/// The addresses of the first and of the last page of those that changed. Not each page between them did.
+#[derive(Clone, Copy, Debug, PartialEq, Eq)]
+pub struct ChangedPages {
+    /// The first page.
+    pub first: u32,
+    /// The last page.
+    pub last: u32,
 }
 
 /// What holds doublewords.
@@ -362,9 +371,19 @@ impl Session {
 
     /// Begins a session that uses the lowest or the highest of the places that fit.
     pub fn placed(place: Place) -> Result<Session, Error> {
+        Session::numbered(place.number())
+    }
+
+    /// Begins a session without bytes, for a program that has the bytes of storage itself: what would read or write them is
+    /// [`Status::NoBytes`], and [`Session::changed_pages`] returns which pages changed.
+    pub fn without_bytes(place: Place) -> Result<Session, Error> {
+        Session::numbered(place.number() | mvs_sys::MVS_NO_BYTES)
+    }
+
+    fn numbered(place: u32) -> Result<Session, Error> {
         let mut raw = mvs_session { held: ptr::null_mut() };
         // SAFETY: `raw` holds no session, and only this call uses it.
-        served(unsafe { mvs_sys::mvs_new(&mut raw, place.number()) })?;
+        served(unsafe { mvs_sys::mvs_new(&mut raw, place) })?;
         Ok(Session { raw })
     }
 
@@ -581,6 +600,20 @@ impl Session {
     /// Iterates over the runs of pages that are assigned alike, in the order of their addresses.
     pub fn pages(&mut self) -> Pages<'_> {
         Pages { session: self, from: 0 }
+    }
+
+    /// Returns the first and the last page that changed since the call before, of a session without bytes; None if there are none.
+    pub fn changed_pages(&mut self) -> Result<Option<ChangedPages>, Error> {
+        let mut raw = mvs_pages::default();
+        // SAFETY: as above.
+        match status_of(unsafe { mvs_sys::mvs_changed_pages(&mut self.raw, &mut raw) })? {
+            Status::Ok => Ok(Some(ChangedPages {
+                first: raw.first,
+                last: raw.last,
+            })),
+            Status::NoMore => Ok(None),
+            status => Err(Error::Status(status)),
+        }
     }
 
     /// Iterates over the runs of doublewords that are held alike, in the order of their addresses.

@@ -1,6 +1,6 @@
 //! Each call of the crate, and what it refuses. The replies of the library itself are tested in C.
 use mvs::{
-    AddressHolder, Area, EffectKind, Error, EventKind, Form, HeldRun, Holder, Location, Name, Obtain, Place, Pool, ReasonKind, Region,
+    AddressHolder, Area, ChangedPages, EffectKind, Error, EventKind, Form, HeldRun, Holder, Location, Name, Obtain, Place, Pool, ReasonKind, Region,
     Request, Session, Status, StepEnd, Subtask, Task,
 };
 
@@ -54,6 +54,36 @@ fn copies() {
     assert_eq!(session.read(address, 3).unwrap(), b"abc");
     drop(session);
     assert_eq!(copy.read(address, 3).unwrap(), b"xyz");
+}
+
+#[test]
+fn without_bytes() {
+    let mut session = Session::without_bytes(Place::Low).unwrap();
+    session.begin(&Region::new(job(), 4)).unwrap();
+    assert_eq!(session.changed_pages(), Ok(None));
+    let area = session.request(job(), &Request::Obtain(Obtain::new(Form::Rc, 8192))).unwrap();
+    let changed = ChangedPages {
+        first: area.address,
+        last: area.address + 4096,
+    };
+    assert_eq!((session.changed_pages(), session.changed_pages()), (Ok(Some(changed)), Ok(None)));
+    let none = Err(Error::Status(Status::NoBytes));
+    assert_eq!(session.read(area.address, 1).map(|_| ()), none);
+    assert_eq!(session.lend(area.address).map(|_| ()), none);
+    assert_eq!((session.write(area.address, b"a"), session.line("JOB SHOW X'6000',1").map(|_| ())), (none, none));
+    let area = Area {
+        address: area.address,
+        length: 8192,
+    };
+    assert_eq!(session.request(job(), &Request::Show(Area { length: 4, ..area })).unwrap().kind, EventKind::Done);
+    let release = Request::Release {
+        form: Form::Rc,
+        subpool: 0,
+        area,
+    };
+    assert_eq!(session.request(job(), &release).unwrap().kind, EventKind::Rc0);
+    assert_eq!(session.try_clone().unwrap().changed_pages(), Ok(Some(changed)));
+    assert_eq!(begun().changed_pages(), Ok(None));
 }
 
 #[test]

@@ -27,7 +27,7 @@ use denote.Triple.Spec.{triple_of}
 use denote.Triple.Table.{framed}
 use denote.Triple.Walked.{Stays, stay_dropped, gave_ref, Goes-spent_ref, Goes-dropped, Goes-gave_ref, walk_of}
 use Rattle.std.proofs.raw_atomic.Walks.{proved, leaves}
-use Rattle.mvs_c.specs.Lending.{AnswersLend, IsLeft, Lends}
+use Rattle.mvs_c.specs.Lending.{AnswersLend, IsLeft, LendsAny}
 use Rattle.mvs_c.specs.Opens.{OpenValue}
 use Rattle.mvs_c.proofs.Handles.{Row}
 use Rattle.mvs_c.proofs.Shown.{Shown, Words, held, lent, shown_law, shares_at, left_says, shows_at, pointer_in, pointer_out, on_lent}
@@ -115,7 +115,7 @@ mvs_lend_bytes_spec 𝓤 𝓛 𝓜 𝓡 wired =
     calls_at ! (framed 𝓤 𝓛.H 𝓜 (tables 𝓤 𝓛.H 𝓜 𝓡 𝓡.env)) G (met 𝓤 𝓛 𝓜 𝓡 (code.calls-mvs_c::lend::lend 𝓡.env wired)) z
     (and_then ! (get ! refl) (and_then ! (get ! refl) (and_then ! (get ! refl) (no_more !)))) (λ u.
     use1 𝓛 (later (some_of (λ (s : ℕ). ((‵ (flft κ q) ⊛ (‵ (flft κ' q') ⊛ ‵ ftrue)) ⊛ ‵ (u32.own_val s (u ∷ []))) ⊛
-    some_of (λ (ws : Lasts g.ended κs (shown, (n, (t, tt)))). ‵ (lasts g.ended κs (shown, (n, (t, tt))) ws) ⊛ raw (fact 𝓤 (Lends x n t.now.bytes.now ws.1.1.0.bytes.now s)))))) (id⊢ 𝓤 _) $
+    some_of (λ (ws : Lasts g.ended κs (shown, (n, (t, tt)))). ‵ (lasts g.ended κs (shown, (n, (t, tt))) ws) ⊛ raw (fact 𝓤 (LendsAny x n t.now.bytes.now ws.1.1.0.bytes.now s)))))) (id⊢ 𝓤 _) $
     await ! tt $ pick ! (λ s. split ! $ split ! $ move ! (1 ∷ []) $ fsplit ! $ feq_l ! (λ is. flt_l ! (λ fits.
     -- [the tokens; what is said; a `&` to the pointer; how the handle ends]
     lands_as ! (ap only is) refl (tt, record { fits = fits }) $
