@@ -28,7 +28,7 @@ KNOWN = {
     "areas, at shortages": ("--explain", "--json --explain"),
 }
 # The most memory of a run of the longest script, in bytes: no view keeps the script.
-MOST_MEMORY = 4_000_000
+MOST_MEMORY = 4_500_000
 # The SHA-256 of the scripts of bench/measure, one after the other.
 BYTES = "b779719ddbf4348497633221a43ab999ef0a9d5391de3489afd2a6be3288a2f9"
 
