@@ -1,7 +1,7 @@
 """How the cost of a line grows with each dimension of a script, in each view: counts of instructions, which a busy machine does not change.
 
 `bench/measure growth` prints the figures. What grows is in KNOWN. With `--long` there are more dimensions, and what is known to grow must still do so.
-The scripts of bench/measure must have the bytes for which figures were published. No view keeps a script in memory.
+The scripts of bench/measure must have the bytes for which figures were published. A run in one of PRINTING does not keep its script in memory.
 """
 
 import hashlib
