@@ -108,6 +108,16 @@ def shortages(count):
     yield from ["J GETMAIN RC,LV=2000000,A=X"] * (count // 16)
 
 
+def changes_between_shortages(count):
+    """Areas that come and go while as many are held, and requests that fit nowhere."""
+    yield REGION
+    yield from areas(100)
+    for _ in range(count):
+        yield "J FREEMAIN RC,LV=64,A=A1,SP=1"
+        yield "J GETMAIN RC,LV=64,A=A1,SP=1"
+        yield "J GETMAIN RC,LV=2000000,A=X"
+
+
 def ends(count):
     """Subpools of the job step task, and ends of subtasks that have one of their own."""
     yield REGION
@@ -164,12 +174,20 @@ DIMENSIONS = {
     "names, at refusals": Dimension(refusals, 256),
     "ends, at refusals": Dimension(refusals_after_ends, 500),
     "areas, at shortages": Dimension(shortages, 256),
+    "changes, between shortages": Dimension(changes_between_shortages, 150),
     "subpools, at ends": Dimension(ends, 30),
     "pages, at ends": Dimension(ends_among_pages, 2000),
 }
 
 # Those whose scripts have mostly one kind of line.
-EXTRA = ("names, at refusals", "ends, at refusals", "areas, at shortages", "subpools, at ends", "pages, at ends")
+EXTRA = (
+    "names, at refusals",
+    "ends, at refusals",
+    "areas, at shortages",
+    "changes, between shortages",
+    "subpools, at ends",
+    "pages, at ends",
+)
 
 
 @cache

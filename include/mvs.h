@@ -12,10 +12,12 @@
  *  - A length is at most that of the memory at the pointer, and below 2^63. A bool is 0 or 1.
  *  - An mvs_session begins as MVS_SESSION_INIT, and only these functions write it. You may move it. Use only one of its copies:
  *    to use another one, or one after mvs_free, is a use after free.
- *  - One call at a time uses a session. The next call may come from another thread, if the end of the one happens before the
- *    beginning of the other: a lock, a join or the like is between them. Sessions share nothing.
+ *  - One call at a time uses a session, also of those that do not change it. The next call may come from another thread, if the end of
+ *    the one happens before the beginning of the other: a lock, a join or the like is between them. Sessions share nothing.
  *  - malloc, realloc and free come from one allocator, whose blocks are aligned as C requires. No call comes from a signal handler,
  *    nor from the forked child of a program with threads.
+ *  - There is enough stack. A thread with 64 KiB can make each call: mvs_effect needs at most 40 KiB, mvs_line, mvs_try, mvs_list,
+ *    mvs_clone and mvs_run 24 KiB, and each other function 8 KiB. Tests measure that; no proof says it.
  *
  * The caller checks one thing: a struct that begins with `size` has the size that the caller was compiled with, as in MVS_EVENT_INIT.
  * Another size is refused, so that a program and a library of two versions never read past the end of a struct.
@@ -50,7 +52,7 @@ typedef enum mvs_status {
     MVS_STATUS_NO_SESSION = 20,   /* there is no session; nothing changes */
     MVS_STATUS_OVER = 24,         /* the job has ended; of a line also: there were 4,294,967,294 lines; nothing changes */
     MVS_STATUS_TOO_SMALL = 32,    /* the buffer is too small and does not change; the size that is needed is returned */
-    MVS_STATUS_NO_ACCESS = 36,    /* no step runs, no byte is named, or one of them cannot be accessed (0C4) */
+    MVS_STATUS_NO_ACCESS = 36,    /* no step has begun, no byte is named, or one of them cannot be accessed (0C4) */
     MVS_STATUS_NO_MORE = 40,      /* there is none, or no further one */
     MVS_STATUS_TOO_LONG = 44,     /* mvs_run: the script has more than 16,777,215 bytes; mvs_statement, mvs_list_statement: the line is too long */
     MVS_STATUS_NO_TASK = 48,      /* mvs_subpool: no task of this name is active */
@@ -432,7 +434,7 @@ MVS_API uint32_t mvs_list(mvs_session *session, const mvs_ask *ask, mvs_area *ar
 
 /* Ends the job: there are no more lines. MVS_STATUS_OK, MVS_STATUS_SOME_ABEND, or MVS_STATUS_SCRIPT_FAULT if there was no step;
  * MVS_STATUS_WRONG_SIZE, MVS_STATUS_NO_SESSION or MVS_STATUS_OVER, and then *event does not change. The storage, subpools and pages of
- * the last step can be read until mvs_free. */
+ * the last step can be read until mvs_free, also if a line with a fault has ended the job. */
 MVS_API uint32_t mvs_end(mvs_session *session, mvs_event *event);
 
 /* Prints the reply to the last line to the front of a buffer of room bytes, as mvsjob prints it: lines that end with X'0A'. *wanted is

@@ -2,8 +2,8 @@
 
 What it prints for a script of conformance/scripts or a random one, with a WHERE after each request for areas or a cell, is accepted with each of
 its placements, and never refused; so is what it prints for a random script of cell pools, wherever its parts are and in whatever order it takes
-their cells; of random scripts with all forms, at random places, most are accepted and none is refused; what a wrong variant prints is refused, on
-some script; and where a byte is changed outside of an address, it is refused, or not decided where that is possible: at a list, or after a line whose places no answer shows.
+their cells; of random scripts with all forms, at random places, most are accepted and none is refused, and where a byte is changed most are
+refused; what a wrong variant prints is refused, on some script; and where a byte is changed outside of an address, it is refused, or not decided where that is possible: at a list, or after a line whose places no answer shows.
 What no run prints wherever places are is refused after a CPOOL BUILD too: another end of the step, an answer that is missing or doubled, and one
 that its line cannot have.
 A random script has the same bytes for ever.
@@ -113,17 +113,19 @@ def of_cells(program, seed):
 
 
 def of_all_forms(program, seed):
-    """What the judge says of the plain machine's printing of a random script with all forms, at random places."""
+    """What the judge says of the plain machine's printing of a random script with all forms, at random places, and of one with another byte."""
     words = ("--random", str(seed), "--lines", "60", "--profile", "all")
     script = asked(program, subprocess.run([program, *words], capture_output=True, text=True).stdout)
-    return judged(program, script, plain_emulator.run(script, "random", None, seed, "random"))
+    printed = plain_emulator.run(script, "random", None, seed, "random")
+    return judged(program, script, printed), judged(program, script, changed(printed, random.Random(seed)))
 
 
-def most_are_accepted(program, count):
-    """Whether no such printing is refused, and how many are accepted: seven of eight or more."""
-    verdicts = [of_all_forms(program, seed) for seed in seeds(count)]
+def most_are_decided(program, count):
+    """Whether no such printing is refused, and how many are accepted: 19 of 20 or more. Of the changed ones three of four or more are refused."""
+    verdicts, of_changed = zip(*(of_all_forms(program, seed) for seed in seeds(count)))
     yield "of all forms: none is refused", all(verdict in (ACCEPTED, UNDECIDED) for verdict in verdicts)
-    yield "of all forms: most are accepted", verdicts.count(ACCEPTED) * 8 >= len(verdicts) * 7
+    yield "of all forms: most are accepted", verdicts.count(ACCEPTED) * 20 >= len(verdicts) * 19
+    yield "of all forms: most that are changed are refused", of_changed.count(REFUSED) * 4 >= len(of_changed) * 3
 
 
 def changed(printed, dice):
@@ -189,7 +191,7 @@ def groups(program):
     name = lambda case: f"{case[0].stem}, {case[1]}"  # noqa: E731
     yield "judged corpus", each(partial(of_corpus, program), cases, name, chunksize=20)
     yield "judged random scripts", each(partial(of_seed, program), seeds(RANDOM), str, chunksize=10)
-    yield "judged scripts of all forms", whole(most_are_accepted, program, ALL_FORMS)
+    yield "judged scripts of all forms", whole(most_are_decided, program, ALL_FORMS)
     yield "judged cells", each(partial(of_cells, program), seeds(POOLS), str, chunksize=5)
     yield "judged changes", each(partial(of_change, program), seeds(CHANGED), str, chunksize=10)
     yield "judged wrong variants", each(partial(of_wrong, program), sorted(plain_emulator.WRONG), str)

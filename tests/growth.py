@@ -24,7 +24,7 @@ MOST = 1.5
 KNOWN = {
     # CPOOL GET and FREE look at the parts of the pool one by one, up to the one that has the cell.
     "parts": (PLAIN,),
-    # A shortage looks at all areas of the step, for those who have the storage.
+    # A shortage looks at each area that still has storage: at most 512 in a page, however long the script is.
     "areas, at shortages": ("--explain", "--json --explain"),
 }
 # The most memory of a run of the longest script, in bytes: no view keeps the script.

@@ -273,6 +273,9 @@ def lines(program):
         for path in sorted(TOP.glob(pattern)):
             ran = subprocess.run([program, "--json", "--explain", "--leaks", path], capture_output=True, text=True, timeout=600)
             yield from map(json.loads, ran.stdout.splitlines())
+    for words in ((), ("--most", "2")):
+        ran = subprocess.run([program, "--schedules", "--json", *words, TOP / "examples/race.job"], capture_output=True, text=True, timeout=600)
+        yield from map(json.loads, ran.stdout.splitlines())
 
 
 def schema_results(program):

@@ -398,6 +398,7 @@ static int pools_and_tasks(void) {
 static int text(void) {
     char out[64] = {7};
     size_t wanted = 7;
+    mvs_map_run run = MVS_MAP_RUN_INIT;
     if (line("JOB REGION BELOW=1") != MVS_STATUS_OK || event.ended != MVS_STEP_ABENDED) return 40;
     if (mvs_text(&session, out, 0, &wanted) != MVS_STATUS_TOO_SMALL || wanted != 46 || out[0] != 7) return 41;
     if (mvs_text(&session, out, 45, &wanted) != MVS_STATUS_TOO_SMALL || out[0] != 7) return 42;
@@ -405,12 +406,13 @@ static int text(void) {
     if (memcmp(out, "STEP ENDED RC 8\n", 16) != 0) return 44;
     if (line("JOB NO SUCH") != MVS_STATUS_SCRIPT_FAULT || event.kind != MVS_EVENT_FAULT || event.code != 3) return 45;
     if (line("JOB REGION BELOW=1") != MVS_STATUS_OVER || event.kind != MVS_EVENT_FAULT || mvs_end(&session, &event) != MVS_STATUS_OVER) return 46;
+    if (mvs_map(&session, 0, &run) != MVS_STATUS_OK || run.length != 4096) return 52;
     mvs_free(&session);
     mvs_free(&session);
     if (mvs_new(&session, MVS_PLACE_LOW) != MVS_STATUS_OK || line("JOB\n") != MVS_STATUS_SCRIPT_FAULT || event.code != 2) return 47;
     if (mvs_new(&session, MVS_PLACE_LOW) != MVS_STATUS_OK || line("JOB REGION BELOW=1") != MVS_STATUS_OK) return 48;
     if (mvs_end(&session, &event) != MVS_STATUS_OK || event.kind != MVS_EVENT_JOB_ENDED || event.ended != MVS_STEP_CLEAN) return 49;
-    if (mvs_text(&session, out, 64, &wanted) != MVS_STATUS_OK || wanted != 16) return 50;
+    if (mvs_text(&session, out, 64, &wanted) != MVS_STATUS_OK || wanted != 16 || mvs_map(&session, 0, &run) != MVS_STATUS_OK) return 50;
     if (mvs_new(&session, MVS_PLACE_LOW) != MVS_STATUS_OK || mvs_end(&session, &event) != MVS_STATUS_SCRIPT_FAULT) return 51;
     mvs_free(&session);
     return 0;

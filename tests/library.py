@@ -4,6 +4,7 @@ The archive is made by tools/library, which proves the crate again where `rt ci`
 or of valgrind that is not on the machine are not tried.
 """
 
+import functools
 import os
 import re
 import shutil
@@ -225,6 +226,48 @@ def keeps_promises(archive, folder):
     return subprocess.run([program, "1", "2000"], capture_output=True, timeout=600).returncode == 0
 
 
+@functools.cache
+def functions():
+    """The functions of mvs.h that a user calls: those that end in _into are called by others of it."""
+    return re.findall(r"(?m)^(?:MVS_API|static inline) uint32_t (mvs_\w+)(?<!_into)\(", (TOP / "include/mvs.h").read_text())
+
+
+def stack_limits():
+    """The most bytes of stack that a function needs, as docs/EMBEDDING.md says for it or for all others."""
+    rows = re.findall(r"(?m)^\| (.*mvs_.*|All others) \| (\d+) KiB \|$", (TOP / "docs/EMBEDDING.md").read_text())
+    limits = {name: 1024 * int(most) for names, most in rows for name in re.findall(r"mvs_\w+|All others", names)}
+    return {name: limits.get(name, limits["All others"]) for name in functions()}
+
+
+def stack_uses(archive, folder):
+    """The name of a function and the most bytes of stack that its calls needed, for each run of a program."""
+    header = folder / "measured.h"
+    macros = (f"#define {name}(...) MEASURED({name}, __VA_ARGS__)" for name in functions())
+    header.write_text("\n".join(("#include <mvs.h>", f'#include "{TOP / "tests/stack.h"}"', *macros, "")))
+    words = ["gcc", "-std=c99", "-include", header]
+    program = lambda source: compiled(words, TOP / source, archive, folder / f"stack {Path(source).stem}")  # noqa: E731
+    replay, effects = program("examples/c/replay.c"), program("tests/effects.c")
+    scripts = [*EXAMPLES, *sorted((TOP / "tests/scripts").glob("*.job"))]
+    runs = [(words, path) for path in scripts for words in ([replay, "lines"], [replay, "whole"], [effects])]
+    runs += [([program("tests/library.c")], os.devnull)]
+    runs += [([program(f"tests/{name}.c"), "1", "100"], os.devnull) for name in ("differential", "fuzz")]
+    for words, path in runs:
+        ran = subprocess.run(words, stdin=open(path), stdout=subprocess.DEVNULL, stderr=subprocess.PIPE, text=True, timeout=600)
+        yield from ((name, int(used)) for name, used in re.findall(r"(?m)^(mvs_\w+) (\d+)$", ran.stderr))
+
+
+def needs_stack(archive, folder):
+    """Whether each function is called, and needs no more stack than docs/EMBEDDING.md says."""
+    if not shutil.which("gcc"):
+        yield from lacking("gcc", [f"stack, {name}" for name in functions()])
+        return
+    most = dict.fromkeys(functions(), 0)
+    for name, used in stack_uses(archive, folder):
+        most[name] = max(most[name], used)
+    for name, limit in stack_limits().items():
+        yield f"stack, {name}", 0 < most[name] <= limit
+
+
 def has_no_data(archive):
     """Whether the archive has no data that calls could share: nothing that can be written but one byte, which nothing writes."""
     listed = subprocess.run(["nm", archive], capture_output=True, text=True, check=True).stdout
@@ -257,4 +300,5 @@ def results():
         found.append(("values and lines", agrees(archive, folder)))
         found.append(("random calls", keeps_promises(archive, folder)))
         found.append(("hidden in a plugin", is_hidden(archive, folder)))
+        found += needs_stack(archive, folder)
         return [*found, *shared(folder), *on_s390(archive, folder), *in_python(folder), *by_cargo(folder)]

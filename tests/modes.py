@@ -50,16 +50,18 @@ APART = (
     "--assemble --json",
     "--blank --strict",
     "--json --page",
-    "--page --leaks",
     "--check --leaks",
     "--page --interactive",
     "--with FILE",
     "--with FILE --json",
     "--with FILE --check",
+    "--page --with FILE --strict",
+    "--page --with-schedule 1",
+    "--schedule 1 --with-schedule 1",
     "--open",
     "--open --json",
 )
-TOGETHER = ("--json --explain", "--page --explain", "--strict --explain", "--leaks --explain", "--json --leaks", "--json --leaks --explain --strict", "--leaks --strict --place high", "--leaks --explain --strict --color never", "--json --strict", "--json --explain --strict", "--strict --place high", "--explain --color never", "--check --place low", "--check --hide --format tap --place low", "--interactive --color never", "--interactive --explain", "--interactive --strict", "--interactive --explain --strict --color always", "--interactive --leaks --explain", "--interactive --json --explain --strict")
+TOGETHER = ("--json --explain", "--page --explain", "--page --strict", "--page --leaks", "--page --leaks --strict", "--strict --explain", "--leaks --explain", "--json --leaks", "--json --leaks --explain --strict", "--leaks --strict --place high", "--leaks --explain --strict --color never", "--json --strict", "--json --explain --strict", "--strict --place high", "--explain --color never", "--check --place low", "--check --hide --format tap --place low", "--interactive --color never", "--interactive --explain", "--interactive --strict", "--interactive --explain --strict --color always", "--interactive --leaks --explain", "--interactive --json --explain --strict")
 
 
 class Modes:

@@ -79,10 +79,10 @@ def rendered(page):
 
 
 def scripts_are_shown(root):
-    """Whether each line of a script or of its output in docs/SCRIPT.md is in a manual page as it is there."""
+    """Whether each line of a script or of its output in docs/SCRIPT.md is in one of the two manual pages made of it, as it is there."""
     blocks = (TOP / "docs/SCRIPT.md").read_text().split("```")[1::2]
     lines = {line.strip() for block in blocks for line in block.splitlines() if not line.startswith("mvsjob ")}
-    return lines <= shown(root / "share/man/man5/mvsjob-script.5") | {""}
+    return lines <= shown(root / "share/man/man5/mvsjob-script.5") | shown(root / "share/man/man1/mvsjob.1") | {""}
 
 
 def options(text):

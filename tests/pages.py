@@ -25,10 +25,6 @@ RANDOM_SCRIPTS = 200
 OPENS, STEPS, OPENS_LARGE = 12, 4, 4
 
 
-# The lines of `--explain` about the history of the storage, which a page does not have.
-OF_HISTORY = re.compile(r"\* (.*, obtained by \S+ in line \d+(, .*)?\.|Held( (below|above) 16 MB)?: .*|In SP \d+ of \S+: .*|And \d+ more\.|With LOC=ANY it would fit: .*)$")
-
-
 class Reader(HTMLParser):
     """A page without its fixed part: the texts of its `<pre>` without a class, and of each item by its line."""
 
@@ -82,7 +78,7 @@ def shows(program, script):
     plain, page, explained = (called(program, script, *words) for words in ((), ("--page",), ("--explain",)))
     read = Reader(page[0].decode())
     lines = [re.sub(r"[^ -~]", "?", line[:255]) for line in script.decode("latin-1").removesuffix("\n").split("\n")]
-    words = "".join(line[2:] + "\n" for line in explained[0].decode().splitlines() if line.startswith("* ") and not OF_HISTORY.match(line))
+    words = "".join(line[2:] + "\n" for line in explained[0].decode().splitlines() if line.startswith("* "))
     explained_words = "".join(item["words"] for item in read.items.values() if item["class"] not in (None, "js"))
     return (
         read.printed.encode() == plain[0]

@@ -1,3 +1,4 @@
+pub mod Asked
 pub mod Marking
 pub mod Ranking
 pub mod Tallying

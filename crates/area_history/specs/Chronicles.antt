@@ -1,6 +1,8 @@
 -- What is kept of the step that runs, for its history, and what is done with a line.
 use Rattle.std.specs.Prelude.{◌≡◌, ℕ, List, [], ◌++◌, length, Option, is_some, if◌then◌else◌}
 use Rattle.mvs_model.specs.declared.line.Line.{Line}
+use Rattle.mvs_model.specs.declared.line.SourceRequest.{SourceRequest}
+use Rattle.mvs_model.specs.declared.line.Statement.TheVariants as says
 use Rattle.mvs_model.specs.declared.name.Name.{Name}
 use Rattle.mvs_model.specs.declared.reason.Reason.{Reason}
 use Rattle.mvs_model.specs.declared.refusal.Refusal.{Refusal}
@@ -8,6 +10,9 @@ use Rattle.mvs_model.specs.declared.request.Request.{Request}
 use Rattle.mvs_model.specs.Answers.{Event}
 use Rattle.mvs_model.specs.Job.{JobValue}
 use Rattle.mvs_model.specs.Reasons.{Explains}
+use Rattle.mvs_job.specs.declared.walk.LineEvent.{LineEvent}
+use Rattle.mvs_job.specs.declared.walk.LineEvent.TheVariants as line_event
+use Rattle.mvs_job.specs.LineEvents.{KeepsRequest}
 use Rattle.area_history.specs.declared.chronicle.Chronicle.{Chronicle}
 use Rattle.area_history.specs.Anywhere.{IsAnywhere}
 use Rattle.area_history.specs.Histories.{History, events_by, found_for, found_in, no_history}
@@ -29,6 +34,11 @@ pub record HearsHistory (old : Chronicle) (job : JobValue) (t : Name) (request :
   pub any : Option ℕ
   pub anywhere : IsAnywhere job.state t request reason any
   pub found : found_in new.found ≡ found_for (history_of old) job request reason any
+
+-- The machine was asked this for a request that had this result, if its task was active and all its names were set.
+abbrev pub ResolvesAt : JobValue → SourceRequest → Request → LineEvent → Type 0
+ResolvesAt job a asked (line_event.Answered t answer) = KeepsRequest job (says.Request a) answer asked
+ResolvesAt job a asked _ = Unit {0}
 
 -- It keeps what the line with this number did, which says this and has these events.
 pub record IsKept (old : Chronicle) (number : ℕ) (read : Line) (events : List Event) (after : Option JobValue) (new : Chronicle) : Type 0 where

@@ -60,10 +60,7 @@ impl<T: Copy> Values<T> {
         if len <= self.items.len() {
             return Ok(());
         }
-        match self.items.resize(len, filler) {
-            Ok(()) => Ok(()),
-            Err(_) => Err(OutOfMemory),
-        }
+        self.items.resize(len, filler).map_err(|_| OutOfMemory)
     }
 
     // Returns the value of a number.

@@ -7,8 +7,8 @@ ghost use Rattle.mvs_model.specs.Reasons.{released};
 ghost use Rattle.mvs_job.specs.Observing.{LeftFor};
 ghost use Rattle.mvs_model.specs.State.{State};
 ghost use Rattle.mvs_model.specs.declared.name.Name.{Name as TaskName};
-ghost use Rattle.mvs_job.specs.LineEvents.{IsAvailable, WalkValue, events_of_line};
-ghost use Rattle.area_history.specs.Chronicles.{HearsHistory, IsHistory, IsKept, history_of};
+ghost use Rattle.mvs_job.specs.LineEvents.{HasRequest, IsAvailable, Resolves, WalkValue, events_of_line};
+ghost use Rattle.area_history.specs.Chronicles.{HearsHistory, IsHistory, IsKept, ResolvesAt, history_of};
 ghost use Rattle.area_history.specs.Histories.{all_ended, all_released, changed_by, emptied_by, ended_tasks, ended_with, ends_by, events_by, found_for, found_in, granted_changes, no_history, nothing_found, released_by, stays_in, stays_of};
 ghost use Rattle.area_history.specs.Ledgers.{granted_by};
 ghost use Rattle.area_history.specs.Leaking.{summary};
@@ -34,8 +34,6 @@ use std::alloc::Global;
 /// The history of the step that runs, and what it says of a line.
 #[derive(Drop)]
 pub struct Chronicle {
-    /// Room for a request, which is long.
-    pub(crate) request: Request,
     /// The areas that were obtained.
     pub(crate) areas: AreaHistory,
     /// What lines did to storage that was obtained before.
@@ -86,25 +84,6 @@ fn push_places(
         | Request::Show { .. }
         | Request::Put { .. }
         | Request::Move { .. } => Ok(()),
-    }
-}
-
-// Adds the places that a request released, if its names are set.
-fn push_resolved(
-    events: &mut StorageEvents,
-    line: u32,
-    task: &Name,
-    job: &Job,
-    written: &SourceRequest,
-    request: &mut Request,
-) -> Result<(), OutOfMemory>
-    ensures ok { OnOk result
-        (events.new ≡ events.old ++ all_released line task.now (released_by job.now written.now)) }
-    ensures err { OnErr result (all_released line task.now (released_by job.now written.now) ≢ []) }
-{
-    match job.request_of(written, request) {
-        Some(()) => push_places(events, line, task, request),
-        None => Ok(()),
     }
 }
 
@@ -160,26 +139,25 @@ fn push_ends(
     }
 }
 
-// Adds what a task's request did that was granted, after a number of areas had been obtained.
+// Adds what a task's request did that was granted, after a number of areas had been obtained. It is given as written, and as the
+// machine was asked, where it sets no name.
 fn push_changed(
     events: &mut StorageEvents,
-    request: &mut Request,
     line: &LineOf<'_>,
     areas: usize,
     written: &SourceRequest,
+    request: &Request,
 ) -> Result<(), OutOfMemory>
-    ensures ok { OnOk result
-        (events.new ≡ events.old ++ changed_by line.now.number line.now.task.now line.now.job.now areas written.now) }
-    ensures err { OnErr result
-        (changed_by line.now.number line.now.task.now line.now.job.now areas written.now ≢ []) }
+    ensures ok { OnOk result (Resolves line.now.job.now written.now request.now
+        → events.new ≡ events.old ++ changed_by line.now.number line.now.task.now line.now.job.now areas written.now) }
+    ensures err { OnErr result (Resolves line.now.job.now written.now request.now
+        → changed_by line.now.number line.now.task.now line.now.job.now areas written.now ≢ []) }
 {
     let LineOf { number, task, job } = *line;
     match written {
         SourceRequest::Release { .. }
         | SourceRequest::ReleaseArea { .. }
-        | SourceRequest::ReleaseList { .. } => {
-            push_resolved(events, number, task, job, written, request)
-        }
+        | SourceRequest::ReleaseList { .. } => push_places(events, number, task, request),
         SourceRequest::ReleaseWhole {
             number: subpool,
             ..
@@ -210,21 +188,23 @@ fn push_changed(
 // Adds this, if the line was granted.
 fn push_granted_changes(
     events: &mut StorageEvents,
-    request: &mut Request,
     line: &LineOf<'_>,
     areas: usize,
     written: &SourceRequest,
+    request: &Request,
     line_event: &LineEvent,
 ) -> Result<(), OutOfMemory>
     ensures ok { OnOk result ((number : ℕ) (walk : WalkValue) → IsAvailable walk line_event.now
+        → ResolvesAt line.now.job.now written.now request.now line_event.now
         → events.new ≡ events.old ++ granted_changes line.now.number line.now.task.now line.now.job.now areas written.now (events_of_line number walk line_event.now)) }
     ensures err { OnErr result ((number : ℕ) (walk : WalkValue) → IsAvailable walk line_event.now
+        → ResolvesAt line.now.job.now written.now request.now line_event.now
         → granted_changes line.now.number line.now.task.now line.now.job.now areas written.now (events_of_line number walk line_event.now) ≢ []) }
 {
     if !reports_grant(line_event) {
         return Ok(());
     }
-    push_changed(events, request, line, areas, written)
+    push_changed(events, line, areas, written, request)
 }
 
 // Adds the ends of the tasks that ended with a line.
@@ -251,19 +231,20 @@ fn push_line_ends(
 // Adds what a line did, by what was read of it.
 fn push_events(
     events: &mut StorageEvents,
-    request: &mut Request,
     line: u32,
-    read: &Line,
     areas: usize,
     at: Outcome<'_>,
 ) -> Result<(), OutOfMemory>
     requires { IsAvailable at.walk.now at.line_event.now }
-    ensures ok { OnOk result
-        (events.new ≡ events.old ++ events_by line read.now (events_of_line line at.entry.walk.now at.entry.line_event.now) at.entry.walk.now.step areas) }
-    ensures err { OnErr result
-        (events_by line read.now (events_of_line line at.entry.walk.now at.entry.line_event.now) at.entry.walk.now.step areas ≢ []) }
+    ensures ok { OnOk result (HasRequest at.entry.walk.now at.entry.line_event.now
+        → events.new ≡ events.old ++ events_by line at.entry.walk.now.read (events_of_line line at.entry.walk.now at.entry.line_event.now) at.entry.walk.now.step areas) }
+    ensures err { OnErr result (HasRequest at.entry.walk.now at.entry.line_event.now
+        → events_by line at.entry.walk.now.read (events_of_line line at.entry.walk.now at.entry.line_event.now) at.entry.walk.now.step areas ≢ []) }
 {
-    let Line::Statement(task, Statement::Request(written)) = read else {
+    let Line::Statement(task, statement) = at.walk.read() else {
+        return Ok(());
+    };
+    let Statement::Request(written) = statement else {
         return Ok(());
     };
     let Some(job) = at.walk.job() else {
@@ -274,7 +255,8 @@ fn push_events(
         task,
         job,
     };
-    push_granted_changes(events, request, &line_of, areas, written, at.line_event)?;
+    let request = at.walk.last_request();
+    push_granted_changes(events, &line_of, areas, written, request, at.line_event)?;
     push_line_ends(events, line, at.walk, at.line_event)
 }
 
@@ -327,11 +309,10 @@ fn stays_in(areas: &mut AreaHistory, ended: EndedTaskList, job: &Job) -> Leaks
 
 impl Chronicle {
     /// Makes the history before the first step. It allocates no memory.
-    pub(crate) fn new(alloc: Global) -> Chronicle
+    pub fn new(alloc: Global) -> Chronicle
         ensures { IsHistory result no_history }
     {
         Chronicle {
-            request: Request::Return,
             areas: AreaHistory::new(alloc),
             events: StorageEvents::new(alloc),
             found: Findings::none(),
@@ -339,11 +320,18 @@ impl Chronicle {
     }
 
     /// Forgets what it found, before the next line.
-    pub(crate) fn begin_line(&mut self)
+    pub fn begin_line(&mut self)
         ensures found { found_in self.new.found ≡ nothing_found }
         ensures same { history_of self.new ≡ history_of self.old }
     {
         self.found.clear();
+    }
+
+    /// Returns what it found of the line.
+    pub fn found(&self) -> &Findings
+        ensures { result.now ≡ self.now.found }
+    {
+        &self.found
     }
 
     // Finds what the history says of a reason. The length is the one that fits with LOC=ANY, if one does.
@@ -365,7 +353,7 @@ impl Chronicle {
     }
 
     /// Observes that a request is refused.
-    pub(crate) fn refused(
+    pub fn refused(
         &mut self,
         job: &Job,
         task: &Name,
@@ -398,7 +386,7 @@ impl Chronicle {
     }
 
     /// Finds which areas of the tasks that a line ended are still held after it. A line that ended no task costs nothing.
-    pub(crate) fn settle(&mut self, walk: &Walk, line_event: &LineEvent)
+    pub fn settle(&mut self, walk: &Walk, line_event: &LineEvent)
         requires { IsAvailable walk.now line_event.now }
         ensures stays { (number : ℕ) → self.new.found.stays
             ≡ stays_of (history_of self.old) walk.now.step (ended_tasks (events_of_line number walk.now line_event.now)) }
@@ -421,20 +409,20 @@ impl Chronicle {
         self.events.clear();
     }
 
-    /// Keeps what a line did.
-    pub(crate) fn keep(
+    /// Keeps what a line did. The walk still has the request of the line.
+    pub fn keep(
         &mut self,
         number: u32,
         walk: &Walk,
         line_event: &LineEvent,
     ) -> Result<(), OutOfMemory>
         requires { IsAvailable walk.now line_event.now }
-        ensures ok { OnOk result
-            (IsKept self.old number walk.now.read (events_of_line number walk.now line_event.now)
+        ensures ok { OnOk result (HasRequest walk.now line_event.now
+            → IsKept self.old number walk.now.read (events_of_line number walk.now line_event.now)
             walk.now.step self.new) }
         ensures found { self.new.found ≡ self.old.found }
-        ensures err { OnErr result
-            ((granted_by number walk.now.read (events_of_line number walk.now line_event.now) walk.now.step ≢ [])
+        ensures err { OnErr result (HasRequest walk.now line_event.now
+            → (granted_by number walk.now.read (events_of_line number walk.now line_event.now) walk.now.step ≢ [])
             ⊎ (events_by number walk.now.read (events_of_line number walk.now line_event.now) walk.now.step (length self.old.areas) ≢ [])) }
     {
         if let LineEvent::StepBegan { .. } = line_event {
@@ -445,9 +433,7 @@ impl Chronicle {
         push_granted(&mut self.areas, number, walk.read(), walk, line_event)?;
         push_events(
             &mut self.events,
-            &mut self.request,
             number,
-            walk.read(),
             areas,
             Outcome { walk, line_event },
         )

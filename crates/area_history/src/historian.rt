@@ -86,15 +86,11 @@ impl<'a, C: Consumer, F: ReportFormat> Consumer for Historian<'a, C, F> {
         line_event: &LineEvent,
     ) -> Result<(), Stop> {
         self.chronicle.settle(walk, line_event);
-        let Ok(()) = self.chronicle.keep(line_number, walk, line_event) else {
-            return Err(Stop::Memory);
-        };
+        self.chronicle.keep(line_number, walk, line_event)?;
         self.consumer
             .entry(writer, line_number, line, walk, line_event)?;
-        match self.format.print_findings(writer, &self.chronicle.found) {
-            Ok(()) => Ok(()),
-            Err(_) => Err(Stop::Write),
-        }
+        self.format.print_findings(writer, &self.chronicle.found)?;
+        Ok(())
     }
 
     fn end<W: Write>(

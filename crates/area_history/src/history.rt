@@ -98,9 +98,7 @@ impl AreaHistory {
         ensures { OnOk result (self.new ≡ self.old ++ grant.now ∷ []) }
     {
         self.marks.grow(grant.place, false)?;
-        let Ok(()) = self.grants.push(*grant) else {
-            return Err(OutOfMemory);
-        };
+        self.grants.push(*grant).map_err(|_| OutOfMemory)?;
         Ok(())
     }
 

@@ -53,10 +53,7 @@ fn area_of(grants: &[AreaGrant], number: u32) -> Option<AreaGrant>
     if number == 0 {
         return None;
     }
-    match grants.get(number as usize - 1) {
-        Some(grant) => Some(*grant),
-        None => None,
-    }
+    grants.get(number as usize - 1).copied()
 }
 
 impl LastAreas {
@@ -211,10 +208,7 @@ impl LastAreas {
         if !self.is_visible(number, place) {
             return Ok(());
         }
-        match kept.push(number) {
-            Ok(()) => Ok(()),
-            Err(_) => Err(OutOfMemory),
-        }
+        kept.push(number).map_err(|_| OutOfMemory)
     }
 
     // Returns the numbers of the areas that have a doubleword which no later one has.

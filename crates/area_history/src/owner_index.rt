@@ -94,10 +94,7 @@ impl OwnerIndex {
     fn first_from(&self, least: u128) -> Option<u128>
         ensures { IsFirstCode self.now least result }
     {
-        match self.codes.range(least..).next() {
-            Some(code) => Some(*code),
-            None => None,
-        }
+        self.codes.range(least..).next().copied()
     }
 
     // Returns the number of the first change, from one on, that concerns a subpool, or a number before it.

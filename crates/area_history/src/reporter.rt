@@ -155,9 +155,7 @@ impl<'a, C: Consumer, F: ReportFormat> Consumer for Reporter<'a, C, F> {
         walk: &Walk,
         line_event: &LineEvent,
     ) -> Result<(), Stop> {
-        let Ok(()) = self.account.keep(line_number, walk, line_event) else {
-            return Err(Stop::Memory);
-        };
+        self.account.keep(line_number, walk, line_event)?;
         if !ends_step(line_event) || !self.account.found.is_some() {
             return self
                 .consumer
@@ -172,10 +170,8 @@ impl<'a, C: Consumer, F: ReportFormat> Consumer for Reporter<'a, C, F> {
         };
         let text = text.into_inner();
         self.has_leaked = true;
-        match print_with_report(writer, &text, &self.format, &self.account.found) {
-            Ok(()) => Ok(()),
-            Err(_) => Err(Stop::Write),
-        }
+        print_with_report(writer, &text, &self.format, &self.account.found)?;
+        Ok(())
     }
 
     fn end<W: Write>(

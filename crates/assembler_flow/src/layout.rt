@@ -112,10 +112,8 @@ impl Layout {
         if let Some(place) = self.labels.get(text) {
             return Some(*place);
         }
-        match text.parse::<u32>() {
-            Ok(number) => self.numbers.get(&number).copied(),
-            Err(_) => None,
-        }
+        let number = text.parse::<u32>().ok()?;
+        self.numbers.get(&number).copied()
     }
 
     /// Returns the target of a branch to a label, if the source has it.

@@ -75,18 +75,13 @@ impl MacroOperands {
 
     /// Returns the operand of a key, if there is one.
     pub fn get(&self, key: &str) -> Option<&str> {
-        match self.keyed.get(key) {
-            Some(value) => Some(value.as_str()),
-            None => None,
-        }
+        self.keyed.get(key).map(|value| value.as_str())
     }
 
     /// Returns the operand of a key, or why the request is not converted if there is none.
     pub fn required(&self, key: &str) -> Result<&str, Unsaid> {
-        match self.get(key) {
-            Some(value) => Ok(value),
-            None => Err(Unsaid::of(self.alloc, OpenCause::Missing, key)),
-        }
+        self.get(key)
+            .ok_or_else(|| Unsaid::of(self.alloc, OpenCause::Missing, key))
     }
 
     /// Returns the operand at a place of those without a key, an empty text if there is none.

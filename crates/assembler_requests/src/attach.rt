@@ -102,10 +102,8 @@ impl<'a> MacroRequest<'a> {
     // Returns the name of the program at the address of a key.
     fn program_at(self, key: &str, address: &'a str) -> Result<&'a str, Unsaid> {
         let symbol = self.known.symbol_at(key, address)?;
-        match self.name_at(symbol) {
-            Some(name) => Ok(name),
-            None => Err(self.refusal(OpenCause::NoWord, key, address)),
-        }
+        self.name_at(symbol)
+            .ok_or_else(|| self.refusal(OpenCause::NoWord, key, address))
     }
 
     /// Returns the name of the program that an operand means, which is written or is at an address.

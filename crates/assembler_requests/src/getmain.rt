@@ -95,10 +95,9 @@ impl<'a> MacroRequest<'a> {
     // Returns the greatest and the least length of LV.
     fn lengths(self) -> Result<(u32, u32), Unsaid> {
         let lengths = self.operands.required("LV")?;
-        match self.known.pair("LV", lengths)? {
-            Some(pair) => Ok(pair),
-            None => Err(self.refusal(OpenCause::NoNumber, "LV", lengths)),
-        }
+        self.known
+            .pair("LV", lengths)?
+            .ok_or_else(|| self.refusal(OpenCause::NoNumber, "LV", lengths))
     }
 
     // Converts a request for an area of some length whose address comes in register 1.

@@ -88,10 +88,10 @@ impl<'a> SourceWalk<'a> {
 
     // Counts the request at a place, and returns how often it was converted, this time among them.
     fn count(&mut self, place: usize) -> Result<u32, AllocError> {
-        let time = match self.times.get(&place) {
-            Some(time) => time.saturating_add(1),
-            None => 1,
-        };
+        let time = self
+            .times
+            .get(&place)
+            .map_or(1, |time| time.saturating_add(1));
         self.times.insert(place, time)?;
         Ok(time)
     }
@@ -120,10 +120,9 @@ impl<'a> SourceWalk<'a> {
             Some(around) => Some(around.label.as_str()),
             None => self.frames.in_loop(),
         };
-        match label {
-            Some(label) => Ok(Some(String::from_str(self.source.alloc, label)?)),
-            None => Ok(None),
-        }
+        label
+            .map(|label| String::from_str(self.source.alloc, label))
+            .transpose()
     }
 
     // Appends a task that was attached, whose statements come later, or continues with it.
@@ -295,10 +294,10 @@ impl<'a> SourceWalk<'a> {
                 return Ok(true);
             }
         }
-        let times = match self.backs.get(&to) {
-            Some(times) => times.saturating_add(1),
-            None => 1,
-        };
+        let times = self
+            .backs
+            .get(&to)
+            .map_or(1, |times| times.saturating_add(1));
         self.backs.insert(to, times)?;
         Ok(times > MOST_BACKS)
     }
@@ -336,10 +335,8 @@ impl<'a> SourceWalk<'a> {
         let Some(Attached { task, program }) = self.waiting.pop_front() else {
             return Ok(false);
         };
-        self.at = match self.source.sections.start_of(&program) {
-            Some(start) => start,
-            None => self.source.statements.len(),
-        };
+        let end = self.source.statements.len();
+        self.at = self.source.sections.start_of(&program).unwrap_or(end);
         self.task = task;
         self.program = program;
         self.held.leave_registers();
@@ -448,10 +445,10 @@ impl<'a> SourceWalk<'a> {
             ),
             None => return Ok(()),
         };
-        match statement {
-            Some(statement) => self.mark(statement, mark),
-            None => Ok(()),
-        }
+        let Some(statement) = statement else {
+            return Ok(());
+        };
+        self.mark(statement, mark)
     }
 }
 

@@ -118,10 +118,11 @@ impl Way {
         loops: &Loops,
         choices: &Choices,
     ) -> Result<Way, ConversionRefusal> {
-        let path = match &choices.path {
-            Some(labels) => Some(waypoints_of(alloc, layout, labels)?),
-            None => None,
-        };
+        let path = choices
+            .path
+            .as_ref()
+            .map(|labels| waypoints_of(alloc, layout, labels))
+            .transpose()?;
         let mut rounds = BTreeMap::new(alloc);
         for repeat in choices.repeats.iter() {
             let end = end_of_loop(alloc, layout, loops, &repeat.label)?;

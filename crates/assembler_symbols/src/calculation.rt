@@ -294,8 +294,6 @@ pub fn value_of(
 
 /// Returns the number that an expression is, if it is one that is known. It fails if memory is exhausted.
 pub fn number_of(alloc: Global, symbols: &Symbols, text: &str) -> Result<Option<i64>, AllocError> {
-    Ok(match value_of(alloc, symbols, None, text)? {
-        Some(value) => value.number(),
-        None => None,
-    })
+    let value = value_of(alloc, symbols, None, text)?;
+    Ok(value.and_then(|value| value.number()))
 }

@@ -158,10 +158,10 @@ impl<'a> Constant<'a> {
         };
         let mut numbers = Vec::new(alloc);
         if self.kind == 'X' {
-            match u32::from_str_radix(text, 16) {
-                Ok(number) => numbers.push(i64::from(number))?,
-                Err(_) => return Ok(None),
-            }
+            let Ok(number) = u32::from_str_radix(text, 16) else {
+                return Ok(None);
+            };
+            numbers.push(i64::from(number))?;
             return Ok(Some(numbers));
         }
         for part in separated(alloc, text)? {
@@ -170,10 +170,10 @@ impl<'a> Constant<'a> {
                 'A' | 'Y' => number_of(alloc, symbols, &part)?,
                 _ => None,
             };
-            match number {
-                Some(number) => numbers.push(number)?,
-                None => return Ok(None),
-            }
+            let Some(number) = number else {
+                return Ok(None);
+            };
+            numbers.push(number)?;
         }
         Ok(Some(numbers))
     }

@@ -97,14 +97,9 @@ impl<'a> KnownValues<'a> {
 
     // Returns the number in a register, or why it is not known.
     fn number_in(self, register: u8, key: &str, text: &str) -> Result<u32, Unsaid> {
-        let number = match self.held_number(register) {
-            Some(number) => u32::try_from(number).ok(),
-            None => None,
-        };
-        match number {
-            Some(number) => Ok(number),
-            None => Err(self.refusal_of(register, key, text)),
-        }
+        self.held_number(register)
+            .and_then(|number| u32::try_from(number).ok())
+            .ok_or_else(|| self.refusal_of(register, key, text))
     }
 
     /// Returns the number that an operand is, or why it is none.
@@ -112,14 +107,9 @@ impl<'a> KnownValues<'a> {
         if let Some(register) = in_register(self.alloc, self.symbols, text)? {
             return self.number_in(register, key, text);
         }
-        let number = match number_of(self.alloc, self.symbols, text)? {
-            Some(number) => u32::try_from(number).ok(),
-            None => None,
-        };
-        match number {
-            Some(number) => Ok(number),
-            None => Err(self.refusal(OpenCause::NoNumber, key, text)),
-        }
+        number_of(self.alloc, self.symbols, text)?
+            .and_then(|number| u32::try_from(number).ok())
+            .ok_or_else(|| self.refusal(OpenCause::NoNumber, key, text))
     }
 
     // Returns the two numbers that some parts are, if there are two.
@@ -151,10 +141,9 @@ impl<'a> KnownValues<'a> {
     /// Returns the symbol at an address, as it is written or in a register, or why it is not known.
     pub fn symbol_at(self, key: &str, text: &'a str) -> Result<&'a str, Unsaid> {
         if let Some(register) = in_register(self.alloc, self.symbols, text)? {
-            return match self.symbol_in(register) {
-                Some(symbol) => Ok(symbol),
-                None => Err(self.refusal_of(register, key, text)),
-            };
+            return self
+                .symbol_in(register)
+                .ok_or_else(|| self.refusal_of(register, key, text));
         }
         if is_symbol(text) {
             return Ok(text);
@@ -183,10 +172,9 @@ impl<'a> KnownValues<'a> {
     /// Returns the area whose address is in the word or the register that an operand names, or why it is not known.
     pub fn area(self, key: &str, text: &'a str) -> Result<&'a str, Unsaid> {
         if let Some(register) = in_register(self.alloc, self.symbols, text)? {
-            return match self.area_in(self.held.register(register)) {
-                Some(area) => Ok(area),
-                None => Err(self.refusal_of(register, key, text)),
-            };
+            return self
+                .area_in(self.held.register(register))
+                .ok_or_else(|| self.refusal_of(register, key, text));
         }
         if is_symbol(text) {
             if let Some(area) = self.area_in_word(text) {
@@ -207,10 +195,11 @@ impl<'a> KnownValues<'a> {
 
     /// Returns the words of a list, or why they are not known. The last word has its first bit set.
     pub fn word_list(self, key: &str, text: &'a str) -> Result<Vec<u32>, Unsaid> {
-        match words_of(self.alloc, self.bytes_at(key, text)?)? {
-            Some(words) => Ok(words),
-            None => Err(self.refusal(OpenCause::NoList, key, text)),
-        }
+        words_of(self.alloc, self.bytes_at(key, text)?)?.ok_or_else(|| self.refusal(
+            OpenCause::NoList,
+            key,
+            text,
+        ))
     }
 
     /// Returns the two words at an address, or why they are not known.
@@ -226,10 +215,11 @@ impl<'a> KnownValues<'a> {
 
     /// Returns the bytes of a list, or why they are not known. Its first byte is the number of those that follow.
     pub fn byte_list(self, key: &str, text: &'a str) -> Result<&'a [u8], Unsaid> {
-        match counted_bytes(self.bytes_at(key, text)?) {
-            Some(list) => Ok(list),
-            None => Err(self.refusal(OpenCause::NoList, key, text)),
-        }
+        counted_bytes(self.bytes_at(key, text)?).ok_or_else(|| self.refusal(
+            OpenCause::NoList,
+            key,
+            text,
+        ))
     }
 
     // Returns the word in which a statement stores a register, if it does.

@@ -106,21 +106,15 @@ fn missing_of<'a>(
     text: Option<&'a [u8]>,
 ) -> Option<Message<'a>> {
     let mut given = GivenOperands::none(row);
-    match given.take_field(text) {
-        Ok(()) => {
-            let keywords = lacking(&given);
-            let count = given.count;
-            Some(Message::Missing(
-                called,
-                Missing {
-                    row,
-                    keywords,
-                    count,
-                },
-            ))
-        }
-        Err(_) => None,
-    }
+    given.take_field(text).ok()?;
+    Some(Message::Missing(
+        called,
+        Missing {
+            row,
+            keywords: lacking(&given),
+            count: given.count,
+        },
+    ))
 }
 
 // Describes an operand in the place of the form.
@@ -197,20 +191,15 @@ fn keyed(text: &[u8], key: &[u8]) -> Option<(usize, usize)> {
         if value.is_some() && front == key {
             return Some((text.len().saturating_sub(rest.len()), operand.len()));
         }
-        match more {
-            None => return None,
-            Some(next) => rest = next,
-        }
+        rest = more?;
     }
 }
 
 // Returns the rule that the operands of a text break.
 fn broken_by(row: Row, text: &[u8]) -> Option<(Message<'static>, Key)> {
     let mut given = GivenOperands::none(row);
-    match given.take_field(Some(text)) {
-        Ok(()) => broken(&given),
-        Err(_) => None,
-    }
+    given.take_field(Some(text)).ok()?;
+    broken(&given)
 }
 
 /// Returns which operands of a line exclude each other.

@@ -28,10 +28,11 @@ fn expected(given: &GivenOperands<'_>) -> Option<Kind> {
     if given.keyed {
         return None;
     }
-    match given.row.positional().get(given.count) {
-        Some(operand) => Some(operand.kind),
-        None => None,
-    }
+    given
+        .row
+        .positional()
+        .get(given.count)
+        .map(|operand| operand.kind)
 }
 
 /// Returns the first operand that a row does not take, of those that a text starts with.
@@ -57,13 +58,8 @@ pub fn first_refused<'a>(row: Row, field: &'a [u8]) -> Option<Refused<'a>>
                 expected: expected(&given),
             });
         }
-        match more {
-            None => return None,
-            Some(next) => {
-                at += operand.len() + 1;
-                rest = next;
-            }
-        }
+        rest = more?;
+        at += operand.len() + 1;
     }
 }
 

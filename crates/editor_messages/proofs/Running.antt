@@ -1,6 +1,6 @@
 -- One step more of a server that runs, or its last one.
 use Rattle.std.proofs.Common.{◌≡◌, ℕ, suc, List, [], ◌++◌, Ok, Err, refl, sym, ap, subst, ◌∙◌, append_assoc, append-nil}
-use Rattle.std.specs.Prelude.{Option, None, Result, IfOk, MatchResult, true, ◌-◌, ◌^◌}
+use Rattle.std.specs.Prelude.{Option, None, Result, IfOk, IsErrAnd, MatchResult, true, ◌-◌, ◌^◌}
 use Rattle.std.specs.Io.KnownBytes.{Appends, Consumes}
 use Rattle.std.proofs.KnownBytes.{Appends-nil, Appends-trans, Consumes-kept, Consumes-nil, Consumes-trans}
 use Rattle.line_text.specs.Writing.{AppendsFront}
@@ -184,3 +184,8 @@ module _ {A : Type 0} (may_answer : A → QueryValue → List ℕ → Type 0) (m
 pub if_ok : {T E : Type 0} {P Q : T → Type 0} (r : Result T E) → ((x : T) → P x → Q x) → IfOk r P → IfOk r Q
 if_ok (Ok x) f p = f x p
 if_ok (Err e) f p = tt
+
+-- what holds of the value that a call returned, if `map_err` returned it
+pub mapped_ok : {T E D : Type 0} (r : Result T E) (s : Result T D) (P : T → Type 0) (Q : E → D → Type 0) (x : T) → IfOk r P → MatchResult r (λ y. s ≡ Ok y) (λ e. IsErrAnd s (Q e)) → s ≡ Ok x → P x
+mapped_ok (Ok y) s P Q x p same is = subst P (let e : Ok y ≡ Ok x = sym same ∙ is in cc) p
+mapped_ok (Err e) s P Q x p never is = absurd (subst (λ z. IsErrAnd z (Q e)) is never)

@@ -38,10 +38,8 @@ fn header_len(bytes: &[u8]) -> Option<usize>
     ensures exact { result ≡ header_len bytes.now }
     ensures within { IfSome result (λ n. n ≤ length bytes.now) }
 {
-    match memmem::find(bytes, HEADER_END) {
-        Some(at) => Some(at + HEADER_END.len()),
-        None => None,
-    }
+    let at = memmem::find(bytes, HEADER_END)?;
+    Some(at + HEADER_END.len())
 }
 
 // Returns the length that a line of a header gives, if it is the field of the length.

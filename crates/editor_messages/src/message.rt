@@ -58,10 +58,7 @@ pub fn text_of<'a>(value: Option<&Value<'a>>) -> Option<&'a str>
     ensures { option_map (λ t. t.now) result
         ≡ text_of (option_map (λ v. value_view v.now) value.entry) }
 {
-    match value {
-        Some(value) => value.as_str(),
-        None => None,
-    }
+    value?.as_str()
 }
 
 // Returns whether parameters are an object or an array, as those of a call.

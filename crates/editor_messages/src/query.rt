@@ -48,10 +48,7 @@ fn member<'v, 'a>(value: Option<&'v Value<'a>>, name: &str) -> Option<&'v Value<
     ensures { option_map (λ v. value_view v.now) result
         ≡ member name.now (option_map (λ v. value_view v.now) value.entry) }
 {
-    match value {
-        Some(value) => value.get(name),
-        None => None,
-    }
+    value?.get(name)
 }
 
 // Returns the number that at most ten digits mean.
@@ -61,23 +58,14 @@ fn number_from(digits: &str) -> Option<usize>
     if digits.len() > 10 {
         return None;
     }
-    match read_number(digits.as_bytes()) {
-        Some(number) => Some(number as usize),
-        None => None,
-    }
+    read_number(digits.as_bytes()).map(|number| number as usize)
 }
 
 // Returns the number that a value is.
 fn number_in(value: Option<&Value<'_>>) -> Option<usize>
     ensures { result ≡ number_in (option_map (λ v. value_view v.now) value.entry) }
 {
-    match value {
-        Some(value) => match value.as_number() {
-            Some(digits) => number_from(digits),
-            None => None,
-        },
-        None => None,
-    }
+    number_from(value?.as_number()?)
 }
 
 // Returns whether a flag holds, as one that is missing.
@@ -94,13 +82,9 @@ fn flag_in(value: Option<&Value<'_>>) -> bool
 fn position_of(value: Option<&Value<'_>>) -> Option<Position>
     ensures { result ≡ position_of (option_map (λ v. value_view v.now) value.entry) }
 {
-    let Some(line) = number_in(member(value, "line")) else {
-        return None;
-    };
-    match number_in(member(value, "character")) {
-        Some(character) => Some(Position { line, character }),
-        None => None,
-    }
+    let line = number_in(member(value, "line"))?;
+    let character = number_in(member(value, "character"))?;
+    Some(Position { line, character })
 }
 
 // Returns the name of the document that parameters are about.
@@ -132,13 +116,9 @@ fn place_of<'a>(params: Option<&Value<'a>>) -> Option<Place<'a>>
         → option_map (λ place. ask place.uri.now place.position) result
         ≡ of_place ask (option_map (λ v. value_view v.now) params.entry) }
 {
-    let Some(uri) = uri_of(params) else {
-        return None;
-    };
-    match position_of(member(params, "position")) {
-        Some(position) => Some(Place { uri, position }),
-        None => None,
-    }
+    let uri = uri_of(params)?;
+    let position = position_of(member(params, "position"))?;
+    Some(Place { uri, position })
 }
 
 // Returns the range in parameters.
@@ -147,17 +127,11 @@ fn range_of<'a>(params: Option<&Value<'a>>) -> Option<Range<'a>>
         → option_map (λ range. ask range.uri.now range.start range.end) result
         ≡ of_range ask (option_map (λ v. value_view v.now) params.entry) }
 {
-    let Some(uri) = uri_of(params) else {
-        return None;
-    };
+    let uri = uri_of(params)?;
     let range = member(params, "range");
-    let Some(start) = position_of(member(range, "start")) else {
-        return None;
-    };
-    match position_of(member(range, "end")) {
-        Some(end) => Some(Range { uri, start, end }),
-        None => None,
-    }
+    let start = position_of(member(range, "start"))?;
+    let end = position_of(member(range, "end"))?;
+    Some(Range { uri, start, end })
 }
 
 // Returns whether references that set a name are requested too.
@@ -176,34 +150,24 @@ impl Method {
         match self {
             Method::Initialize => Some(Query::Initialize),
             Method::Shutdown => Some(Query::Shutdown),
-            Method::DocumentSymbol => match uri_of(params) {
-                Some(uri) => Some(Query::Symbols(uri)),
-                None => None,
-            },
-            Method::InlayHint => match range_of(params) {
-                Some(range) => Some(Query::Hints(range.uri, range.start, range.end)),
-                None => None,
-            },
-            Method::CodeAction => match range_of(params) {
-                Some(range) => Some(Query::Actions(range.uri, range.start, range.end)),
-                None => None,
-            },
-            Method::Hover => match place_of(params) {
-                Some(place) => Some(Query::Hover(place.uri, place.position)),
-                None => None,
-            },
-            Method::Completion => match place_of(params) {
-                Some(place) => Some(Query::Completion(place.uri, place.position)),
-                None => None,
-            },
-            Method::Definition => match place_of(params) {
-                Some(place) => Some(Query::Definition(place.uri, place.position)),
-                None => None,
-            },
-            Method::References => match place_of(params) {
-                Some(place) => Some(Query::References(place.uri, place.position, declares(params))),
-                None => None,
-            },
+            Method::DocumentSymbol => uri_of(params).map(Query::Symbols),
+            Method::InlayHint => {
+                range_of(params).map(|range| Query::Hints(range.uri, range.start, range.end))
+            }
+            Method::CodeAction => {
+                range_of(params).map(|range| Query::Actions(range.uri, range.start, range.end))
+            }
+            Method::Hover => place_of(params).map(|place| Query::Hover(place.uri, place.position)),
+            Method::Completion => {
+                place_of(params).map(|place| Query::Completion(place.uri, place.position))
+            }
+            Method::Definition => {
+                place_of(params).map(|place| Query::Definition(place.uri, place.position))
+            }
+            Method::References => {
+                let place = place_of(params)?;
+                Some(Query::References(place.uri, place.position, declares(params)))
+            }
             Method::Initialized
             | Method::Exit
             | Method::DidOpen
@@ -247,10 +211,7 @@ fn changed_text<'a>(params: Option<&Value<'a>>) -> Option<&'a str>
 
 // Returns the version of a document.
 fn version_of(params: Option<&Value<'_>>) -> Option<i64> {
-    match member(member(params, "textDocument"), "version") {
-        Some(version) => version.as_i64(),
-        None => None,
-    }
+    member(member(params, "textDocument"), "version")?.as_i64()
 }
 
 // Returns the notice of a document with a text.
@@ -283,10 +244,7 @@ impl Method {
                 text_of(member(member(params, "textDocument"), "text")),
             ),
             Method::DidChange => with_text(uri, version, changed_text(params)),
-            Method::DidClose => match uri {
-                Some(uri) => Some(Notice::Closed(uri)),
-                None => None,
-            },
+            Method::DidClose => uri.map(Notice::Closed),
             Method::Initialize
             | Method::Initialized
             | Method::Shutdown

@@ -42,16 +42,11 @@ fn read<R: Read>(
     requires short { length input.old.rest ≤ 33558528 }
     ensures { HasRead R.remaining reader.old reader.new input.old input.new status result }
 {
-    let Ok(count) = reader.read(chunk) else {
-        return Err(Ending::Read);
-    };
+    let count = reader.read(chunk).map_err(|_| Ending::Read)?;
     if count == 0 {
         return Err(Ending::End(status));
     }
-    match input.add(&chunk[..count]) {
-        Ok(()) => Ok(()),
-        Err(_) => Err(Ending::Memory),
-    }
+    input.add(&chunk[..count]).map_err(|_| Ending::Memory)
 }
 
 // Writes what a turn sends, and passes it on.
@@ -64,13 +59,8 @@ fn write<W: Write>(writer: &mut Watched<W>, sent: &[u8]) -> Result<(), Ending>
     if sent.is_empty() {
         return Ok(());
     }
-    let Ok(()) = write_all(writer, sent) else {
-        return Err(Ending::Write);
-    };
-    match writer.flush() {
-        Ok(()) => Ok(()),
-        Err(_) => Err(Ending::Write),
-    }
+    write_all(writer, sent).map_err(|_| Ending::Write)?;
+    writer.flush().map_err(|_| Ending::Write)
 }
 
 // Writes what the turn of a frame sends, and leaves the frame out.
@@ -82,13 +72,9 @@ fn send<W: Write>(
 ) -> Result<(), Ending>
     ensures { HasSent W.contents writer.old writer.new input.old input.new frame sent.now result }
 {
-    match write(writer, sent) {
-        Ok(()) => {
-            input.pass(frame);
-            Ok(())
-        }
-        Err(_) => Err(Ending::Write),
-    }
+    write(writer, sent)?;
+    input.pass(frame);
+    Ok(())
 }
 
 impl<A: Answers> Server<A> {
@@ -104,10 +90,9 @@ impl<A: Answers> Server<A> {
         ensures { HasTaken A.may_answer A.may_lack A.may_notice W.contents writer.old writer.new input.old
             input.new self.old self.new result }
     {
-        match self.turn(input.rest(), frame) {
-            Ok(Turn::Sent(sent)) => send(input, writer, frame, &sent),
-            Ok(Turn::Exit(status)) => Err(Ending::Exit(status)),
-            Err(_) => Err(Ending::Memory),
+        match self.turn(input.rest(), frame).map_err(|_| Ending::Memory)? {
+            Turn::Sent(sent) => send(input, writer, frame, &sent),
+            Turn::Exit(status) => Err(Ending::Exit(status)),
         }
     }
 

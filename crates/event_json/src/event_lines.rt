@@ -58,10 +58,9 @@ impl EventLines {
 
     // Returns the explanation that was found.
     fn explanation(&self) -> Option<Explanation<'_>> {
-        match &self.explained {
-            Some(explained) => Some(explained.explanation()),
-            None => None,
-        }
+        self.explained
+            .as_ref()
+            .map(|explained| explained.explanation())
     }
 }
 
@@ -103,9 +102,7 @@ impl Consumer for EventLines {
         walk: &Walk,
         line_event: &LineEvent,
     ) -> Result<(), Stop> {
-        let Ok(()) = self.explain(line_number, walk, line_event) else {
-            return Err(Stop::Memory);
-        };
+        self.explain(line_number, walk, line_event)?;
         let explanation = self.explanation();
         let line = ScriptLine {
             number: line_number,

@@ -173,10 +173,8 @@ fn write_text<W: Write>(writer: &mut Watched<W>, text: &[u8]) -> Result<(), Stop
     ensures text { Prints W.contents writer.old writer.new result text.now }
     ensures memory { ¬ IsErrOf result Stop.Memory }
 {
-    match write_all(writer, text) {
-        Ok(()) => Ok(()),
-        Err(_) => Err(Stop::Write),
-    }
+    write_all(writer, text)?;
+    Ok(())
 }
 
 /// Writes the events of a line: no line of JSON, one, or two if a step has ended. The walk is the one after the line.
@@ -194,16 +192,18 @@ pub(crate) fn write_line<'a, W: Write>(
 {
     match line_event {
         LineEvent::Nothing => Ok(()),
-        LineEvent::StepBegan { ended, card } => match region_lines(alloc, line, *ended, card) {
-            Ok(lines) => write_text(writer, &lines),
-            Err(_) => Err(Stop::Memory),
-        },
+        LineEvent::StepBegan { ended, card } => {
+            let Ok(lines) = region_lines(alloc, line, *ended, card) else {
+                return Err(Stop::Memory);
+            };
+            write_text(writer, &lines)
+        }
         LineEvent::Answered { task, answer } => {
             let ended = ended_tasks(walk, line_event);
-            match answer_line(alloc, line, walk, task, answer, &ended) {
-                Ok(text) => write_text(writer, &text),
-                Err(_) => Err(Stop::Memory),
-            }
+            let Ok(text) = answer_line(alloc, line, walk, task, answer, &ended) else {
+                return Err(Stop::Memory);
+            };
+            write_text(writer, &text)
         }
         LineEvent::Faulted(fault) => write_text(
             writer,

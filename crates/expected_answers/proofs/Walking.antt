@@ -4,10 +4,8 @@ use Rattle.std.proofs.lemmas.Bool.{eqb-true}
 use Rattle.std.specs.List.{after_first, before_first}
 use Rattle.std.specs.Option.{option_map}
 use Rattle.mvs_model.specs.Lines.{ended_text, lines_of}
-use Rattle.expected_answers.specs.declared.report.Counts.{Counts}
-use Rattle.expected_answers.specs.ExpectedAnswers.{ExpectedAnswer, after_own, after_place, after_prefix, answers_in, expected_answers, expected_at_end, expected_by, expected_in, expected_without, begins_with, end_in, ends_step, got_of, is_missing, is_own, is_right, is_wrong, joined, number_of, numbered, onto, own, own_texts, statement_of, task_of, text_of, trimmed}
+use Rattle.expected_answers.specs.ExpectedAnswers.{ExpectedAnswer, after_own, after_place, after_prefix, answers_in, expected_answers, expected_at_end, expected_by, expected_in, expected_without, begins_with, end_in, ends_step, got_of, is_own, joined, numbered, onto, own, own_texts, statement_of, task_of, text_of, trimmed}
 use Rattle.expected_answers.specs.Blank.{IsPartedAt, arrow, place_of, up_to}
-use Rattle.expected_answers.specs.Reports.{last_line}
 use Rattle.expected_answers.proofs.Cutting.{first_line}
 
 -- ---- the printed lines of a statement
@@ -120,8 +118,7 @@ run_more run statement line text next cut is =
     append_assoc (run ++ statement) (10 ∷ []) left ∙ append_assoc run statement (10 ∷ left)
     ∙ ap (λ s. run ++ (s ++ 10 ∷ left)) is ∙ ap (λ ls. run ++ ended_text (map statement_of ls)) (sym cut)
 
--- ---- counts
-
--- some counts and more answers
-abbrev pub counted : Counts → List ExpectedAnswer → Counts
-counted n answers = record { right = n.right + number_of is_right answers; wrong = n.wrong + number_of is_wrong answers; missing = n.missing + number_of is_missing answers; last = last_line n.last answers }
+-- a text whose first line is of a statement has one
+pub some_own : (number : ℕ) (text : List ℕ) → is_own number (lines_of text) ≡ true → 0 < length text
+some_own number [] is = absurd (let no : false ≡ true = is in cc)
+some_own number (b ∷ text) is = omega arith

@@ -129,6 +129,10 @@ with_one n Wrong line = record n { wrong = n.wrong + 1; last = line }
 with_one n Open line = record n { missing = n.missing + 1; last = line }
 with_one n Empty line = record n { missing = n.missing + 1; last = line }
 
+-- some counts and those of more answers
+abbrev pub counted : Counts → List ExpectedAnswer → Counts
+counted n answers = record { right = n.right + number_of is_right answers; wrong = n.wrong + number_of is_wrong answers; missing = n.missing + number_of is_missing answers; last = last_line n.last answers }
+
 abbrev pub total : Counts → ℕ
 total n = n.right + n.wrong + n.missing
 

@@ -4,7 +4,7 @@ ghost use Rattle.std.specs.Prelude.{◌≡◌, ◌<◌, ◌≤◌, ◌+◌, ◌^
 ghost use Rattle.mvs_model.specs.Lines.{lines_of};
 ghost use Rattle.expected_answers.specs.ExpectedAnswers.{ExpectedAnswer, expected_answers, expected_at_end, end_in, onto, or_nothing, verdict_of};
 
-use crate::lines::{ARROW, end_in, parted_at, trimmed};
+use crate::lines::{end_in, next_line, parted_line, trimmed};
 use crate::printed::{last_line, take_own};
 use job_script::split_once::split_once;
 use std::alloc::{AllocError, Global};
@@ -120,12 +120,12 @@ impl<'a> AnswerPairs<'a> {
         ensures less { OnOk result (length self.new.script.now < length self.old.script.now) }
     {
         let number = self.number;
-        let (line, more) = split_once(self.script, b'\n');
-        let (statement, answers) = parted_at(line, ARROW);
+        let (line, more) = next_line(self.script);
+        let (statement, answers) = parted_line(line);
         let (task, _) = split_once(statement, b' ');
         let mut texts = Vec::new(alloc);
         self.printed = take_own(&mut texts, self.printed, number, task)?;
-        self.script = more.unwrap_or(&[]);
+        self.script = more;
         self.number += 1;
         match answers {
             Some(answers) => Ok(Some(AnswerPair {

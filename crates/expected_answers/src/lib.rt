@@ -15,9 +15,8 @@ mod printed;
 mod report;
 mod shown;
 
-use job_script::split_once::split_once;
 use line_text::write_all;
-use lines::statement_of;
+use lines::{next_line, parted_line, statement_of};
 pub use lines::{ARROW, end_in, parted_at, trimmed};
 use mvs_model::watched::{Failed, Watched};
 pub use printed::{numbered, push_text, without_task};
@@ -32,10 +31,10 @@ pub fn statements(alloc: Global, script: &[u8]) -> Result<Vec<u8>, AllocError>
     let mut run = Vec::new(alloc);
     let mut rest = script;
     'lines: while !rest.is_empty() {
-        let (line, more) = split_once(rest, b'\n');
+        let (line, more) = next_line(rest);
         run.extend_from_slice(statement_of(line))?;
         run.push(b'\n')?;
-        rest = more.unwrap_or(&[]);
+        rest = more;
     }
     run.truncate(script.len());
     Ok(run)
@@ -66,11 +65,11 @@ pub fn write_blank<W: Write>(writer: &mut Watched<W>, script: &[u8]) -> Result<(
 {
     let mut rest = script;
     'lines: while !rest.is_empty() {
-        let (line, more) = split_once(rest, b'\n');
-        let (statement, answers) = parted_at(line, ARROW);
+        let (line, more) = next_line(rest);
+        let (statement, answers) = parted_line(line);
         write_all(writer, statement)?;
         write_all(writer, blank_end(answers.is_some()))?;
-        rest = more.unwrap_or(&[]);
+        rest = more;
     }
     Ok(())
 }

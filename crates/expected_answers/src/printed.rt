@@ -1,23 +1,57 @@
 //! The printed lines of a run, statement by statement.
 
-ghost use Rattle.std.specs.Prelude.{◌≡◌, ◌≢◌, ◌++◌, ◌==◌, [], IfOk, OnOk, codes, decimal, if◌then◌else◌, is_some, length, true};
+ghost use Rattle.std.specs.Prelude.{◌≡◌, ◌++◌, ◌==◌, ◌<◌, ◌∷◌, List, ℕ, IfOk, IfSome, OnOk, codes, decimal, if◌then◌else◌, is_some, length};
 ghost use Rattle.std.specs.Option.{option_map};
 ghost use Rattle.mvs_model.specs.Lines.{lines_of};
 ghost use Rattle.expected_answers.specs.ExpectedAnswers.{begins_with, ends_step, after_own, is_own, joined, last_or, numbered, own_texts, text_of, without_task};
 
-use crate::lines::after_prefix;
-use job_script::split_once::split_once;
+use crate::lines::{after_prefix, next_line};
 use line_text::text::LineText;
 use std::alloc::AllocError;
+use std::marker::Model;
+
+/// The number of a statement, and how the lines begin that are printed with it.
+#[derive(Drop)]
+struct LineNumber {
+    number: u32,
+    /// Its digits and a blank.
+    head: LineText,
+}
+
+impl Model for LineNumber {
+    ghost use Rattle.std.specs.Prelude.{◌≡◌, ◌++◌, codes, decimal, ℕ};
+
+    ghost Value = { ℕ };
+
+    ghost view = { λ n. n.number };
+
+    ghost invariant = { λ n. n.head ≡ decimal n.number ++ codes " " };
+}
+
+impl LineNumber {
+    // Returns a number with its digits.
+    fn new(number: u32) -> LineNumber
+        ensures { result ≡ number }
+    {
+        let mut head = LineText::new();
+        head.push_decimal(number);
+        head.push_str(b" ");
+        LineNumber { number, head }
+    }
+
+    // Returns the text of a printed line after its number, if it has this number.
+    fn text_in<'a>(&self, line: &'a [u8]) -> Option<&'a [u8]>
+        ensures { option_map (λ text. text.now) result ≡ numbered self.now line.now }
+    {
+        after_prefix(line, self.head.as_slice())
+    }
+}
 
 /// Returns the text of a printed line after its number, if it has this number.
 pub fn numbered(line: &[u8], number: u32) -> Option<&[u8]>
     ensures { option_map (λ text. text.now) result ≡ numbered number line.now }
 {
-    let mut head = LineText::new();
-    head.push_decimal(number);
-    head.push_str(b" ");
-    after_prefix(line, head.as_slice())
+    LineNumber::new(number).text_in(line)
 }
 
 // Returns whether a printed line is the end of a step.
@@ -28,24 +62,11 @@ fn ends_step(line: &[u8]) -> bool
 }
 
 // Returns whether the first of some printed lines has this number.
-fn begins_with(printed: &[u8], number: u32) -> bool
-    ensures { result ≡ begins_with number (lines_of printed.now) }
+fn begins_with(printed: &[u8], number: &LineNumber) -> bool
+    ensures { result ≡ begins_with number.now (lines_of printed.now) }
 {
-    let (line, _) = split_once(printed, b'\n');
-    numbered(line, number).is_some()
-}
-
-// Returns whether the first of some printed lines is of the statement with this number. The end of a step is of the REGION statement
-// after it.
-fn is_own(printed: &[u8], number: u32) -> bool
-    ensures own { result ≡ is_own number (lines_of printed.now) }
-    ensures some { result ≡ true → printed.now ≢ [] }
-{
-    let (line, more) = split_once(printed, b'\n');
-    if numbered(line, number).is_some() {
-        return true;
-    }
-    ends_step(line) && begins_with(more.unwrap_or(&[]), number)
+    let (line, _) = next_line(printed);
+    number.text_in(line).is_some()
 }
 
 /// Returns a text without the name of the task of the statement.
@@ -58,14 +79,22 @@ pub fn without_task<'a>(text: &'a [u8], task: &[u8]) -> &'a [u8]
     }
 }
 
-// Returns the text of a printed line, without its number and the task of the statement.
-fn text_of<'a>(line: &'a [u8], number: u32, task: &[u8]) -> &'a [u8]
-    ensures { result.now ≡ text_of number task.now line.now }
+// Returns the text of the first of some printed lines, and the lines after it, if it is of the statement with this number. The end of a
+// step is of the REGION statement after it.
+fn own_line<'a>(printed: &'a [u8], number: &LineNumber, task: &[u8]) -> Option<(&'a [u8], &'a [u8])>
+    ensures own { is_some result ≡ is_own number.now (lines_of printed.now) }
+    ensures line { IfSome result (λ own. (line : List ℕ) × (lines_of printed.now ≡ line ∷ lines_of own.1.now)
+        × (own.0.now ≡ text_of number.now task.now line)) }
+    ensures less { IfSome result (λ own. length own.1.now < length printed.now) }
 {
-    match numbered(line, number) {
-        Some(text) => without_task(text, task),
-        None => line,
+    let (line, more) = next_line(printed);
+    if let Some(text) = number.text_in(line) {
+        return Some((without_task(text, task), more));
     }
+    if ends_step(line) && begins_with(more, number) {
+        return Some((line, more));
+    }
+    None
 }
 
 /// Appends a text to others, after ` / ` if it is not the first.
@@ -86,9 +115,9 @@ pub fn last_line(printed: &[u8]) -> &[u8]
     let mut last = b"nothing".as_slice();
     let mut rest = printed;
     'lines: while !rest.is_empty() {
-        let (line, more) = split_once(rest, b'\n');
+        let (line, more) = next_line(rest);
         last = line;
-        rest = more.unwrap_or(&[]);
+        rest = more;
     }
     last
 }
@@ -105,11 +134,11 @@ pub fn take_own<'a>(
         (texts.new.items ≡ joined texts.old.items (own_texts number task.now (lines_of printed.now))) }
     ensures rest { IfOk result (λ rest. lines_of rest.now ≡ after_own number (lines_of printed.now)) }
 {
+    let own = LineNumber::new(number);
     let mut rest = printed;
-    'own: while is_own(rest, number) {
-        let (line, more) = split_once(rest, b'\n');
-        push_text(texts, text_of(line, number, task))?;
-        rest = more.unwrap_or(&[]);
+    'own: while let Some((text, more)) = own_line(rest, &own, task) {
+        push_text(texts, text)?;
+        rest = more;
     }
     Ok(rest)
 }

@@ -5,7 +5,7 @@ ghost use Rattle.std.specs.Option.{option_map};
 ghost use Rattle.mvs_model.specs.Lines.{lines_of};
 ghost use Rattle.mvs_model.specs.Numbers.{most_script_bytes};
 ghost use Rattle.expected_answers.specs.ExpectedAnswers.{expected_answers, expected_of, verdict_of};
-ghost use Rattle.expected_answers.specs.Reports.{are_right, case_of, cases, cases_from, counts_of, failures, foot, head, junit_begin, junit_case, junit_message, label_of, message_of, name_in, place_of, report_of, right_of, suite_numbers, sum_of, tap_case, tap_line, tap_message, tests, text_case, total, with_one, wrong_message};
+ghost use Rattle.expected_answers.specs.Reports.{are_right, case_of, cases, cases_from, counted, counts_of, failures, foot, head, junit_begin, junit_case, junit_message, label_of, message_of, name_in, place_of, report_of, right_of, suite_numbers, sum_of, tap_case, tap_line, tap_message, tests, text_case, total, with_one, wrong_message};
 
 use crate::expected::{AnswerPair, AnswerPairs, AnswerVerdict};
 use crate::shown::{push_escaped, push_shown, shown_name};
@@ -39,6 +39,14 @@ pub struct Counts {
     pub missing: u32,
     pub last: u32,
 }
+
+/// The counts of no answers.
+const NO_ANSWERS: Counts = Counts {
+    right: 0,
+    wrong: 0,
+    missing: 0,
+    last: 0,
+};
 
 impl Counts {
     // Returns these counts and one more answer.
@@ -350,46 +358,56 @@ fn push_answer(
     }
 }
 
-// Appends the cases of the answers after the first one.
+// Appends the cases of the answers after the first one, of which these are the counts, and returns those of all.
 fn push_rest(
     alloc: Global,
     report: &mut Vec<u8>,
     form: ReportForm,
     name: &[u8],
     answers: AnswerPairs<'_>,
-) -> Result<(), AllocError>
-    requires few { 1 < answers.number }
+    first: Counts,
+) -> Result<Counts, AllocError>
+    requires few { (1 < answers.number) × (total first < answers.number) }
     requires room { answers.number + length answers.script.now < 2 ^ 32 }
-    ensures { OnOk result (report.new.items
+    ensures text { OnOk result (report.new.items
         ≡ report.old.items ++ cases_from form.format form.is_hidden name.now 2 (expected_answers answers.entry.number (lines_of answers.entry.script.now) (lines_of answers.entry.printed.now))) }
+    ensures value { IfOk result (λ counts. counts
+        ≡ counted first (expected_answers answers.entry.number (lines_of answers.entry.script.now) (lines_of answers.entry.printed.now))) }
+    ensures small { IfOk result (λ counts. total counts < 2 ^ 32) }
 {
     let mut answers = answers;
+    let mut counts = first;
     let mut index = 2;
     'answers: while let Some(answer) = answers.next(alloc)? {
         push_answer(alloc, report, form, name, index, &answer)?;
+        counts = counts.with(answer.verdict(), answer.number);
         index += 1;
     }
-    Ok(())
+    Ok(counts)
 }
 
-// Appends the cases of a script.
+// Appends the cases of a script, and returns the counts of its answers.
 fn push_cases(
     alloc: Global,
     report: &mut Vec<u8>,
     form: ReportForm,
     name: &[u8],
     answers: AnswerPairs<'_>,
-) -> Result<(), AllocError>
+) -> Result<Counts, AllocError>
     requires few { 0 < answers.number }
     requires room { answers.number + length answers.script.now < 2 ^ 32 }
-    ensures { OnOk result (report.new.items
+    ensures text { OnOk result (report.new.items
         ≡ report.old.items ++ cases form.format form.is_hidden name.now (expected_answers answers.entry.number (lines_of answers.entry.script.now) (lines_of answers.entry.printed.now))) }
+    ensures value { IfOk result (λ counts. counts
+        ≡ counts_of (expected_answers answers.entry.number (lines_of answers.entry.script.now) (lines_of answers.entry.printed.now))) }
+    ensures small { IfOk result (λ counts. total counts < 2 ^ 32) }
 {
     let mut answers = answers;
     match answers.next(alloc)? {
         Some(answer) => {
             push_answer(alloc, report, form, name, 1, &answer)?;
-            push_rest(alloc, report, form, name, answers)
+            let first = NO_ANSWERS.with(answer.verdict(), answer.number);
+            push_rest(alloc, report, form, name, answers, first)
         }
         None => {
             let none = Case {
@@ -397,30 +415,10 @@ fn push_cases(
                 line: None,
                 message: Some(b"no answers to compare"),
             };
-            push_case(report, form.format, name, none)
+            push_case(report, form.format, name, none)?;
+            Ok(NO_ANSWERS)
         }
     }
-}
-
-// Counts the answers of a script.
-fn count(alloc: Global, answers: AnswerPairs<'_>) -> Result<Counts, AllocError>
-    requires few { 0 < answers.number }
-    requires room { answers.number + length answers.script.now < 2 ^ 32 }
-    ensures value { IfOk result (λ counts. counts
-        ≡ counts_of (expected_answers answers.entry.number (lines_of answers.entry.script.now) (lines_of answers.entry.printed.now))) }
-    ensures small { IfOk result (λ counts. total counts < 2 ^ 32) }
-{
-    let mut answers = answers;
-    let mut counts = Counts {
-        right: 0,
-        wrong: 0,
-        missing: 0,
-        last: 0,
-    };
-    'answers: while let Some(answer) = answers.next(alloc)? {
-        counts = counts.with(answer.verdict(), answer.number);
-    }
-    Ok(counts)
 }
 
 // Appends how many answers are right.
@@ -549,11 +547,12 @@ pub fn report_answers(
     ensures counts { IfOk result (λ report. report.counts ≡ counts_of (expected_of script.now printed.now)) }
 {
     let answers = AnswerPairs::of(script, printed);
-    let counts = count(alloc, answers)?;
     let name = name_in(alloc, form.format, name.as_bytes())?;
+    let mut cases = Vec::new(alloc);
+    let counts = push_cases(alloc, &mut cases, form, &name, answers)?;
     let mut text = Vec::new(alloc);
     push_head(&mut text, form.format, &name, &counts)?;
-    push_cases(alloc, &mut text, form, &name, answers)?;
+    push(&mut text, &cases)?;
     push_foot(&mut text, form.format, &counts)?;
     Ok(Report { text, counts })
 }

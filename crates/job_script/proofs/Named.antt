@@ -1,6 +1,7 @@
 -- A list of names with their places, seen as a finite map.
-use Rattle.std.proofs.Common.{◌≡◌, ℕ, Bool, true, false, List, [], ◌∷◌, Option, Some, None, cond, refl, sym, ap, subst, ◌∙◌}
-use Rattle.std.specs.Prelude.{IfSome}
+use Rattle.std.proofs.Common.{◌≡◌, ℕ, Bool, true, false, List, [], ◌∷◌, Option, Some, None, Result, Ok, Err, cond, refl, sym, ap, subst, ◌∙◌}
+use Rattle.std.specs.Prelude.{IfSome, IsErrAnd, MatchResult}
+use Rattle.std.specs.List.{AllZip}
 use Rattle.std.specs.FinMap as map
 use Rattle.std.specs.FinMap.Entries.{find}
 use Rattle.std.specs.Map.{lookup}
@@ -40,3 +41,15 @@ areas_set names k p are is q r e = at (same_name q k) (sym (map.get-insert name_
 pub area_of : (o : Option PlaceValue) → ((p : PlaceValue) → o ≡ Some p → IsArea p) → IfSome o IsArea
 area_of None h = tt
 area_of (Some p) h = h p refl
+
+-- a call returned this value, if `map_err` returned it
+pub mapped_ok : {T E D : Type 0} (r : Result T E) (s : Result T D) (Q : E → D → Type 0) (x : T) → MatchResult r (λ y. s ≡ Ok y) (λ e. IsErrAnd s (Q e)) → s ≡ Ok x → r ≡ Ok x
+mapped_ok (Ok y) s Q x same is = ap (λ z. Ok z) (let e : Ok y ≡ Ok x = sym same ∙ is in cc)
+mapped_ok (Err e) s Q x never is = absurd (subst (λ z. IsErrAnd z (Q e)) is never)
+
+-- entries that are the same one by one are the same
+pub zip_same : {K X : Type 0} (es ns : List (K × X)) → AllZip (λ p q. (q.0 ≡ p.0) × (q.1 ≡ p.1)) es ns → ns ≡ es
+zip_same [] [] same = refl
+zip_same [] (n ∷ ns) same = absurd same
+zip_same (e ∷ es) [] same = absurd same
+zip_same (e ∷ es) (n ∷ ns) same = λ i. (same.0.0 i, same.0.1 i) ∷ zip_same es ns same.1 i

@@ -50,10 +50,8 @@ impl NamePlaces {
         ensures ok { OnOk result (self.new ≡ map.insert self.old name place) }
         ensures err { OnErr result (self.new ≡ self.old) }
     {
-        match self.places.insert(name, place) {
-            Ok(_) => Ok(()),
-            Err(_) => Err(OutOfMemory),
-        }
+        self.places.insert(name, place).map_err(|_| OutOfMemory)?;
+        Ok(())
     }
 
     /// Returns the place that a name was last set to.
@@ -68,9 +66,7 @@ impl NamePlaces {
     pub fn try_clone(&self) -> Result<NamePlaces, OutOfMemory>
         ensures { IfOk result (λ copy. copy ≡ self.now) }
     {
-        match self.places.clone() {
-            Ok(places) => Ok(NamePlaces { places }),
-            Err(_) => Err(OutOfMemory),
-        }
+        let places = self.places.clone().map_err(|_| OutOfMemory)?;
+        Ok(NamePlaces { places })
     }
 }

@@ -10,8 +10,8 @@ use Rattle.mvs_model.specs.Place.{PlaceValue}
 use Rattle.mvs_model.specs.Owners.{is_active}
 use Rattle.mvs_model.specs.Resolving.{resolved}
 use Rattle.mvs_model.specs.Replies.{where_answer}
-use Rattle.mvs_model.specs.Reports.{subpool_lines_of}
-use Rattle.mvs_model.specs.Answers.{Answer, NotRun, NoName, Subpools}
+use Rattle.mvs_model.specs.Reports.{page_map, subpool_lines_of}
+use Rattle.mvs_model.specs.Answers.{Answer, Map, NotRun, NoName, Subpools}
 use Rattle.mvs_model.specs.Texts.{answer_text, reply_line, subpool_text}
 use Rattle.mvs_model.specs.Job.{JobValue}
 use Rattle.mvs_model.specs.Runs.{Any, Asks, Does, AnswersTo, OnlyAnswers}
@@ -20,9 +20,11 @@ use Rattle.judge.proofs.Alike.{alike_law}
 use Rattle.judge.proofs.SettledBy.{acted, settled_law}
 use Rattle.judge.proofs.Opening.{Measured, line_head, one_text, rest_at}
 use Rattle.mvs_model.specs.View.{IsBounded}
-use Rattle.judge.proofs.Reported.{report_cut}
+use Rattle.judge.proofs.Reported.{report_cut, report_undigited}
 use Rattle.judge.proofs.Opened.{Found, opened, shown}
-use Rattle.judge.specs.Excluding.{ShowsSome}
+use Rattle.judge.proofs.Mapped.{map_cut}
+use Rattle.judge.specs.Excluding.{BeginsWord, IsPast, ShowsSome}
+use Rattle.judge.specs.Reporting.{undigited}
 use Rattle.judge.specs.Outline.{AreAlike, BeginsOneOf, BeginsOpen, head, is_settled, openings, request_settled, way}
 
 -- ---- what is answered
@@ -99,6 +101,13 @@ reported old t x new m f = at (is_active old.state.owners t) m where
   at true m = m
   at false m = true_false (sym (ap (is_settled statement.ReportSubpools) m.0) ∙ f)
 
+-- REPORT MAP of an active task
+mapped : (old : JobValue) (t : Name) (x : Answer) (new : JobValue) → Does Any old t statement.ReportMap x new → is_settled statement.ReportMap x ≡ false → (x ≡ Map (page_map old.state)) × (new ≡ old)
+mapped old t x new m f = at (is_active old.state.owners t) m where
+  at : (active : Bool) → MatchBool (not active) (OnlyAnswers old NotRun x new) (OnlyAnswers old (Map (page_map old.state)) x new) → (x ≡ Map (page_map old.state)) × (new ≡ old)
+  at true m = m
+  at false m = true_false (sym (ap (is_settled statement.ReportMap) m.0) ∙ f)
+
 -- ---- two steps
 
 symmetric : (one other : JobValue) → AreAlike one other → AreAlike other one
@@ -135,3 +144,19 @@ module _ (one other : JobValue) (t : Name) (s : Statement) (x y : Answer) (a b :
         subst (λ a. AreAlike a b) (sym m.1) (subst (λ b. AreAlike one b) (sym n.1) like),
         report_cut number t one.state other.state u v like.owners bounded (subst IsBounded like.regions bounded) (ap (λ x. answer_text number t x ++ u) (sym m.0) ∙ g ∙ ap (λ y. answer_text number t y ++ v) n.0),
       )
+
+  -- REPORT MAP
+  pub map_alike : s ≡ statement.ReportMap → is_settled s x ≡ false → (number : ℕ) (u v : List ℕ) → BeginsWord u → BeginsWord v → IsPast number t u → IsPast number t v → answer_text number t x ++ u ≡ answer_text number t y ++ v → AreAlike a b × (u ≡ v)
+  map_alike is f number u v word other_word past other_past g =
+      let m = mapped one t x a (subst (λ s. Does Any one t s x a) is d) (ap (λ s. is_settled s x) (sym is) ∙ f) in
+      let n = mapped other t y b (subst (λ s. Does Any other t s y b) is e) (ap (λ s. is_settled s y) (sym is) ∙ both_open f) in (
+        subst (λ a. AreAlike a b) (sym m.1) (subst (λ b. AreAlike one b) (sym n.1) like),
+        map_cut number t (page_map one.state) (page_map other.state) u v word other_word past other_past (ap (λ x. answer_text number t x ++ u) (sym m.0) ∙ g ∙ ap (λ y. answer_text number t y ++ v) n.0),
+      )
+
+  -- REPORT SP but for digits
+  pub report_same : s ≡ statement.ReportSubpools → IsBounded one.state.regions → is_settled s x ≡ false → (number : ℕ) → undigited (answer_text number t x) ≡ undigited (answer_text number t y)
+  report_same is bounded f number =
+      let m = reported one t x a (subst (λ s. Does Any one t s x a) is d) (ap (λ s. is_settled s x) (sym is) ∙ f) in
+      let n = reported other t y b (subst (λ s. Does Any other t s y b) is e) (ap (λ s. is_settled s y) (sym is) ∙ both_open f) in
+      ap (λ x. undigited (answer_text number t x)) m.0 ∙ report_undigited number t one.state other.state like.owners bounded (subst IsBounded like.regions bounded) ∙ sym (ap (λ y. undigited (answer_text number t y)) n.0)

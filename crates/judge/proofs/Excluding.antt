@@ -1,5 +1,5 @@
 -- A line of a job, and of each run that differs from the job in nothing but places.
-use Rattle.std.proofs.Common.{Decides as Tests, ◌≡◌, ℕ, ◌+◌, ◌⊎◌, inl, inr, Bool, true, false, List, [], ◌∷◌, ◌++◌, length, drop, Option, Some, None, append-nil, refl, sym, ap, ◌∙◌, subst}
+use Rattle.std.proofs.Common.{Decides as Tests, ◌≡◌, ℕ, ◌+◌, ◌<◌, ◌^◌, arith, ◌⊎◌, inl, inr, Bool, true, false, List, [], ◌∷◌, ◌++◌, length, drop, Option, Some, None, append-nil, refl, sym, ap, ◌∙◌, subst}
 use Rattle.std.specs.Prelude.{not, ◌&&◌, ◌||◌, if◌then◌else◌}
 use Rattle.std.specs.Bool.{MatchBool}
 use Rattle.std.proofs.lemmas.List.{append_cancel_left}
@@ -34,10 +34,13 @@ use Rattle.mvs_job.specs.declared.walk.LineEvent.TheVariants as tells
 use Rattle.mvs_job.specs.LineEvents.{ServesAsUnder, WalkValue, events_of_line, full_answer_in}
 use Rattle.judge.specs.Deciding.{InBounds, IsServed, MayPrint}
 use Rattle.mvs_model.specs.View.{IsBounded}
-use Rattle.judge.specs.Excluding.{Alike, IsBegunLine, IsUndecidedAt, IsVerdict, LineShowsSome, ShowsSome, answer_in, is_certain, is_shown}
+use Rattle.judge.proofs.Reported.{undigited_both}
+use Rattle.judge.proofs.Mapped.{Starts, starts_past, starts_word, walk_starts}
+use Rattle.judge.specs.Excluding.{Alike, BeginsWord, EndsMap, IsBegunLine, IsPast, IsUndecidedAt, IsVerdict, LineShowsSome, ShowsSome, answer_in, is_certain, is_shown}
+use Rattle.judge.specs.Reporting.{DiffersInReport, undigited}
 use Rattle.judge.specs.declared.exclusion.LineVerdict.TheVariants as verdict
 use Rattle.judge.specs.Outline.{AreAlike, BeginsOpen, is_settled}
-use Rattle.judge.proofs.Compared.{begins_alike, is_followed, report_alike, settled_alike, shown_alike}
+use Rattle.judge.proofs.Compared.{begins_alike, is_followed, map_alike, report_alike, report_same, settled_alike, shown_alike}
 use Rattle.judge.proofs.Decided.{HasEvent, Serving, fault_served, line_served, may_serve, one_leads, event_cases}
 
 -- ---- a job is like itself
@@ -167,6 +170,17 @@ module _ (number : ℕ) (one other : JobValue) (t : Name) (s : Statement) (event
       let r = report_alike one other t s x.0 y.0 x.1 y.1 like x.2 y.2 is bounded (f number x.0 x.3) number u v (sym (printed_one u) ∙ e ∙ printed_other v) in
       (both_steps x.4 y.4 r.0, r.1)
 
+  step_map : s ≡ statement.ReportMap → ((n : ℕ) (a : Answer) → events ≡ AnswerTo n t a ∷ [] → is_settled s a ≡ false) → (u v : List ℕ) → BeginsWord u → BeginsWord v → IsPast number t u → IsPast number t v → printing events ++ u ≡ printing more ++ v → Alike new mid × (u ≡ v)
+  step_map is f u v word other_word past other_past e =
+      let r = map_alike one other t s x.0 y.0 x.1 y.1 like x.2 y.2 is (f number x.0 x.3) number u v word other_word past other_past (sym (printed_one u) ∙ e ∙ printed_other v) in
+      (both_steps x.4 y.4 r.0, r.1)
+
+  step_same : s ≡ statement.ReportSubpools → IsBounded one.state.regions → ((n : ℕ) (a : Answer) → events ≡ AnswerTo n t a ∷ [] → is_settled s a ≡ false) → undigited (printing events) ≡ undigited (printing more)
+  step_same is bounded f =
+      ap undigited (sym (append-nil (printing events)) ∙ printed_one [] ∙ append-nil (answer_text number t x.0))
+      ∙ report_same one other t s x.0 y.0 x.1 y.1 like x.2 y.2 is bounded (f number x.0 x.3) number
+      ∙ ap undigited (sym (append-nil (answer_text number t y.0)) ∙ sym (printed_other []) ∙ append-nil (printing more))
+
   step_begins : ((n : ℕ) (a : Answer) → events ≡ AnswerTo n t a ∷ [] → is_settled s a ≡ false) → ShowsSome s → (v : List ℕ) → BeginsOpen number t s (printing more ++ v)
   step_begins f some v = subst (BeginsOpen number t s) (sym (printed_other v)) (begins_alike one other t s x.0 y.0 x.1 y.1 like x.2 y.2 number v some (f number x.0 x.3))
 
@@ -219,6 +233,29 @@ module _ (number : ℕ) (events more : List Event) (new mid : Option JobValue) w
   shown_lines None other (line.Statement t statement.ReportSubpools) bounds like x y f is some u v e = absurd x
   shown_lines (Some one) None (line.Statement t statement.ReportSubpools) bounds like x y f is some u v e = absurd y
   shown_lines old other (line.Statement t statement.ReportMap) bounds like x y f is some u v e = false_true is
+
+  -- a REPORT MAP whose answer is whole, and a text after it with which the lines after it may go on
+  pub map_lines : (old other : Option JobValue) (said : Line) → Alike old other → Serves machine number old said events new → Serves machine number other said more mid → OpenIn said events → (u v : List ℕ) → EndsMap number said u → BeginsWord v → ((t : Name) → IsPast number t v) → printing events ++ u ≡ printing more ++ v → Alike new mid × (u ≡ v)
+  map_lines (Some one) (Some other) (line.Statement t statement.ReportMap) like x y f u v ends word past e = step_map number one other t statement.ReportMap events more new mid like x y refl f u v ends.0 word ends.1 (past t) e
+  map_lines None other (line.Statement t statement.ReportMap) like x y f u v ends word past e = absurd x
+  map_lines (Some one) None (line.Statement t statement.ReportMap) like x y f u v ends word past e = absurd y
+  map_lines old other (line.Statement t (statement.Request k)) like x y f u v ends word past e = absurd ends
+  map_lines old other (line.Statement t (statement.Where name)) like x y f u v ends word past e = absurd ends
+  map_lines old other (line.Statement t statement.ReportSubpools) like x y f u v ends word past e = absurd ends
+  map_lines old other (line.Statement t (statement.Region below above fill residence)) like x y f u v ends word past e = absurd ends
+  map_lines old other line.Nothing like x y f u v ends word past e = absurd ends
+
+  -- a REPORT SP that a text differs from
+  pub report_lines : (old other : Option JobValue) (said : Line) → InBounds old → Alike old other → Serves machine number old said events new → Serves machine number other said more mid → OpenIn said events → (printed text : List ℕ) → printed ≡ printing events → DiffersInReport said printed text → (v : List ℕ) → text ≡ printing more ++ v → ⊥
+  report_lines (Some one) (Some other) (line.Statement t statement.ReportSubpools) bounds like x y f printed text is differs v e =
+      differs (undigited v) (ap undigited e ∙ undigited_both (printing more) v ∙ ap (λ z. z ++ undigited v) (sym (step_same number one other t statement.ReportSubpools events more new mid like x y refl bounds f) ∙ ap undigited (sym is)))
+  report_lines None other (line.Statement t statement.ReportSubpools) bounds like x y f printed text is differs v e = absurd x
+  report_lines (Some one) None (line.Statement t statement.ReportSubpools) bounds like x y f printed text is differs v e = absurd y
+  report_lines old other (line.Statement t (statement.Request k)) bounds like x y f printed text is differs v e = absurd differs
+  report_lines old other (line.Statement t (statement.Where name)) bounds like x y f printed text is differs v e = absurd differs
+  report_lines old other (line.Statement t statement.ReportMap) bounds like x y f printed text is differs v e = absurd differs
+  report_lines old other (line.Statement t (statement.Region below above fill residence)) bounds like x y f printed text is differs v e = absurd differs
+  report_lines old other line.Nothing bounds like x y f printed text is differs v e = absurd differs
 
   pub begins_lines : (old other : Option JobValue) (said : Line) → Alike old other → Serves machine number old said events new → Serves machine number other said more mid → OpenIn said events → LineShowsSome said → (v : List ℕ) → BeginsLine number said (printing more ++ v)
   begins_lines (Some one) (Some other) (line.Statement t (statement.Request k)) like x y f some v = step_begins number one other t (statement.Request k) events more new mid like x y f some v
@@ -275,18 +312,18 @@ module _ (P : Condition) (w w' : WalkValue) (l : List ℕ) (tl : LineEvent) (is 
 
   -- a line whose text shows where each run is
   agrees : (left : List ℕ) (n : ℕ) → n ≡ length printed → left ≡ printed ++ drop (length printed) left
-      → ((step mid : Option JobValue) (first : List Event) (rest : List ℕ) → Alike w.step step → Serves machine w.number step said first mid → printing (events_of_line w.number w' tl) ++ drop (length printed) left ≡ printing first ++ rest → Alike w'.step mid × (drop (length printed) left ≡ rest))
+      → ((step mid : Option JobValue) (first : List Event) (rest : List ℕ) (more : List (List ℕ)) (outcome : Outcome) → w.number + length more < 2 ^ 32 → MayPrint (w.number + 1) mid more rest outcome → Alike w.step step → Serves machine w.number step said first mid → printing (events_of_line w.number w' tl) ++ drop (length printed) left ≡ printing first ++ rest → Alike w'.step mid × (drop (length printed) left ≡ rest))
       → IsVerdict w l left w' (verdict.Agrees n)
   agrees left n is_n front f = (printed, is_n, (front, on), line_served P w w' l tl printed is same whole next) where
-    on : (step : Option JobValue) (more : List (List ℕ)) (outcome : Outcome) → Alike w.step step → MayPrint w.number step (l ∷ more) left outcome → (later : Option JobValue) × Alike w'.step later × MayPrint w'.number later more (drop (length printed) left) outcome
-    on step more outcome like may =
+    on : (step : Option JobValue) (more : List (List ℕ)) (outcome : Outcome) → w.number + length more < 2 ^ 32 → Alike w.step step → MayPrint w.number step (l ∷ more) left outcome → (later : Option JobValue) × Alike w'.step later × MayPrint w'.number later more (drop (length printed) left) outcome
+    on step more outcome few like may =
         let y = theirs step more left outcome like may in
-        let r = f step y.0 y.1 y.2 like y.3 (ap (λ p. p ++ drop (length printed) left) (sym same) ∙ sym front ∙ y.4) in
+        let r = f step y.0 y.1 y.2 more outcome few y.5 like y.3 (ap (λ p. p ++ drop (length printed) left) (sym same) ∙ sym front ∙ y.4) in
         (y.0, r.0, subst (λ n. MayPrint n y.0 more (drop (length printed) left) outcome) (sym next) (subst (λ rest. MayPrint (w.number + 1) y.0 more rest outcome) (sym r.1) y.5))
 
   pub certain_verdict : SettledIn said (events_of_line w.number w' tl) → (left : List ℕ) (n : ℕ) → n ≡ length printed → (passes : Bool) → (passes ≡ true → left ≡ printed ++ drop (length printed) left) → ((rest : List ℕ) → left ≡ printed ++ rest → passes ≡ true)
       → IsVerdict w l left w' (if passes then verdict.Agrees n else verdict.Excluded)
-  certain_verdict f left n is_n true begun never = agrees left n is_n (begun refl) (λ step mid first rest like y e.
+  certain_verdict f left n is_n true begun never = agrees left n is_n (begun refl) (λ step mid first rest more outcome few may like y e.
       let r = certain w.number (events_of_line w.number w' tl) first w'.step mid w.step step said like mine y f in
       (r.1, append_cancel_left (printing first) _ _ (ap (λ ev. printing ev ++ drop (length printed) left) (sym r.0) ∙ e)))
   certain_verdict f left n is_n false begun never = λ step more outcome like may.
@@ -295,8 +332,18 @@ module _ (P : Condition) (w w' : WalkValue) (l : List ℕ) (tl : LineEvent) (is 
       false_true (never y.2 (y.4 ∙ ap (λ ev. printing ev ++ y.2) (sym r.0) ∙ ap (λ p. p ++ y.2) (sym same)))
 
   pub shown_verdict : InBounds w.step → OpenIn said (events_of_line w.number w' tl) → is_shown said ≡ true → (left : List ℕ) (n : ℕ) → n ≡ length printed → left ≡ printed ++ drop (length printed) left → IsVerdict w l left w' (verdict.Agrees n)
-  shown_verdict bounds f is_s left n is_n front = agrees left n is_n front (λ step mid first rest like y e.
+  shown_verdict bounds f is_s left n is_n front = agrees left n is_n front (λ step mid first rest more outcome few may like y e.
       shown_lines w.number (events_of_line w.number w' tl) first w'.step mid w.step step said bounds like mine y f is_s some (drop (length printed) left) rest e)
+
+  pub map_verdict : OpenIn said (events_of_line w.number w' tl) → (left : List ℕ) (n : ℕ) → n ≡ length printed → left ≡ printed ++ drop (length printed) left → EndsMap w.number said (drop (length printed) left) → IsVerdict w l left w' (verdict.Agrees n)
+  map_verdict f left n is_n front ends = agrees left n is_n front (λ step mid first rest more outcome few may like y e.
+      let starts = subst (Starts (w.number + 1) (w.number + 1 + length more)) (sym may.2) (walk_starts outcome (w.number + 1 + length more) (w.number + 1) mid more may.0 (omega arith) may.1) in
+      map_lines w.number (events_of_line w.number w' tl) first w'.step mid w.step step said like mine y f (drop (length printed) left) rest ends (starts_word _ _ rest starts) (λ t. starts_past _ _ rest w.number t starts (omega arith) (omega (arith, few)) (omega (arith, few))) e)
+
+  pub report_verdict : InBounds w.step → OpenIn said (events_of_line w.number w' tl) → (left : List ℕ) → DiffersInReport said printed left → IsVerdict w l left w' verdict.Excluded
+  report_verdict bounds f left differs = λ step more outcome like may.
+      let y = theirs step more left outcome like may in
+      report_lines w.number (events_of_line w.number w' tl) y.1 w'.step y.0 w.step step said bounds like mine y.3 f printed left same differs y.2 y.4
 
   pub open_verdict : OpenIn said (events_of_line w.number w' tl) → (left : List ℕ) (b : Bool) → IsBegunLine w.number said left b → IsVerdict w l left w' (if b then verdict.Undecided else verdict.Excluded)
   open_verdict f left true begun = undecided w.number w.step w'.step l said (events_of_line w.number w' tl) left said_is mine f (begun_line said begun) where

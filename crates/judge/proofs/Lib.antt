@@ -3,9 +3,11 @@ mod Alike
 mod Opening
 mod Opened
 mod Reported
+mod Digits
 mod Settled
 mod Areas
 mod SettledBy
+mod Mapped
 mod Compared
 mod Lists
 mod Decided

@@ -1,8 +1,9 @@
 -- What REPORT SP prints, in two steps that differ in nothing but places.
-use Rattle.std.proofs.Common.{◌≡◌, ℕ, zero, suc, ◌+◌, ◌*◌, ◌<◌, ◌≤◌, Bool, true, false, List, [], ◌∷◌, ◌++◌, Option, Some, None, append_assoc, codes, decimal, cond, arith, refl, sym, ap, ◌∙◌}
+use Rattle.std.proofs.Common.{◌≡◌, ℕ, zero, suc, ◌+◌, ◌*◌, ◌<◌, ◌≤◌, Bool, true, false, not, List, [], ◌∷◌, ◌++◌, Option, Some, None, append_assoc, codes, decimal, cond, arith, refl, sym, ap, ◌∙◌}
 use Rattle.std.specs.Prelude.{◌&&◌, ◌^◌, if◌then◌else◌}
-use Rattle.std.specs.List.{flat_map, list_all}
+use Rattle.std.specs.List.{filter, flat_map, list_all}
 use Rattle.std.proofs.lemmas.List.{append_cancel_left}
+use Rattle.std.proofs.lemmas.List.Elements.{filter-append}
 use Rattle.mvs_laws.proofs.Types.{Name, SubpoolLine}
 use Rattle.mvs_model.specs.Finite.{count_below}
 use Rattle.mvs_model.specs.Owners.{Owners, entry}
@@ -18,6 +19,7 @@ use Rattle.mvs_model.proofs.OneSteps.{head_of, tail_of}
 use Rattle.mvs_model.proofs.Tests.{true_false}
 use Rattle.mvs_model.proofs.ValueTexts.{decimal_writes}
 use Rattle.judge.proofs.Opening.{line_head}
+use Rattle.judge.specs.Reporting.{undigited}
 use Rattle.judge.specs.Outline.{head}
 
 -- ---- digits before a byte that is none
@@ -121,3 +123,48 @@ report_cut number t a b u v owners one other e =
     subpools_cut number t (subpool_lines a.owners (λ s. bytes_held a s false) (λ s. bytes_held a s true) t) (subpool_lines a.owners (λ s. bytes_held b s false) (λ s. bytes_held b s true) t) u v
     (lines_same a.owners _ _ _ _ t (λ s. few_bytes a s false one) (λ s. few_bytes a s true one) (λ s. few_bytes b s false other) (λ s. few_bytes b s true other))
     (e ∙ ap (λ o. answer_text number t (Subpools (subpool_lines o (λ s. bytes_held b s false) (λ s. bytes_held b s true) t)) ++ v) (sym owners))
+
+-- ---- what the reports are without their digits
+
+digits_gone : (xs : List ℕ) → list_all is_digit xs ≡ true → undigited xs ≡ []
+digits_gone [] e = refl
+digits_gone (x ∷ xs) e = let h = and_both (is_digit x) _ e in ap (λ b. cond (not b) (x ∷ undigited xs) (undigited xs)) h.0 ∙ digits_gone xs h.1
+
+pub undigited_both : (xs ys : List ℕ) → undigited (xs ++ ys) ≡ undigited xs ++ undigited ys
+undigited_both xs ys = filter-append (λ b. not (is_digit b)) xs ys
+
+number_gone : (n : ℕ) (more : List ℕ) → n < 2 ^ 64 → undigited (decimal n ++ more) ≡ undigited more
+number_gone n more small = undigited_both (decimal n) more ∙ ap (λ x. x ++ undigited more) (digits_gone (decimal n) (decimal_writes n small).digits)
+
+after_front : (l : SubpoolLine) (front u : List ℕ) → l.plain < 2 ^ 64 → l.pool < 2 ^ 64 → undigited (front ++ (decimal l.plain ++ (codes " POOL " ++ (decimal l.pool ++ (codes "\n" ++ u))))) ≡ undigited front ++ undigited (codes " POOL " ++ (codes "\n" ++ u))
+after_front l front u plain pool =
+    undigited_both front _
+    ∙ ap (λ x. undigited front ++ x) (number_gone l.plain _ plain ∙ undigited_both (codes " POOL ") (decimal l.pool ++ (codes "\n" ++ u)) ∙ ap (λ x. undigited (codes " POOL ") ++ x) (number_gone l.pool (codes "\n" ++ u) pool) ∙ sym (undigited_both (codes " POOL ") (codes "\n" ++ u)))
+
+line_undigited : (number : ℕ) (t : Name) (l m : SubpoolLine) (u v : List ℕ) → SameLine l m → undigited u ≡ undigited v → undigited (reply_line number t (subpool_text l) ++ u) ≡ undigited (reply_line number t (subpool_text m) ++ v)
+line_undigited number t l m u v same e =
+    let fronts : head number t ++ front l ≡ head number t ++ front m = λ i. head number t ++ (codes "SP " ++ decimal (same.number i) ++ (if same.owned i then codes " OWNED PLAIN " else codes " SHARED PLAIN ")) in
+    ap undigited (line_parts number t l u)
+    ∙ after_front l (head number t ++ front l) u same.plain same.pool
+    ∙ (λ i. undigited (fronts i) ++ (undigited_both (codes " POOL \n") u ∙ ap (λ x. undigited (codes " POOL \n") ++ x) e ∙ sym (undigited_both (codes " POOL \n") v)) i)
+    ∙ sym (after_front m (head number t ++ front m) v same.other_plain same.other_pool)
+    ∙ sym (ap undigited (line_parts number t m v))
+
+lines_undigited : (number : ℕ) (t : Name) (ls ms : List SubpoolLine) → SameLines ls ms → undigited (flat_map (λ l. reply_line number t (subpool_text l)) ls) ≡ undigited (flat_map (λ l. reply_line number t (subpool_text l)) ms)
+lines_undigited number t [] [] same = refl
+lines_undigited number t [] (m ∷ ms) same = absurd same
+lines_undigited number t (l ∷ ls) [] same = absurd same
+lines_undigited number t (l ∷ ls) (m ∷ ms) same = line_undigited number t l m (flat_map (λ l. reply_line number t (subpool_text l)) ls) (flat_map (λ l. reply_line number t (subpool_text l)) ms) same.0 (lines_undigited number t ls ms same.1)
+
+subpools_undigited : (number : ℕ) (t : Name) (ls ms : List SubpoolLine) → SameLines ls ms → undigited (answer_text number t (Subpools ls)) ≡ undigited (answer_text number t (Subpools ms))
+subpools_undigited number t [] [] same = refl
+subpools_undigited number t [] (m ∷ ms) same = absurd same
+subpools_undigited number t (l ∷ ls) [] same = absurd same
+subpools_undigited number t (l ∷ ls) (m ∷ ms) same = lines_undigited number t (l ∷ ls) (m ∷ ms) same
+
+-- Two reports are the same but for digits.
+pub report_undigited : (number : ℕ) (t : Name) (a b : State) → a.owners ≡ b.owners → IsBounded a.regions → IsBounded b.regions → undigited (answer_text number t (Subpools (subpool_lines_of a t))) ≡ undigited (answer_text number t (Subpools (subpool_lines_of b t)))
+report_undigited number t a b owners one other =
+    subpools_undigited number t (subpool_lines a.owners (λ s. bytes_held a s false) (λ s. bytes_held a s true) t) (subpool_lines a.owners (λ s. bytes_held b s false) (λ s. bytes_held b s true) t)
+    (lines_same a.owners _ _ _ _ t (λ s. few_bytes a s false one) (λ s. few_bytes a s true one) (λ s. few_bytes b s false other) (λ s. few_bytes b s true other))
+    ∙ ap (λ o. undigited (answer_text number t (Subpools (subpool_lines o (λ s. bytes_held b s false) (λ s. bytes_held b s true) t)))) owners

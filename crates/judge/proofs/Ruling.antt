@@ -1,11 +1,12 @@
 -- An output and the lines of a script, as long as each run that prints it differs from the job in nothing but places.
-use Rattle.std.proofs.Common.{Decides as Tests, ◌≡◌, ℕ, ◌+◌, ◌≤◌, Bool, true, false, List, [], ◌∷◌, ◌++◌, length, drop, take, Option, Some, None, length-append, arith, refl, sym, ap, ◌∙◌, subst}
+use Rattle.std.proofs.Common.{Decides as Tests, ◌≡◌, ℕ, ◌+◌, ◌≤◌, ◌<◌, ◌^◌, Bool, true, false, List, [], ◌∷◌, ◌++◌, length, drop, take, Option, Some, None, length-append, length-drop, arith, refl, sym, ap, ◌∙◌, subst}
 use Rattle.std.proofs.lemmas.List.{drop_all, drop-drop, take-append-drop}
 use Rattle.mvs_model.specs.declared.outcome.Outcome.{Outcome}
 use Rattle.mvs_model.specs.declared.outcome.Outcome.TheVariants.{ScriptFault}
 use Rattle.mvs_model.specs.Answers.{Event, StepEnded}
 use Rattle.mvs_model.specs.Job.{JobValue}
 use Rattle.mvs_model.specs.Lines.{lines_of}
+use Rattle.mvs_model.specs.Numbers.{most_script_bytes}
 use Rattle.mvs_model.specs.Runs.{IsPrinting, machine}
 use Rattle.mvs_model.specs.Texts.{printing}
 use Rattle.mvs_model.specs.Walk.{Closes}
@@ -17,6 +18,7 @@ use Rattle.judge.specs.Deciding.{MayPrint, PrintsEnd, HasReached}
 use Rattle.judge.specs.Excluding.{Alike, IsRuling, IsVerdict}
 use Rattle.judge.specs.declared.exclusion.Ruling.TheVariants as ruling
 use Rattle.judge.specs.declared.exclusion.LineVerdict.TheVariants as verdict
+use Rattle.judge.proofs.Mapped.{few_lines}
 use Rattle.judge.proofs.Decided.{stands_end, stands_fault, stands_served, taken_more}
 
 -- Each run of the script that prints the output comes here, and differs from the job in nothing but places.
@@ -47,12 +49,19 @@ module _ (script output rest left bytes : List ℕ) (at done taken : ℕ) (w w' 
   stood : HasReached script (take done output) w rest
   stood = subst (HasReached script (take done output) w) (sym rest_is) f.stands
 
-  pub rules_next : (n : ℕ) → IsVerdict w bytes left w' (verdict.Agrees n) → Follows script output (at + taken) (done + n) w' × (n ≤ length left)
-  rules_next n v = (record { every = every; stands = stands }, (let e = ap length v.2.0 ∙ length-append v.0 (drop (length v.0) left) in let m = v.1 in omega (arith, e, m))) where
+  few_left : w.number ≤ at + 1 → at < length script → length script ≤ most_script_bytes → w.number + length (lines_of (drop taken rest)) < 2 ^ 32
+  few_left counted inside short =
+      let lines = few_lines (drop taken rest) in
+      let one = length-drop taken rest in
+      let two = ap length rest_is ∙ length-drop at script in
+      omega (arith, counted, inside, short, lines, one, two)
+
+  pub rules_next : w.number ≤ at + 1 → at < length script → length script ≤ most_script_bytes → (n : ℕ) → IsVerdict w bytes left w' (verdict.Agrees n) → Follows script output (at + taken) (done + n) w' × (n ≤ length left)
+  rules_next counted inside short n v = (record { every = every; stands = stands }, (let e = ap length v.2.0 ∙ length-append v.0 (drop (length v.0) left) in let m = v.1 in omega (arith, e, m))) where
     every : Every script output (at + taken) (done + n) w'
     every outcome may =
         let x = here outcome may in
-        let y = v.2.1 x.0 (lines_of (drop taken rest)) outcome x.1 x.2 in (
+        let y = v.2.1 x.0 (lines_of (drop taken rest)) outcome (few_left counted inside short) x.1 x.2 in (
           y.0,
           y.1,
           subst (λ lines. MayPrint w'.number y.0 lines (drop (done + n) output) outcome) (ap lines_of trailing)

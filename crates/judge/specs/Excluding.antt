@@ -1,5 +1,6 @@
 -- When no run prints an output, wherever places are.
-use Rattle.std.specs.Prelude.{◌≡◌, ◌<◌, ℕ, Bool, true, false, List, [], ◌∷◌, ◌++◌, drop, length, Option, Some, None}
+use Rattle.std.specs.Prelude.{◌≡◌, ◌≢◌, ◌⊎◌, ◌<◌, ◌+◌, ◌^◌, ℕ, Bool, true, false, List, [], ◌∷◌, ◌++◌, drop, length, Option, Some, None}
+use Rattle.std.specs.List.{AllByRecursion}
 use Rattle.mvs_model.specs.declared.name.Name.{Name}
 use Rattle.mvs_model.specs.declared.line.Line.TheVariants as line
 use Rattle.mvs_model.specs.declared.line.Statement.{Statement}
@@ -23,6 +24,8 @@ use Rattle.judge.specs.declared.exclusion.Ruling.{Ruling}
 use Rattle.judge.specs.declared.exclusion.Ruling.TheVariants as ruling
 use Rattle.judge.specs.declared.exclusion.LineVerdict.{LineVerdict}
 use Rattle.judge.specs.declared.exclusion.LineVerdict.TheVariants as verdict
+use Rattle.judge.specs.declared.search.SearchEnd.{SearchEnd}
+use Rattle.judge.specs.declared.search.SearchEnd.TheVariants as search
 use Rattle.judge.specs.Judging.{IsNoPrinting}
 use Rattle.judge.specs.Deciding.{IsServed, MayPrint}
 use Rattle.judge.specs.Outline.{AreAlike, BeginsOneOf, BeginsOpen, head, is_settled}
@@ -48,11 +51,12 @@ PartsAt script output =
     × Reaches (lines_of script) events number step (bytes ∷ left) × (output ≡ printing events ++ rest) × IsUndecidedAt number step bytes rest
 
 -- A line prints this of a text, and each run that prints the text and differs from the job in nothing but places still does so after
--- the line.
+-- the line, if there are not too many lines after it.
 abbrev pub Agrees : WalkValue → List ℕ → List ℕ → List ℕ → WalkValue → Type 0
 Agrees old bytes left text new =
     (left ≡ text ++ drop (length text) left)
-    × ((step : Option JobValue) (more : List (List ℕ)) (outcome : Outcome) → Alike old.step step → MayPrint old.number step (bytes ∷ more) left outcome
+    × ((step : Option JobValue) (more : List (List ℕ)) (outcome : Outcome) → old.number + length more < 2 ^ 32 → Alike old.step step
+    → MayPrint old.number step (bytes ∷ more) left outcome
     → (later : Option JobValue) × Alike new.step later × MayPrint new.number later more (drop (length text) left) outcome)
 
 -- No run that differs from the job in nothing but places prints the text from the line on.
@@ -89,6 +93,27 @@ is_shown (line.Statement t says.ReportSubpools) = true
 is_shown (line.Statement t (says.Region below above fill residence)) = false
 is_shown (line.Statement t says.ReportMap) = false
 is_shown line.Nothing = false
+
+-- No byte of the text is this one.
+abbrev pub Lacks : ℕ → List ℕ → Type 0
+Lacks c text = AllByRecursion (λ b. b ≢ c) text
+
+-- The text is empty, or a blank comes in it before a line feed.
+abbrev pub BeginsWord : List ℕ → Type 0
+BeginsWord text = (text ≡ []) ⊎ ((word : List ℕ) × (more : List ℕ) × Lacks 10 word × (text ≡ word ++ 32 ∷ more))
+
+-- The text does not begin with an answer of the task to the line with this number.
+abbrev pub IsPast : ℕ → Name → List ℕ → Type 0
+IsPast number t text = (more : List ℕ) → text ≡ head number t ++ more → ⊥
+
+-- The line is a REPORT MAP, and the text after its answer shows that this is whole.
+abbrev pub EndsMap : ℕ → Line → List ℕ → Type 0
+EndsMap number (line.Statement t says.ReportMap) text = BeginsWord text × IsPast number t text
+EndsMap number (line.Statement t says.ReportSubpools) text = ⊥
+EndsMap number (line.Statement t (says.Where name)) text = ⊥
+EndsMap number (line.Statement t (says.Request k)) text = ⊥
+EndsMap number (line.Statement t (says.Region below above fill residence)) text = ⊥
+EndsMap number line.Nothing text = ⊥
 
 -- SHOW is for some bytes.
 abbrev pub ShowsSome : Statement → Type 0
@@ -137,3 +162,8 @@ abbrev pub IsRuling : List ℕ → List ℕ → Ruling → Type 0
 IsRuling script output ruling.Excluded = IsNoPrinting script output
 IsRuling script output (ruling.Printed outcome) = IsPrinting script output outcome
 IsRuling script output ruling.Undecided = PartsAt script output
+
+-- A run that a search found prints the output.
+abbrev pub IsSearchEnd : List ℕ → List ℕ → SearchEnd → Type 0
+IsSearchEnd script output (search.Printed ran) = IsPrinting script ran.text.items ran.outcome × (ran.text.items ≡ output)
+IsSearchEnd script output (search.Missed nearest) = Unit {0}

@@ -2,3 +2,4 @@ pub mod Judging
 pub mod Deciding
 pub mod Outline
 pub mod Excluding
+pub mod Reporting

@@ -23,16 +23,12 @@ pub struct OutputAnswers {
 fn read_answer(line: &str) -> Option<(u32, PrintedAnswer)> {
     let (digits, rest) = line.split_once(' ')?;
     let (_, text) = rest.split_once(' ')?;
-    let Ok(number) = digits.parse::<u32>() else {
-        return None;
-    };
+    let number = digits.parse().ok()?;
     if text == "RC 0" || text == "CELL" || text.starts_with("RC 0 LENGTH ") {
         return Some((number, PrintedAnswer::Granted));
     }
-    match u32::from_str_radix(text.strip_prefix("AT ")?, 16) {
-        Ok(addr) => Some((number, PrintedAnswer::At(addr))),
-        Err(_) => None,
-    }
+    let addr = u32::from_str_radix(text.strip_prefix("AT ")?, 16).ok()?;
+    Some((number, PrintedAnswer::At(addr)))
 }
 
 impl OutputAnswers {
@@ -45,8 +41,8 @@ impl OutputAnswers {
         let mut lines = HashMap::new(alloc);
         for line in output.lines() {
             if let Some((number, said)) = read_answer(line) {
-                if number >= first_number && lines.insert(number, said).is_err() {
-                    return Err(OutOfMemory);
+                if number >= first_number {
+                    lines.insert(number, said).map_err(|_| OutOfMemory)?;
                 }
             }
         }

@@ -89,13 +89,11 @@ pub(crate) fn print_next(
         return Err(OutOfMemory);
     };
     let mut writer = Watched::new(text);
-    match print_line(&mut writer, line_number, walk, &line_event) {
-        Ok(()) => Ok(Printed {
-            line_event,
-            text: writer.into_inner(),
-        }),
-        Err(_) => Err(OutOfMemory),
-    }
+    print_line(&mut writer, line_number, walk, &line_event).map_err(|_| OutOfMemory)?;
+    Ok(Printed {
+        line_event,
+        text: writer.into_inner(),
+    })
 }
 
 // Returns whether a text begins so.
@@ -155,10 +153,8 @@ pub(crate) fn print_answer(
         ≡ text.items ++ answer_text line_number task.now (full_answer st [] task.now answer.now)) }
 {
     let mut writer = Watched::new(text);
-    match print_short_answer(&mut writer, line_number, task, answer) {
-        Ok(()) => Ok(writer.into_inner()),
-        Err(_) => Err(OutOfMemory),
-    }
+    print_short_answer(&mut writer, line_number, task, answer).map_err(|_| OutOfMemory)?;
+    Ok(writer.into_inner())
 }
 
 // Returns the answer to a granted request for an area of no bytes.
@@ -319,10 +315,8 @@ pub(crate) fn text_after(text: &[u8], front: usize) -> &[u8]
 fn pushed(mut hints: Vec<Addr>, addr: Addr) -> Result<Vec<Addr>, OutOfMemory>
     ensures { IfOk result (λ all. all.items ≡ hints.items ++ addr ∷ []) }
 {
-    match hints.push(addr) {
-        Ok(()) => Ok(hints),
-        Err(_) => Err(OutOfMemory),
-    }
+    hints.push(addr).map_err(|_| OutOfMemory)?;
+    Ok(hints)
 }
 
 // Appends the addresses that an output shows for some names, from the line with this number on.

@@ -14,7 +14,9 @@ use crate::certain::is_settled;
 use crate::deciding::{begins, print_next, text_after};
 use crate::following::print_end;
 use crate::kinds::is_first;
+use crate::maps::ends_map;
 use crate::openings::{Continued, begins_open};
+use crate::reports::differs_in_report;
 use job_script::read_line;
 use mvs_job::{AddressHints, LineEvent, Walk, line_end};
 use mvs_model::error::OutOfMemory;
@@ -158,6 +160,15 @@ fn compare_read(
     if agrees {
         return Ok(LineVerdict::Agrees(len));
     }
+    let is_whole = ends_map(alloc, line_number, read, text_after(left, len))?;
+    let passes_map = both(passes, is_whole);
+    if passes_map {
+        return Ok(LineVerdict::Agrees(len));
+    }
+    let is_other = differs_in_report(read, printed.text.as_slice(), left);
+    if is_other {
+        return Ok(LineVerdict::Excluded);
+    }
     let is_possible = begins_line(alloc, line_number, read, left)?;
     Ok(undecided_if(is_possible))
 }
@@ -224,17 +235,18 @@ fn ruling_if(is_same: bool, outcome: Outcome) -> Ruling
     }
 }
 
-/// Compares an output with a run of its script that uses these hints, up to the first line at which they differ.
+/// Compares an output with a run of its script that uses these hints, and this placement, up to the first line at which they differ.
 pub fn rule(
     alloc: Global,
     script: &[u8],
     output: &[u8],
     hints: &AddressHints,
+    placement: Placement,
 ) -> Result<Ruling, OutOfMemory>
     requires short { length script.now ≤ most_script_bytes }
     ensures { IfOk result (IsRuling script.now output.now) }
 {
-    let mut walk = Walk::new(alloc, Placement::Low);
+    let mut walk = Walk::new(alloc, placement);
     let mut left = output;
     let mut at = 0;
     'lines: while at < script.len() {

@@ -32,9 +32,8 @@ fn joined(alloc: Global, front: &[u8], back: &[u8]) -> Result<Vec<u8>, OutOfMemo
     ensures { IfOk result (λ all. all.items ≡ front.now ++ back.now) }
 {
     let mut all = Vec::new(alloc);
-    if all.extend_from_slice(front).is_err() || all.extend_from_slice(back).is_err() {
-        return Err(OutOfMemory);
-    }
+    all.extend_from_slice(front).map_err(|_| OutOfMemory)?;
+    all.extend_from_slice(back).map_err(|_| OutOfMemory)?;
     Ok(all)
 }
 
@@ -44,10 +43,8 @@ pub(crate) fn print_end(alloc: Global, walk: &Walk) -> Result<(Outcome, Vec<u8>)
 {
     let closing = walk.close();
     let mut writer = Watched::new(Vec::new(alloc));
-    match print_closing(&mut writer, walk.number(), closing.ended) {
-        Ok(()) => Ok((closing.outcome, writer.into_inner())),
-        Err(_) => Err(OutOfMemory),
-    }
+    print_closing(&mut writer, walk.number(), closing.ended).map_err(|_| OutOfMemory)?;
+    Ok((closing.outcome, writer.into_inner()))
 }
 
 // Returns a place in a script, or its end.

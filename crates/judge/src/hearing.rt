@@ -2,7 +2,8 @@
 //! the name last.
 
 use crate::answers::{OutputAnswers, PrintedAnswer};
-use crate::parts::{PartPlaces, PoolParts};
+use crate::parts::PoolParts;
+use crate::trials::{PlaceTrial, RefusedList, StepPages, TrialPlaces};
 use job_script::read_line;
 use mvs_job::AddressHints;
 use mvs_model::error::OutOfMemory;
@@ -33,6 +34,8 @@ struct Hearing {
     names: HashMap<Name, ListMember>,
     places: Vec<CellPlace>,
     parts: PoolParts,
+    lists: Vec<PlaceTrial>,
+    pages: StepPages,
 }
 
 impl Hearing {
@@ -41,15 +44,15 @@ impl Hearing {
             names: HashMap::new(alloc),
             places: Vec::new(alloc),
             parts: PoolParts::new(alloc),
+            lists: Vec::new(alloc),
+            pages: StepPages { below: 0, above: 0 },
         }
     }
 
     // Keeps the member of a list or the area to which a grant sets a name.
     fn set(&mut self, area: Name, member: ListMember) -> Result<(), OutOfMemory> {
-        match self.names.insert(area, member) {
-            Ok(_) => Ok(()),
-            Err(_) => Err(OutOfMemory),
-        }
+        self.names.insert(area, member).map_err(|_| OutOfMemory)?;
+        Ok(())
     }
 
     // Records the names of a list.
@@ -83,15 +86,30 @@ impl Hearing {
         }
     }
 
+    // Records a list that is refused: its areas may have been placed before the one that did not fit.
+    fn take_refused(&mut self, written: &SourceRequest, line: u32) -> Result<(), OutOfMemory> {
+        let SourceRequest::ObtainList { areas, .. } = written else {
+            return Ok(());
+        };
+        let list = RefusedList {
+            areas: areas.as_slice().len() as u32,
+            pages: self.pages.below,
+        };
+        let trial = PlaceTrial {
+            line,
+            places: TrialPlaces::List(list),
+        };
+        self.lists.push(trial).map_err(|_| OutOfMemory)
+    }
+
     // Records the place of a name.
     fn add_hint(&mut self, name: &Name, addr: u32) -> Result<(), OutOfMemory> {
         let Some(member) = self.names.get(name).copied() else {
             return Ok(());
         };
-        match self.places.push(CellPlace { member, addr }) {
-            Ok(()) => Ok(()),
-            Err(_) => Err(OutOfMemory),
-        }
+        self.places
+            .push(CellPlace { member, addr })
+            .map_err(|_| OutOfMemory)
     }
 
     // Records a statement and its printed answer.
@@ -104,12 +122,17 @@ impl Hearing {
         match statement {
             Statement::Region { below, above, .. } => {
                 self.names.clear();
-                self.parts.begin_step(below.get(), above.get());
+                self.pages = StepPages {
+                    below: below.get(),
+                    above: above.get(),
+                };
+                self.parts.begin_step(self.pages);
             }
             Statement::Request(written) => {
                 if said == Some(PrintedAnswer::Granted) {
                     return self.take_request(written, line);
                 }
+                return self.take_refused(written, line);
             }
             Statement::Where(name) => {
                 if let Some(PrintedAnswer::At(addr)) = said {
@@ -155,53 +178,44 @@ fn hear_lines(
     Ok(hearing)
 }
 
-// Returns what is known of the parts of pools: the places that each one may have.
-fn hear_parts(alloc: Global, script: &str, output: &str) -> Result<HeardParts, OutOfMemory> {
+// Returns the places that an output shows, and what is tried beside them, in the order of the lines.
+fn hear_trials(alloc: Global, script: &str, output: &str) -> Result<Trials, OutOfMemory> {
     let answers = OutputAnswers::read(alloc, 1, output)?;
     let mut hearing = hear_lines(alloc, 1, script, &answers)?;
     hearing.places.sort().map_err(|_| OutOfMemory)?;
     let hints = by_lines(alloc, &hearing.places)?;
-    Ok(HeardParts {
-        parts: hearing.parts.candidates(alloc, &hints)?,
+    let mut tried = hearing.parts.trials(alloc, &hints)?;
+    for list in hearing.lists {
+        tried.push(list).map_err(|_| OutOfMemory)?;
+    }
+    Ok(Trials {
         places: hearing.places,
+        tried,
     })
 }
 
-/// The places of the areas and cells of a script that an output shows, and those that the parts of pools may have.
+/// The places of the areas and cells of a script that an output shows, and the lines whose places are tried.
 #[derive(Drop)]
-pub struct HeardParts {
+pub struct Trials {
     places: Vec<CellPlace>,
-    pub parts: Vec<PartPlaces>,
+    pub tried: Vec<PlaceTrial>,
 }
 
-impl HeardParts {
-    /// Reads a script and an output. There are no parts if one of them is not text.
-    pub fn read(alloc: Global, script: &[u8], output: &[u8]) -> Result<HeardParts, OutOfMemory> {
+impl Trials {
+    /// Reads a script and an output. Nothing is tried if one of them is not text.
+    pub fn read(alloc: Global, script: &[u8], output: &[u8]) -> Result<Trials, OutOfMemory> {
         match (str::from_utf8(script), str::from_utf8(output)) {
-            (Ok(script), Ok(output)) => hear_parts(alloc, script, output),
-            _ => Ok(HeardParts {
+            (Ok(script), Ok(output)) => hear_trials(alloc, script, output),
+            _ => Ok(Trials {
                 places: Vec::new(alloc),
-                parts: Vec::new(alloc),
+                tried: Vec::new(alloc),
             }),
         }
     }
 
-    /// Returns the hints for a run in which each part is at one of its places, by its number in their list. A part without places is
-    /// left to the placement.
-    pub fn hints(&self, alloc: Global, choices: &[usize]) -> Result<AddressHints, OutOfMemory> {
-        let mut hints = by_lines(alloc, &self.places)?;
-        for (part, choice) in self.parts.iter().zip(choices) {
-            if part.is_further && hints.of(part.line).is_empty() {
-                continue;
-            }
-            let first = match part.first_cells.get(*choice) {
-                Some(first) => (*first).min(0x7FFF_FFFF),
-                None if part.is_further => 0,
-                None => continue,
-            };
-            hints.add(alloc, part.line, Addr::new(first))?;
-        }
-        Ok(hints)
+    /// Returns the hints for the places that the output shows.
+    pub fn shown(&self, alloc: Global) -> Result<AddressHints, OutOfMemory> {
+        by_lines(alloc, &self.places)
     }
 }
 
@@ -218,9 +232,7 @@ fn hear_text(
     }
     let answers = OutputAnswers::read(alloc, first_number, output)?;
     let mut hearing = hear_lines(alloc, first_number, script, &answers)?;
-    if hearing.places.sort().is_err() {
-        return Err(OutOfMemory);
-    }
+    hearing.places.sort().map_err(|_| OutOfMemory)?;
     let mut hints = by_lines(alloc, &hearing.places)?;
     if by_cells {
         hearing.parts.add_hints(alloc, &mut hints)?;

@@ -1,7 +1,7 @@
 //! Judges an output: whether it is the printing of a run of a script.
 #![tactic(auto)]
 
-ghost use Rattle.std.specs.Prelude.{◌≡◌, ◌<◌, ◌≤◌, ◌↔◌, ℕ, IfErr, IfOk, IfSome, IsErrOf, length};
+ghost use Rattle.std.specs.Prelude.{◌≡◌, ◌<◌, ◌≤◌, ◌↔◌, ℕ, IfErr, IfOk, IsErrOf, false, length, true};
 ghost use Rattle.mvs_model.specs.Numbers.{most_script_bytes};
 ghost use Rattle.mvs_model.specs.Lines.{lines_of};
 ghost use Rattle.mvs_model.specs.Runs.{IsPrinting};
@@ -18,16 +18,19 @@ mod hearing;
 mod kinds;
 pub mod laws;
 mod list_answers;
+mod maps;
 mod openings;
 mod parts;
+mod reports;
 mod resting;
 mod search;
+mod trials;
 
 use crate::exclusion::{Ruling, rule};
 use crate::following::follow;
 use crate::hearing::hear;
 use crate::resting::run_rest;
-use crate::search::search;
+use crate::search::{SearchEnd, SearchPlan, search};
 use mvs_job::{AddressHints, RunFault, Walk};
 use mvs_model::error::OutOfMemory;
 use mvs_model::numbers::MOST_SCRIPT_BYTES;
@@ -54,6 +57,8 @@ pub struct Judgement {
     pub outcome: Outcome,
     pub text: Vec<u8>,
     pub finding: Finding,
+    /// Whether the output is left open since the search for a run that prints it stopped at its bound, with places left to try.
+    pub has_stopped: bool,
 }
 
 // Returns the hints for the remaining lines, if they matter, and those for parts of pools from their cells, if that is requested.
@@ -92,7 +97,7 @@ fn judge_run(
     script: &[u8],
     output: &[u8],
     by_cells: bool,
-) -> Result<Judgement, RunFault>
+) -> Result<Judgement, OutOfMemory>
     requires { length script.now ≤ most_script_bytes }
     ensures found { IfOk result
         (λ j. IsFound script.now output.now j.text.items j.outcome j.finding) }
@@ -103,39 +108,35 @@ fn judge_run(
     ensures run { IfOk result (λ j. IsPrinting script.now j.text.items j.outcome) }
     ensures agrees { IfOk result
         (λ j. j.finding ≡ Finding.Accepted ↔ j.text.items ≡ output.now) }
-    ensures memory { IfErr result (λ fault. fault ≡ RunFault.Memory) }
+    ensures stopped { IfOk result (λ j. j.has_stopped ≡ false) }
 {
     let mut walk = Walk::new(alloc, Placement::Low);
-    let Ok(followed) = follow(alloc, &mut walk, script, output) else {
-        return Err(RunFault::Memory);
-    };
+    let followed = follow(alloc, &mut walk, script, output)?;
     if let Some(outcome) = followed.ended {
         return Ok(Judgement {
             outcome,
             text: followed.text,
             finding: finding_of(!followed.passes, followed.passes, 0),
+            has_stopped: false,
         });
     }
     let line_number = followed.open_line;
     let left = &script[followed.at..];
-    let Ok(hints) = hints_if(
+    let hints = hints_if(
         followed.passes,
         alloc,
         walk.number(),
         left,
         output,
         by_cells,
-    ) else {
-        return Err(RunFault::Memory);
-    };
-    let Ok(ran) = run_rest(walk, left, &hints, followed.text) else {
-        return Err(RunFault::Memory);
-    };
+    )?;
+    let ran = run_rest(walk, left, &hints, followed.text)?;
     let agrees = ran.text.as_slice() == output;
     Ok(Judgement {
         outcome: ran.outcome,
         text: ran.text,
         finding: finding_of(!followed.passes, agrees, line_number),
+        has_stopped: false,
     })
 }
 
@@ -145,12 +146,12 @@ fn ruling_of(alloc: Global, script: &[u8], output: &[u8]) -> Result<Ruling, OutO
     ensures { IfOk result (IsRuling script.now output.now) }
 {
     let hints = hear(alloc, 1, script, output, true)?;
-    let ruling = rule(alloc, script, output, &hints)?;
+    let ruling = rule(alloc, script, output, &hints, Placement::Low)?;
     if ruling != Ruling::Undecided {
         return Ok(ruling);
     }
     let placed = hear(alloc, 1, script, output, false)?;
-    rule(alloc, script, output, &placed)
+    rule(alloc, script, output, &placed, Placement::Low)
 }
 
 // Returns a copy of a text.
@@ -158,20 +159,20 @@ fn copied(alloc: Global, text: &[u8]) -> Result<Vec<u8>, OutOfMemory>
     ensures { IfOk result (λ copy. copy.items ≡ text.now) }
 {
     let mut copy = Vec::new(alloc);
-    match copy.extend_from_slice(text) {
-        Ok(()) => Ok(copy),
-        Err(_) => Err(OutOfMemory),
-    }
+    copy.extend_from_slice(text).map_err(|_| OutOfMemory)?;
+    Ok(copy)
 }
 
-// Settles a judgement that is open: the output is refused, if some line of it is printed by no run, wherever places are.
+// Settles a judgement that is open by what is known of the output, once it was compared with a run: it is refused, if some line of it
+// is printed by no run, wherever places are. The run may be one of a search that has stopped at its bound.
 fn settle(
     alloc: Global,
     script: &[u8],
     output: &[u8],
     judgement: Judgement,
-) -> Result<Judgement, RunFault>
-    requires short { length script.now ≤ most_script_bytes }
+    ruling: Ruling,
+    has_stopped: bool,
+) -> Result<Judgement, OutOfMemory>
     requires found { IsFound script.now output.now judgement.text.items judgement.outcome
         judgement.finding }
     requires decided { GrantsAreShown (lines_of script.now)
@@ -179,6 +180,8 @@ fn settle(
         → IsListAt (lines_of script.now) n }
     requires run { IsPrinting script.now judgement.text.items judgement.outcome }
     requires agrees { judgement.finding ≡ Finding.Accepted ↔ judgement.text.items ≡ output.now }
+    requires open { (n : ℕ) × (judgement.finding ≡ Finding.Undecided n) }
+    requires ruling { IsRuling script.now output.now ruling }
     ensures found { IfOk result
         (λ j. IsFound script.now output.now j.text.items j.outcome j.finding) }
     ensures decided { IfOk result
@@ -189,63 +192,225 @@ fn settle(
         (λ j. j.finding ≡ Finding.Accepted ↔ j.text.items ≡ output.now) }
     ensures parts { IfOk result
         (λ j. (n : ℕ) → j.finding ≡ Finding.Undecided n → PartsAt script.now output.now) }
-    ensures memory { IfErr result (λ fault. fault ≡ RunFault.Memory) }
+    ensures stopped { IfOk result
+        (λ j. j.has_stopped ≡ true → (n : ℕ) × (j.finding ≡ Finding.Undecided n)) }
 {
-    let Ok(ruling) = ruling_of(alloc, script, output) else {
-        return Err(RunFault::Memory);
-    };
     match ruling {
         Ruling::Excluded => Ok(Judgement {
             outcome: judgement.outcome,
             text: judgement.text,
             finding: Finding::Refused,
+            has_stopped: false,
         }),
-        Ruling::Printed(outcome) => {
-            let Ok(text) = copied(alloc, output) else {
-                return Err(RunFault::Memory);
-            };
-            Ok(Judgement {
-                outcome,
-                text,
-                finding: Finding::Accepted,
-            })
-        }
-        Ruling::Undecided => Ok(judgement),
+        Ruling::Printed(outcome) => Ok(Judgement {
+            outcome,
+            text: copied(alloc, output)?,
+            finding: Finding::Accepted,
+            has_stopped: false,
+        }),
+        Ruling::Undecided => Ok(Judgement {
+            outcome: judgement.outcome,
+            text: judgement.text,
+            finding: judgement.finding,
+            has_stopped: judgement.has_stopped | has_stopped,
+        }),
     }
 }
 
-// Returns the judgement of an output for which a run is found that prints it.
-fn printed_by_some(
+// Settles a judgement that is open by a search for a run that prints the output. If none is found, the output is compared with the run that
+// agrees with it furthest.
+fn settle_by_search(
     alloc: Global,
     script: &[u8],
     output: &[u8],
-) -> Result<Option<Judgement>, OutOfMemory>
-    requires { length script.now ≤ most_script_bytes }
-    ensures found { IfOk result (λ o. IfSome o
-        (λ j. IsFound script.now output.now j.text.items j.outcome j.finding)) }
-    ensures accepted { IfOk result (λ o. IfSome o (λ j. j.finding ≡ Finding.Accepted)) }
-    ensures run { IfOk result (λ o. IfSome o
-        (λ j. IsPrinting script.now j.text.items j.outcome)) }
-    ensures agrees { IfOk result (λ o. IfSome o (λ j. j.text.items ≡ output.now)) }
+    judgement: Judgement,
+    plan: &SearchPlan,
+) -> Result<Judgement, OutOfMemory>
+    requires short { length script.now ≤ most_script_bytes }
+    requires found { IsFound script.now output.now judgement.text.items judgement.outcome
+        judgement.finding }
+    requires decided { GrantsAreShown (lines_of script.now)
+        → (n : ℕ) → judgement.finding ≡ Finding.Undecided n
+        → IsListAt (lines_of script.now) n }
+    requires run { IsPrinting script.now judgement.text.items judgement.outcome }
+    requires agrees { judgement.finding ≡ Finding.Accepted ↔ judgement.text.items ≡ output.now }
+    requires open { (n : ℕ) × (judgement.finding ≡ Finding.Undecided n) }
+    ensures found { IfOk result
+        (λ j. IsFound script.now output.now j.text.items j.outcome j.finding) }
+    ensures decided { IfOk result
+        (λ j. GrantsAreShown (lines_of script.now)
+        → (n : ℕ) → j.finding ≡ Finding.Undecided n → IsListAt (lines_of script.now) n) }
+    ensures run { IfOk result (λ j. IsPrinting script.now j.text.items j.outcome) }
+    ensures agrees { IfOk result
+        (λ j. j.finding ≡ Finding.Accepted ↔ j.text.items ≡ output.now) }
+    ensures parts { IfOk result
+        (λ j. (n : ℕ) → j.finding ≡ Finding.Undecided n → PartsAt script.now output.now) }
+    ensures stopped { IfOk result
+        (λ j. j.has_stopped ≡ true → (n : ℕ) × (j.finding ≡ Finding.Undecided n)) }
 {
-    let found = match search(alloc, script, output, Placement::Low)? {
-        Some(found) => Some(found),
-        None => search(alloc, script, output, Placement::High)?,
-    };
-    match found {
-        Some(run) => Ok(Some(Judgement {
-            outcome: run.outcome,
-            text: run.text,
+    match search(alloc, script, output, plan)? {
+        SearchEnd::Printed(ran) => Ok(Judgement {
+            outcome: ran.outcome,
+            text: ran.text,
             finding: Finding::Accepted,
-        })),
-        None => Ok(None),
+            has_stopped: false,
+        }),
+        SearchEnd::Missed(nearest) => {
+            let ruling = rule(alloc, script, output, &nearest.hints, plan.placement)?;
+            settle(
+                alloc,
+                script,
+                output,
+                judgement,
+                ruling,
+                nearest.has_stopped,
+            )
+        }
     }
+}
+// Settles a judgement that is open by searches: first for places of one line after the other, and then of several at once.
+fn settle_by_searches(
+    alloc: Global,
+    script: &[u8],
+    output: &[u8],
+    judgement: Judgement,
+    most_runs: usize,
+) -> Result<Judgement, OutOfMemory>
+    requires short { length script.now ≤ most_script_bytes }
+    requires found { IsFound script.now output.now judgement.text.items judgement.outcome
+        judgement.finding }
+    requires decided { GrantsAreShown (lines_of script.now)
+        → (n : ℕ) → judgement.finding ≡ Finding.Undecided n
+        → IsListAt (lines_of script.now) n }
+    requires run { IsPrinting script.now judgement.text.items judgement.outcome }
+    requires agrees { judgement.finding ≡ Finding.Accepted ↔ judgement.text.items ≡ output.now }
+    requires open { (n : ℕ) × (judgement.finding ≡ Finding.Undecided n) }
+    ensures found { IfOk result
+        (λ j. IsFound script.now output.now j.text.items j.outcome j.finding) }
+    ensures decided { IfOk result
+        (λ j. GrantsAreShown (lines_of script.now)
+        → (n : ℕ) → j.finding ≡ Finding.Undecided n → IsListAt (lines_of script.now) n) }
+    ensures run { IfOk result (λ j. IsPrinting script.now j.text.items j.outcome) }
+    ensures agrees { IfOk result
+        (λ j. j.finding ≡ Finding.Accepted ↔ j.text.items ≡ output.now) }
+    ensures parts { IfOk result
+        (λ j. (n : ℕ) → j.finding ≡ Finding.Undecided n → PartsAt script.now output.now) }
+    ensures stopped { IfOk result
+        (λ j. j.has_stopped ≡ true → (n : ℕ) × (j.finding ≡ Finding.Undecided n)) }
+{
+    let low = SearchPlan {
+        placement: Placement::Low,
+        most_runs,
+        shakes: false,
+    };
+    let by_low = settle_by_search(alloc, script, output, judgement, &low)?;
+    let Finding::Undecided(_) = by_low.finding else {
+        return Ok(by_low);
+    };
+    let high = SearchPlan {
+        placement: Placement::High,
+        ..low
+    };
+    let by_high = settle_by_search(alloc, script, output, by_low, &high)?;
+    let Finding::Undecided(_) = by_high.finding else {
+        return Ok(by_high);
+    };
+    let low_shaken = SearchPlan {
+        shakes: true,
+        ..low
+    };
+    let by_shaken = settle_by_search(alloc, script, output, by_high, &low_shaken)?;
+    let Finding::Undecided(_) = by_shaken.finding else {
+        return Ok(by_shaken);
+    };
+    let high_shaken = SearchPlan {
+        shakes: true,
+        ..high
+    };
+    settle_by_search(alloc, script, output, by_shaken, &high_shaken)
+}
+
+// Judges an output of a script that is not too long, as `judge_within` does.
+fn judge_short(
+    alloc: Global,
+    script: &[u8],
+    output: &[u8],
+    most_runs: usize,
+) -> Result<Judgement, OutOfMemory>
+    requires { length script.now ≤ most_script_bytes }
+    ensures found { IfOk result
+        (λ j. IsFound script.now output.now j.text.items j.outcome j.finding) }
+    ensures decided { IfOk result
+        (λ j. GrantsAreShown (lines_of script.now)
+        → (n : ℕ) → j.finding ≡ Finding.Undecided n → IsListAt (lines_of script.now) n) }
+    ensures run { IfOk result (λ j. IsPrinting script.now j.text.items j.outcome) }
+    ensures agrees { IfOk result
+        (λ j. j.finding ≡ Finding.Accepted ↔ j.text.items ≡ output.now) }
+    ensures parts { IfOk result
+        (λ j. (n : ℕ) → j.finding ≡ Finding.Undecided n → PartsAt script.now output.now) }
+    ensures stopped { IfOk result
+        (λ j. j.has_stopped ≡ true → (n : ℕ) × (j.finding ≡ Finding.Undecided n)) }
+{
+    let judgement = judge_run(alloc, script, output, true)?;
+    let Finding::Undecided(_) = judgement.finding else {
+        return Ok(judgement);
+    };
+    let other = judge_run(alloc, script, output, false)?;
+    if other.finding == Finding::Accepted {
+        return Ok(other);
+    }
+    let ruling = ruling_of(alloc, script, output)?;
+    let settled = settle(alloc, script, output, judgement, ruling, false)?;
+    let Finding::Undecided(_) = settled.finding else {
+        return Ok(settled);
+    };
+    settle_by_searches(alloc, script, output, settled, most_runs)
 }
 
 /// Judges an output with runs of the script that use the addresses in the output. No answer shows where the parts of a pool are: the first
-/// run places them by their cells, the second one by the placement, and further runs try each place that the known cells allow, up to
-/// a number of runs. If none of them prints the output, it is refused if it differs from the first two at a line that places do not
-/// decide, or has no answer there that the line can have.
+/// run places them by their cells, the second one by the placement. Then four searches try the places that the known cells allow, and places
+/// of the areas of lists that the output refuses, with at most this many runs each. If none of the runs prints the output, it is refused if it
+/// differs from the first two, or from the run of a search that agrees with it furthest, at a line that places do not decide, or has no answer
+/// there that the line can have.
+pub fn judge_within(
+    alloc: Global,
+    script: &[u8],
+    output: &[u8],
+    most_runs: usize,
+) -> Result<Judgement, RunFault>
+    ensures found { IfOk result
+        (λ j. IsFound script.now output.now j.text.items j.outcome j.finding) }
+    // Where the script asks for each area, and for each of a list, it is accepted or refused, or left open at a list.
+    ensures decided { IfOk result
+        (λ j. GrantsAreShown (lines_of script.now)
+        → (n : ℕ) → j.finding ≡ Finding.Undecided n → IsListAt (lines_of script.now) n) }
+    ensures run { IfOk result (λ j. IsPrinting script.now j.text.items j.outcome) }
+    ensures agrees { IfOk result
+        (λ j. j.finding ≡ Finding.Accepted ↔ j.text.items ≡ output.now) }
+    // It is left open only if a run prints what it begins with, up to a line whose answer places decide, and it has an answer
+    // there that this line can have.
+    ensures parts { IfOk result
+        (λ j. (n : ℕ) → j.finding ≡ Finding.Undecided n → PartsAt script.now output.now) }
+    // The search stops at its bound only if it is left open.
+    ensures stopped { IfOk result
+        (λ j. j.has_stopped ≡ true → (n : ℕ) × (j.finding ≡ Finding.Undecided n)) }
+    // It stops with an error if the script is too long, and otherwise only if memory is exhausted. Each line needs some.
+    ensures too_long { most_script_bytes < length script.now
+        → IsErrOf result RunFault.ReadTooLong }
+    ensures memory { IfErr result
+        (λ fault. length script.now ≤ most_script_bytes → fault ≡ RunFault.Memory) }
+{
+    if script.len() > MOST_SCRIPT_BYTES {
+        return Err(RunFault::ReadTooLong);
+    }
+    let judgement = judge_short(alloc, script, output, most_runs).map_err(|_| RunFault::Memory)?;
+    Ok(judgement)
+}
+
+/// The most runs of a search of `judge`.
+pub const MOST_RUNS: usize = 1000;
+
+/// Judges an output as `judge_within` does, with at most `MOST_RUNS` runs.
 pub fn judge(alloc: Global, script: &[u8], output: &[u8]) -> Result<Judgement, RunFault>
     ensures found { IfOk result
         (λ j. IsFound script.now output.now j.text.items j.outcome j.finding) }
@@ -260,30 +425,14 @@ pub fn judge(alloc: Global, script: &[u8], output: &[u8]) -> Result<Judgement, R
     // there that this line can have.
     ensures parts { IfOk result
         (λ j. (n : ℕ) → j.finding ≡ Finding.Undecided n → PartsAt script.now output.now) }
+    // The search stops at its bound only if it is left open.
+    ensures stopped { IfOk result
+        (λ j. j.has_stopped ≡ true → (n : ℕ) × (j.finding ≡ Finding.Undecided n)) }
     // It stops with an error if the script is too long, and otherwise only if memory is exhausted. Each line needs some.
     ensures too_long { most_script_bytes < length script.now
         → IsErrOf result RunFault.ReadTooLong }
     ensures memory { IfErr result
         (λ fault. length script.now ≤ most_script_bytes → fault ≡ RunFault.Memory) }
 {
-    if script.len() > MOST_SCRIPT_BYTES {
-        return Err(RunFault::ReadTooLong);
-    }
-    let judgement = judge_run(alloc, script, output, true)?;
-    let Finding::Undecided(_) = judgement.finding else {
-        return Ok(judgement);
-    };
-    let other = judge_run(alloc, script, output, false)?;
-    if other.finding == Finding::Accepted {
-        return Ok(other);
-    }
-    let settled = settle(alloc, script, output, judgement)?;
-    let Finding::Undecided(_) = settled.finding else {
-        return Ok(settled);
-    };
-    match printed_by_some(alloc, script, output) {
-        Ok(Some(found)) => Ok(found),
-        Ok(None) => Ok(settled),
-        Err(OutOfMemory) => Err(RunFault::Memory),
-    }
+    judge_within(alloc, script, output, MOST_RUNS)
 }

@@ -46,13 +46,9 @@ pub(crate) fn begins_abend(
         (λ b. BeginsBy text.now (answer_text line_number task.now (Abended code [])) b) }
 {
     let mut writer = Watched::new(Vec::new(alloc));
-    match print_abend(&mut writer, line_number, task, code, &[]) {
-        Ok(()) => {
-            let printed = writer.into_inner();
-            Ok(begins(text, printed.as_slice()))
-        }
-        Err(_) => Err(OutOfMemory),
-    }
+    print_abend(&mut writer, line_number, task, code, &[]).map_err(|_| OutOfMemory)?;
+    let printed = writer.into_inner();
+    Ok(begins(text, printed.as_slice()))
 }
 
 // Returns whether a text begins with what a list may be answered.

@@ -29,10 +29,8 @@ pub struct Continued<'a> {
 fn extended(mut text: Vec<u8>, back: &[u8]) -> Result<Vec<u8>, OutOfMemory>
     ensures { IfOk result (λ all. all.items ≡ text.items ++ back.now) }
 {
-    match text.extend_from_slice(back) {
-        Ok(()) => Ok(text),
-        Err(_) => Err(OutOfMemory),
-    }
+    text.extend_from_slice(back).map_err(|_| OutOfMemory)?;
+    Ok(text)
 }
 
 // Returns a text without its last three bytes.
@@ -45,7 +43,11 @@ fn shortened(mut text: Vec<u8>) -> Vec<u8>
 }
 
 // Returns the number of a line and its task, as they are printed.
-fn print_head(alloc: Global, line_number: u32, task: &Name) -> Result<Vec<u8>, OutOfMemory>
+pub(crate) fn print_head(
+    alloc: Global,
+    line_number: u32,
+    task: &Name,
+) -> Result<Vec<u8>, OutOfMemory>
     ensures { IfOk result (λ text. text.items ≡ head line_number task.now) }
 {
     let line = print_answer(Vec::new(alloc), line_number, task, &Answer::Done)?;

@@ -1,5 +1,6 @@
 //! Finds where the parts of cell pools begin, from the cells that an output shows.
 
+use crate::trials::{PartPlaces, PlaceTrial, StepPages, TrialPlaces, push_by_pages};
 use mvs_job::AddressHints;
 use mvs_model::error::OutOfMemory;
 use mvs_model::line::SourceRequest;
@@ -7,16 +8,6 @@ use mvs_model::name::Name;
 use mvs_model::place::Addr;
 use std::alloc::Global;
 use std::collections::HashMap;
-
-// The bytes of a page, and where the pages of a step begin.
-const PAGE_BYTES: u32 = 4096;
-
-const BELOW_BEGINS: u32 = 0x6000;
-
-const ABOVE_BEGINS: u32 = 0x100_0000;
-
-// The most pages of each region in which a part is tried that has no known cell.
-const MOST_PAGES: u32 = 32;
 
 // The most places that are tried for a part.
 const MOST_PLACES: u32 = 4096;
@@ -27,13 +18,6 @@ struct Cells {
     first: u32,
     lowest: u32,
     highest: u32,
-}
-
-// The pages of a step, of which there are so many below 16 megabytes and above.
-#[derive(Clone, Copy)]
-struct StepPages {
-    below: u32,
-    above: u32,
 }
 
 // A part: the line that added it to its pool, the line that built the pool, the size of a cell, the number of cells, the known ones, and
@@ -114,47 +98,15 @@ impl PoolPart {
         len.saturating_add(7) / 8 * 8
     }
 
-    // Adds the places at the beginning or at the end of the first pages of a region.
-    fn push_by_pages(
-        &self,
-        places: &mut Vec<u32>,
-        begins: u32,
-        pages: u32,
-        at_end: bool,
-    ) -> Result<(), OutOfMemory> {
-        for page in 0..pages.min(MOST_PAGES) {
-            let begin = begins.saturating_add(page.saturating_mul(PAGE_BYTES));
-            let start = if at_end {
-                begin.saturating_add(PAGE_BYTES).saturating_sub(self.len())
-            } else {
-                begin
-            };
-            places
-                .push(start.saturating_add(self.head_len()))
-                .map_err(|_| OutOfMemory)?;
-        }
-        Ok(())
-    }
-
-    // Returns where the first cell of a part without a known one is tried: where the placement puts it, which is the hint 0, and at the
-    // beginning and the end of each page.
-    fn by_pages(&self, alloc: Global) -> Result<Vec<u32>, OutOfMemory> {
-        let mut places = Vec::new(alloc);
-        places.push(0).map_err(|_| OutOfMemory)?;
-        for at_end in [false, true] {
-            let StepPages { below, above } = self.pages;
-            self.push_by_pages(&mut places, BELOW_BEGINS, below, at_end)?;
-            self.push_by_pages(&mut places, ABOVE_BEGINS, above, at_end)?;
-        }
-        Ok(places)
-    }
-
-    // Returns where the first cell may be: the likeliest place, and then each one from which the known cells are whole cells away.
+    // Returns where the first cell may be: the likeliest place, and then each one from which the known cells are whole cells away. Where no cell
+    // is known it is tried where the placement puts it, which is the hint 0, and then in each page.
     fn first_cells(&self, alloc: Global, go_down: bool) -> Result<Vec<u32>, OutOfMemory> {
-        let Some(cells) = self.cells else {
-            return self.by_pages(alloc);
-        };
         let mut places = Vec::new(alloc);
+        let Some(cells) = self.cells else {
+            places.push(0).map_err(|_| OutOfMemory)?;
+            push_by_pages(&mut places, &self.pages, self.len(), self.head_len())?;
+            return Ok(places);
+        };
         let likeliest = self.first_cell(go_down);
         if let Some(first) = likeliest {
             places.push(first).map_err(|_| OutOfMemory)?;
@@ -225,33 +177,6 @@ impl PoolPart {
     }
 }
 
-/// The places that a part may have.
-#[derive(Drop)]
-pub struct PartPlaces {
-    /// The line that added it.
-    pub line: u32,
-    /// Whether its pool had other parts before.
-    pub is_further: bool,
-    /// Where its first cell may be, the likeliest place first.
-    pub first_cells: Vec<u32>,
-    /// The bytes before its cells, and those of its cells.
-    pub head_len: u32,
-    pub cells_len: u32,
-}
-
-impl PartPlaces {
-    /// Returns whether one of its places has storage in the page of an address.
-    pub fn is_near(&self, choice: usize, addr: u32) -> bool {
-        let Some(first) = self.first_cells.get(choice) else {
-            return false;
-        };
-        let page = addr / PAGE_BYTES;
-        let begin = first.saturating_sub(self.head_len) / PAGE_BYTES;
-        let end = first.saturating_add(self.cells_len) / PAGE_BYTES;
-        begin <= page && page <= end
-    }
-}
-
 impl PoolParts {
     /// Makes the parts of a job in which there is no pool.
     pub fn new(alloc: Global) -> PoolParts {
@@ -263,27 +188,23 @@ impl PoolParts {
         }
     }
 
-    /// Forgets all pools, since a step with so many pages begins.
-    pub fn begin_step(&mut self, below: u32, above: u32) {
+    /// Forgets all pools, since a step with these pages begins.
+    pub fn begin_step(&mut self, pages: StepPages) {
         self.pools.clear();
-        self.pages = StepPages { below, above };
+        self.pages = pages;
     }
 
     // Keeps a pool.
     fn keep(&mut self, name: &Name, pool: Pool) -> Result<(), OutOfMemory> {
-        match self.pools.insert(*name, pool) {
-            Ok(_) => Ok(()),
-            Err(_) => Err(OutOfMemory),
-        }
+        self.pools.insert(*name, pool).map_err(|_| OutOfMemory)?;
+        Ok(())
     }
 
     // Adds a part, and returns its place in the list.
     fn put(&mut self, part: PoolPart) -> Result<usize, OutOfMemory> {
         let place = self.parts.len();
-        match self.parts.push(part) {
-            Ok(()) => Ok(place),
-            Err(_) => Err(OutOfMemory),
-        }
+        self.parts.push(part).map_err(|_| OutOfMemory)?;
+        Ok(place)
     }
 
     // Keeps a pool that was built.
@@ -334,9 +255,7 @@ impl PoolParts {
             line,
             part: pool.part,
         };
-        if self.taken.push(taken).is_err() {
-            return Err(OutOfMemory);
-        }
+        self.taken.push(taken).map_err(|_| OutOfMemory)?;
         self.keep(name, pool)
     }
 
@@ -399,10 +318,8 @@ impl PoolParts {
         if let Some(kept) = self.parts.get_mut(place) {
             *kept = part;
         }
-        match seen.insert(addr, part) {
-            Ok(_) => Ok(()),
-            Err(_) => Err(OutOfMemory),
-        }
+        seen.insert(addr, part).map_err(|_| OutOfMemory)?;
+        Ok(())
     }
 
     // Records each known cell.
@@ -454,23 +371,26 @@ impl PoolParts {
     }
 
     /// Returns the places that each part may have by its known cells, in the order of the parts.
-    pub fn candidates(
+    pub fn trials(
         &mut self,
         alloc: Global,
         hints: &AddressHints,
-    ) -> Result<Vec<PartPlaces>, OutOfMemory> {
+    ) -> Result<Vec<PlaceTrial>, OutOfMemory> {
         self.see_each(alloc, hints)?;
         let go_down = self.go_down();
         let mut all = Vec::new(alloc);
         for part in &self.parts {
             let places = PartPlaces {
-                line: part.line,
                 is_further: part.line != part.pool_line,
                 first_cells: part.first_cells(alloc, go_down)?,
                 head_len: part.head_len(),
                 cells_len: part.cells_len(),
             };
-            all.push(places).map_err(|_| OutOfMemory)?;
+            let trial = PlaceTrial {
+                line: part.line,
+                places: TrialPlaces::Part(places),
+            };
+            all.push(trial).map_err(|_| OutOfMemory)?;
         }
         Ok(all)
     }

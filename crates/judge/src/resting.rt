@@ -35,23 +35,21 @@ pub fn run_rest(
         let rest = &script[at..];
         let end = line_end(rest);
         let line_hints = hints.of(walk.number());
-        match run_line(&mut walk, &rest[..end], line_hints, &mut writer) {
-            Ok(true) => at += end + 1,
-            Ok(false) => {
-                return Ok(RunResult {
-                    outcome: Outcome::ScriptFault,
-                    text: writer.into_inner(),
-                });
-            }
-            Err(_) => return Err(OutOfMemory),
+        let continues = run_line(&mut walk, &rest[..end], line_hints, &mut writer).map_err(
+            |_| OutOfMemory,
+        )?;
+        if !continues {
+            return Ok(RunResult {
+                outcome: Outcome::ScriptFault,
+                text: writer.into_inner(),
+            });
         }
+        at += end + 1;
     }
     let closing = walk.close();
-    match print_closing(&mut writer, walk.number(), closing.ended) {
-        Ok(()) => Ok(RunResult {
-            outcome: closing.outcome,
-            text: writer.into_inner(),
-        }),
-        Err(_) => Err(OutOfMemory),
-    }
+    print_closing(&mut writer, walk.number(), closing.ended).map_err(|_| OutOfMemory)?;
+    Ok(RunResult {
+        outcome: closing.outcome,
+        text: writer.into_inner(),
+    })
 }

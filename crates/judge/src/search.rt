@@ -1,10 +1,11 @@
-//! Looks for places of the parts of pools with which a run prints an output.
+//! Looks for places of the parts of pools, and of the areas of lists that are refused, with which a run prints an output.
 
-ghost use Rattle.std.specs.Prelude.{◌≡◌, ◌≤◌, IfOk, IfSome, length};
+ghost use Rattle.std.specs.Prelude.{◌≡◌, ◌≤◌, List, ℕ, IfOk, length};
 ghost use Rattle.mvs_model.specs.Numbers.{most_script_bytes};
 ghost use Rattle.mvs_model.specs.Runs.{IsPrinting};
+ghost use Rattle.judge.specs.Excluding.{IsSearchEnd};
 
-use crate::hearing::HeardParts;
+use crate::hearing::Trials;
 use crate::resting::{RunResult, run_rest};
 use mvs_job::{AddressHints, Walk};
 use mvs_model::error::OutOfMemory;
@@ -12,23 +13,71 @@ use mvs_model::want::Placement;
 use std::alloc::Global;
 use std::str;
 
-// The most runs, and the most bytes of a script that all of them execute.
-const MOST_RUNS: usize = 1000;
+/// How a search goes on.
+#[derive(Clone, Copy)]
+pub struct SearchPlan {
+    /// Where the runs place what has no hint.
+    pub placement: Placement,
+    /// The most runs.
+    pub most_runs: usize,
+    /// Whether places of several lines are changed at once, once each place of a single line was tried.
+    pub shakes: bool,
+}
 
-const MOST_BYTES: usize = 33_554_432;
+// A script with more bytes than this gets fewer runs.
+const FULL_BYTES: usize = 32_768;
 
-// Where a run and an output differ: the number of the line of the script, and the address that the output shows there.
+/// How a search ended.
+#[derive(Drop)]
+pub enum SearchEnd {
+    /// This run prints the output.
+    Printed(RunResult),
+    /// No run that was made prints it.
+    Missed(NearestRun),
+}
+
+/// The run that agrees furthest with an output which none of the runs prints.
+#[derive(Drop)]
+pub struct NearestRun {
+    /// Its hints.
+    pub hints: AddressHints,
+    /// Whether the search stopped at its bound, with places left to try.
+    pub has_stopped: bool,
+}
+
+// How far a run agrees with an output: the bytes up to the first difference, the number of the line of the script there, and the address that
+// the output shows in that line.
 #[derive(Clone, Copy, Debug, PartialEq, Eq)]
-struct Difference {
+struct Agreement {
+    bytes: usize,
     line_number: u32,
     addr: Option<u32>,
 }
 
-// A choice of a place for each part: its number in the list of places.
+// Another place for one of the lines that are tried, by its number in the list of the line's places.
+#[derive(Clone, Copy, Debug, PartialEq, Eq)]
+struct PlaceChange {
+    line: usize,
+    place: usize,
+}
+
+// A source of numbers that look random, and are the same each time.
+#[derive(Clone, Copy, Debug, PartialEq, Eq)]
+struct Dice {
+    state: u32,
+}
+
+// The places of the next run, by their numbers in the lists of places, and those of the best run so far. Then what may be changed in that, the
+// likeliest first, and how much of it was tried.
 #[derive(Drop)]
-struct PartSearch {
-    heard: HeardParts,
+struct PlaceSearch {
+    trials: Trials,
     choices: Vec<usize>,
+    best_choices: Vec<usize>,
+    best: Option<Agreement>,
+    changes: Vec<PlaceChange>,
+    at: usize,
+    dice: Dice,
 }
 
 // Returns the number at the beginning of a printed line.
@@ -44,99 +93,159 @@ fn address_of(line: &str) -> Option<u32> {
     u32::from_str_radix(first, 16).ok()
 }
 
-// Returns where two texts differ first.
-fn first_difference(text: &str, output: &str) -> Difference {
+// Returns how far a text agrees with an output.
+fn compared(text: &str, output: &str) -> Agreement {
+    let mut bytes = 0usize;
     for (printed, shown) in text.lines().zip(output.lines()) {
         if printed != shown {
-            return Difference {
+            return Agreement {
+                bytes,
                 line_number: number_of(printed).unwrap_or(u32::MAX),
                 addr: address_of(shown),
             };
         }
+        bytes = bytes.saturating_add(printed.len()).saturating_add(1);
     }
-    Difference {
+    Agreement {
+        bytes,
         line_number: u32::MAX,
         addr: None,
     }
 }
 
-impl PartSearch {
-    // Begins with the likeliest place of each part.
-    fn new(alloc: Global, script: &[u8], output: &[u8]) -> Result<PartSearch, OutOfMemory> {
-        let heard = HeardParts::read(alloc, script, output)?;
+impl Dice {
+    // Returns the next number below this one.
+    fn roll(&mut self, below: usize) -> usize {
+        self.state = self
+            .state
+            .wrapping_mul(1_664_525)
+            .wrapping_add(1_013_904_223);
+        (self.state >> 8) as usize % below.max(1)
+    }
+}
+
+// Makes a list the same as another one.
+fn copy_onto(copy: &mut Vec<usize>, list: &[usize]) -> Result<(), OutOfMemory> {
+    copy.clear();
+    copy.extend_from_slice(list).map_err(|_| OutOfMemory)?;
+    Ok(())
+}
+
+impl PlaceSearch {
+    // Begins with the likeliest place of each line.
+    fn new(alloc: Global, script: &[u8], output: &[u8]) -> Result<PlaceSearch, OutOfMemory> {
+        let trials = Trials::read(alloc, script, output)?;
         let mut choices = Vec::new(alloc);
-        for _ in 0..heard.parts.len() {
+        for _ in 0..trials.tried.len() {
             choices.push(0).map_err(|_| OutOfMemory)?;
         }
-        Ok(PartSearch { heard, choices })
+        let mut best_choices = Vec::new(alloc);
+        copy_onto(&mut best_choices, &choices)?;
+        Ok(PlaceSearch {
+            trials,
+            choices,
+            best_choices,
+            best: None,
+            changes: Vec::new(alloc),
+            at: 0,
+            dice: Dice { state: 1 },
+        })
     }
 
-    // Returns the hints for a run with the chosen places.
-    fn hints(&self, alloc: Global) -> Result<AddressHints, OutOfMemory> {
-        self.heard.hints(alloc, &self.choices)
-    }
-
-    // Returns whether a part has further places, and was added before a difference.
-    fn may_change(&self, number: usize, difference: &Difference) -> bool {
-        match (self.heard.parts.get(number), self.choices.get(number)) {
-            (Some(part), Some(choice)) => {
-                part.line <= difference.line_number
-                    && choice.saturating_add(1) < part.first_cells.len()
-            }
-            _ => false,
+    // Returns the hints for a run with these places.
+    fn hints(&self, alloc: Global, choices: &[usize]) -> Result<AddressHints, OutOfMemory> {
+        let mut hints = self.trials.shown(alloc)?;
+        for (trial, choice) in self.trials.tried.iter().zip(choices) {
+            trial.add_hints(alloc, &mut hints, *choice)?;
         }
+        Ok(hints)
     }
 
-    // Returns whether the chosen place of a part is in the page of an address.
-    fn is_near(&self, number: usize, addr: u32) -> bool {
-        match (self.heard.parts.get(number), self.choices.get(number)) {
-            (Some(part), Some(choice)) => part.is_near(*choice, addr),
-            _ => false,
-        }
-    }
-
-    // Returns the part whose place is changed next: the last one that is where the output shows something else, or the last one.
-    fn next_part(&self, difference: &Difference) -> Option<usize> {
-        let mut last = None;
-        let mut nearest = None;
-        for number in 0..self.choices.len() {
-            if self.may_change(number, difference) {
-                last = Some(number);
-                if difference
-                    .addr
-                    .is_some_and(|addr| self.is_near(number, addr))
-                {
-                    nearest = last;
-                }
-            }
-        }
-        nearest.or(last)
-    }
-
-    // Chooses the next place of a part, and the likeliest ones of those after it.
-    fn advance(&mut self, part: usize) {
-        for (number, choice) in self.choices.iter_mut().enumerate() {
-            if number == part {
-                *choice = choice.saturating_add(1);
-            }
-            if number > part {
-                *choice = 0;
-            }
-        }
-    }
-
-    // Chooses other places after a run has printed a text. Returns whether there are some.
-    fn next(&mut self, text: &[u8], output: &[u8]) -> bool {
-        let (Ok(text), Ok(output)) = (str::from_utf8(text), str::from_utf8(output)) else {
-            return false;
+    // Adds each other place of a line, where that comes before a difference, and its place is, or is not, where the output shows something else.
+    fn add_changes(
+        &mut self,
+        line: usize,
+        found: &Agreement,
+        is_near: bool,
+    ) -> Result<(), OutOfMemory> {
+        let (Some(trial), Some(choice)) = (self.trials.tried.get(line), self.best_choices.get(line))
+        else {
+            return Ok(());
         };
-        match self.next_part(&first_difference(text, output)) {
-            Some(part) => {
-                self.advance(part);
-                true
-            }
-            None => false,
+        let near = found.addr.is_some_and(|addr| trial.is_near(*choice, addr));
+        if trial.line > found.line_number || near != is_near {
+            return Ok(());
         }
+        for place in 0..trial.count() {
+            if place != *choice {
+                let change = PlaceChange { line, place };
+                self.changes.push(change).map_err(|_| OutOfMemory)?;
+            }
+        }
+        Ok(())
+    }
+
+    // Keeps a run that agrees further than those before. Next the places of the lines before the difference are tried, the last line first, and
+    // before all those that are where the output shows something else.
+    fn keep(&mut self, found: Agreement) -> Result<(), OutOfMemory> {
+        copy_onto(&mut self.best_choices, &self.choices)?;
+        self.best = Some(found);
+        self.changes.clear();
+        self.at = 0;
+        let count = self.choices.len();
+        for number in 0..count.saturating_mul(2) {
+            let line = count
+                .saturating_sub(1)
+                .saturating_sub(number % count.max(1));
+            self.add_changes(line, &found, number < count)?;
+        }
+        Ok(())
+    }
+
+    // Puts some lines of the next run at places at random, if they come before the first difference of the best one.
+    fn shake(&mut self) {
+        let last = match self.best {
+            Some(best) => best.line_number,
+            None => 0,
+        };
+        for (trial, choice) in self.trials.tried.iter().zip(self.choices.iter_mut()) {
+            if trial.line <= last && self.dice.roll(3) == 0 {
+                *choice = self.dice.roll(trial.count());
+            }
+        }
+    }
+
+    // Chooses the places of the next run. Returns whether there are some.
+    fn advance(&mut self, shakes: bool) -> Result<bool, OutOfMemory> {
+        copy_onto(&mut self.choices, &self.best_choices)?;
+        if let Some(change) = self.changes.get(self.at) {
+            if let Some(choice) = self.choices.get_mut(change.line) {
+                *choice = change.place;
+            }
+            self.at = self.at.saturating_add(1);
+            return Ok(true);
+        }
+        if shakes && self.choices.len() > 1 {
+            self.shake();
+            return Ok(true);
+        }
+        Ok(false)
+    }
+
+    // Takes what a run has printed. Returns whether there are other places to try.
+    fn take(&mut self, text: &[u8], output: &[u8], shakes: bool) -> Result<bool, OutOfMemory> {
+        let (Ok(text), Ok(output)) = (str::from_utf8(text), str::from_utf8(output)) else {
+            return Ok(false);
+        };
+        let found = compared(text, output);
+        let is_better = match self.best {
+            Some(best) => best.bytes < found.bytes,
+            None => true,
+        };
+        if is_better {
+            self.keep(found)?;
+        }
+        self.advance(shakes)
     }
 }
 
@@ -154,32 +263,39 @@ fn run_with(
 }
 
 // Returns how many runs are made of a script of some bytes.
-fn most_runs(len: usize) -> usize {
-    (MOST_BYTES / len.max(1)).min(MOST_RUNS)
+fn runs_of(len: usize, most_runs: usize) -> usize {
+    most_runs.saturating_mul(FULL_BYTES) / len.max(FULL_BYTES)
 }
 
-/// Returns a run that prints an output, if one is found among those whose parts are where the known cells allow it. The runs place other
-/// areas as the placement says.
+// Returns that no run prints an output.
+fn missed(alloc: Global, places: &PlaceSearch, has_stopped: bool) -> Result<SearchEnd, OutOfMemory>
+    ensures { IfOk result (λ end. (script : List ℕ) (output : List ℕ) → IsSearchEnd script output end) }
+{
+    let hints = places.hints(alloc, &places.best_choices)?;
+    Ok(SearchEnd::Missed(NearestRun { hints, has_stopped }))
+}
+
+/// Looks for a run that prints an output, among those whose parts are where the known cells allow it. The runs place other areas as the plan
+/// says. It makes at most as many runs as that allows, and fewer of a long script.
 pub fn search(
     alloc: Global,
     script: &[u8],
     output: &[u8],
-    placement: Placement,
-) -> Result<Option<RunResult>, OutOfMemory>
+    plan: &SearchPlan,
+) -> Result<SearchEnd, OutOfMemory>
     requires { length script.now ≤ most_script_bytes }
-    ensures { IfOk result (λ found. IfSome found
-        (λ ran. IsPrinting script.now ran.text.items ran.outcome × (ran.text.items ≡ output.now))) }
+    ensures { IfOk result (IsSearchEnd script.now output.now) }
 {
-    let mut places = PartSearch::new(alloc, script, output)?;
-    'runs: for _ in 0..most_runs(script.len()) {
-        let hints = places.hints(alloc)?;
-        let ran = run_with(alloc, script, &hints, placement)?;
+    let mut places = PlaceSearch::new(alloc, script, output)?;
+    'runs: for _ in 0..runs_of(script.len(), plan.most_runs) {
+        let hints = places.hints(alloc, &places.choices)?;
+        let ran = run_with(alloc, script, &hints, plan.placement)?;
         if ran.text.as_slice() == output {
-            return Ok(Some(ran));
+            return Ok(SearchEnd::Printed(ran));
         }
-        if !places.next(&ran.text, output) {
-            return Ok(None);
+        if !places.take(&ran.text, output, plan.shakes)? {
+            return missed(alloc, &places, false);
         }
     }
-    Ok(None)
+    missed(alloc, &places, true)
 }

@@ -90,10 +90,7 @@ pub(crate) fn answers_in(line: &[u8]) -> Option<&[u8]>
     ensures { option_map (λ text. text.now) result ≡ answers_in line.now }
 {
     let (_, rest) = parted_at(line, ARROW);
-    match rest {
-        Some(rest) => Some(trimmed(rest)),
-        None => None,
-    }
+    Some(trimmed(rest?))
 }
 
 // Returns whether what is after the arrow of a line is an answer.

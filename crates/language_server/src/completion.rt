@@ -189,10 +189,7 @@ fn has_names(kind: Kind) -> bool
 fn positional_of(row: Row, place: usize) -> Option<Positional>
     ensures { option_map as_positional result ≡ slice_get (row_at row).positional place }
 {
-    match row.positional().get(place) {
-        Some(positional) => Some(*positional),
-        None => None,
-    }
+    row.positional().get(place).copied()
 }
 
 impl Document {

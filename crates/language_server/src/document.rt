@@ -126,11 +126,9 @@ impl Document {
         ensures memory { IfErr result
             (λ error. error ≡ DocumentError.Memory → length text.items ≤ 1048576) }
     {
-        match Document::analyse(alloc, text) {
-            Ok(Some(document)) => Ok(document),
-            Ok(None) => Err(DocumentError::TooLong),
-            Err(_) => Err(DocumentError::Memory),
-        }
+        Document::analyse(alloc, text)
+            .map_err(|_| DocumentError::Memory)?
+            .ok_or(DocumentError::TooLong)
     }
 
     /// Returns its text.

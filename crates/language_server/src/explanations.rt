@@ -36,13 +36,9 @@ pub fn ends_step(line: &[u8]) -> bool
 pub fn abend_code(answer: &[u8]) -> Option<&[u8]>
     ensures { option_map (λ code. code.now) result ≡ abend_code answer.now }
 {
-    match after_prefix(answer, b"ABEND ") {
-        Some(rest) => {
-            let (code, _) = split_once(rest, b' ');
-            Some(code)
-        }
-        None => None,
-    }
+    let rest = after_prefix(answer, b"ABEND ")?;
+    let (code, _) = split_once(rest, b' ');
+    Some(code)
 }
 
 // ---- explanations
@@ -114,20 +110,14 @@ fn after_rule(text: &[u8]) -> Option<&[u8]>
 fn rule_in(text: &[u8]) -> Option<u64>
     ensures { result ≡ rule_in text.now }
 {
-    match after_rule(text) {
-        Some(number) => leading_number(number),
-        None => None,
-    }
+    leading_number(after_rule(text)?)
 }
 
 // Returns the number of the rule that a printed line names, if it begins with an asterisk.
 fn line_rule(line: &[u8]) -> Option<u64>
     ensures { result ≡ rule_of (starred line.now) }
 {
-    match starred(line) {
-        Some(text) => rule_in(text),
-        None => None,
-    }
+    rule_in(starred(line)?)
 }
 
 /// Returns the number of the first rule that an explanation names.
@@ -143,10 +133,7 @@ pub fn explained_rule(others: &[u8]) -> Option<u64>
         if let Some(number) = line_rule(line) {
             return Some(number);
         }
-        match more {
-            Some(next) => rest = next,
-            None => return None,
-        }
+        rest = more?;
     }
     None
 }

@@ -40,10 +40,7 @@ fn question_word(text: &[u8]) -> Option<&[u8]>
 fn meant_in(message: &[u8]) -> Option<&[u8]>
     ensures { option_map (λ word. word.now) result ≡ meant_in message.now }
 {
-    match after(message, b"did you mean ") {
-        Some(rest) => question_word(rest),
-        None => None,
-    }
+    question_word(after(message, b"did you mean ")?)
 }
 
 // Returns whether a message says that a word has to be in upper case.

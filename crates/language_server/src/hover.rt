@@ -328,10 +328,7 @@ fn is_subpool_operand(operand: &Option<Piece<'_>>) -> bool
 fn hover_with(span: Span, text: Option<String>) -> Option<Hover>
     ensures { result ≡ hover_with span (option_map (λ t. string_bytes t) text) }
 {
-    match text {
-        Some(text) => Some(Hover { span, text }),
-        None => None,
-    }
+    text.map(|text| Hover { span, text })
 }
 
 impl Document {

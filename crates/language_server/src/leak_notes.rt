@@ -114,10 +114,8 @@ fn leak_with(text: &[u8], number: Option<u64>) -> Option<LeakLine<'_>>
 pub fn leak_in(line: &[u8]) -> Option<LeakLine<'_>>
     ensures { result ≡ leak_in line.now }
 {
-    match starred(line) {
-        Some(text) => leak_with(text, line_number(text)),
-        None => None,
-    }
+    let text = starred(line)?;
+    leak_with(text, line_number(text))
 }
 
 // Returns what is reported of an area or a pool.

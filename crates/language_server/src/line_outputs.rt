@@ -73,10 +73,7 @@ fn is_own(printed: &[u8], number: u32) -> bool
 fn own_text<'a>(line: &'a [u8], number: u32, task: &[u8]) -> Option<&'a [u8]>
     ensures { option_map (λ t. t.now) result ≡ own_text number task.now line.now }
 {
-    match numbered(line, number) {
-        Some(text) => Some(without_task(text, task)),
-        None => None,
-    }
+    numbered(line, number).map(|text| without_task(text, task))
 }
 
 impl LineOutput {

@@ -105,10 +105,7 @@ fn nearer<'a>(best: Option<NearName<'a>>, next: Option<NearName<'a>>) -> Option<
 fn near_text(name: Option<NearName<'_>>) -> Option<&[u8]>
     ensures { option_map (λ text. text.now) result ≡ near_text name.entry }
 {
-    match name {
-        Some(name) => Some(name.text),
-        None => None,
-    }
+    name.map(|name| name.text)
 }
 
 impl Document {

@@ -36,8 +36,5 @@ fn numbered_rule(number: u64) -> Option<&'static str>
 pub fn rule_text(number: Option<u64>) -> Option<&'static str>
     ensures { IsRuleText number (option_map (λ t. t.now) result) }
 {
-    match number {
-        Some(number) => numbered_rule(number),
-        None => None,
-    }
+    numbered_rule(number?)
 }

@@ -59,13 +59,8 @@ fn word_of(text: Option<&[u8]>) -> Option<&[u8]>
     ensures { option_map (λ word. word.now) result
         ≡ word_of (option_map (λ t. t.now) text.entry) }
 {
-    match text {
-        Some(text) => {
-            let (word, _) = split_blank(text);
-            Some(word)
-        }
-        None => None,
-    }
+    let (word, _) = split_blank(text?);
+    Some(word)
 }
 
 // Returns the number of the subpool of an area.

@@ -127,13 +127,8 @@ pub fn operand_at<'a>(field: &Piece<'a>, column: usize) -> Option<Piece<'a>>
         if piece_span(&operand).touches(column) {
             return Some(operand);
         }
-        match more {
-            None => return None,
-            Some(next) => {
-                place += bytes.len() + 1;
-                rest = next;
-            }
-        }
+        rest = more?;
+        place += bytes.len() + 1;
     }
 }
 

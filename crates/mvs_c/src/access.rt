@@ -173,10 +173,7 @@ fn find_subpool(held: &Open, name: &[u8; 8], from: u8) -> Result<SubpoolLine, u3
     if !job.step().is_active(&task) {
         return Err(NO_TASK);
     }
-    match job.step().subpool_line(&task, from) {
-        Some(line) => Ok(line),
-        None => Err(NO_MORE),
-    }
+    job.step().subpool_line(&task, from).ok_or(NO_MORE)
 }
 
 /// Returns the first subpool number of a task at or after one.

@@ -128,20 +128,14 @@ pub struct RawRequest {
 fn kind_of(number: u32) -> Option<RequestKind>
     ensures { result ≡ kind_numbered number }
 {
-    match KINDS.get(number as usize) {
-        Some(kind) => *kind,
-        None => None,
-    }
+    *KINDS.get(number as usize)?
 }
 
 /// Returns a form.
 pub fn form_of(number: u32) -> Option<Form>
     ensures { result ≡ form_numbered number }
 {
-    match FORMS.get(number as usize) {
-        Some(form) => *form,
-        None => None,
-    }
+    *FORMS.get(number as usize)?
 }
 
 // Returns whether an obtain of this form can have a least length.
@@ -397,6 +391,7 @@ impl RawRequest {
         Gifts::new(given, shared, !self.keeps_zero)
     }
 
+    #[inline(always)]
     fn obtain(&self, request: &mut Request) -> Option<RequestField>
         ensures { AsksOf kind.Obtain self.now (answer_of result request.new) }
     {
@@ -430,6 +425,7 @@ impl RawRequest {
         None
     }
 
+    #[inline(always)]
     fn release(&self, request: &mut Request) -> Option<RequestField>
         ensures { AsksOf kind.Release self.now (answer_of result request.new) }
     {
@@ -597,6 +593,7 @@ impl RawRequest {
     }
 
     // Writes the request of a struct of this kind over another, or returns the first field that does not fit.
+    #[inline(always)]
     fn request_of(&self, kind: RequestKind, request: &mut Request) -> Option<RequestField>
         ensures { AsksOf kind self.now (answer_of result request.new) }
     {
@@ -620,6 +617,7 @@ impl RawRequest {
     }
 
     // Writes the request over another, or returns the first field that does not fit.
+    #[inline(always)]
     fn request(&self, request: &mut Request) -> Option<RequestField>
         ensures { Asks self.now (answer_of result request.new) }
     {
@@ -636,27 +634,30 @@ impl RawRequest {
         kind_of(self.kind)
     }
 
-    /// Returns the task that makes the request, or the field if the size or the name does not fit.
-    pub fn named_task(&self) -> Result<Name, RequestField>
+    /// Returns the task that makes the request, whose name has been read, or the field if the size or the name does not fit.
+    pub fn named_task(&self, task: Option<Name>) -> Result<Name, RequestField>
+        requires { SomeIff task (IsNamed self.now.task) (name_value self.now.task) }
         ensures { NamesTask self.now result }
     {
-        if self.size != ASK_BYTES {
-            return Err(RequestField::Size);
+        if self.size == ASK_BYTES {
+            task.ok_or(RequestField::Task)
+        } else {
+            Err(RequestField::Size)
         }
-        let Some(task) = name_of(&self.task) else {
-            return Err(RequestField::Task);
-        };
-        Ok(task)
     }
 
-    /// Writes the request over another, and returns the task that makes it, or the first field that does not fit.
-    pub fn task_request(&self, request: &mut Request) -> Result<Name, RequestField>
+    /// Writes the request over another, and returns the task that makes it, whose name has been read, or the first field that does not
+    /// fit.
+    #[inline(always)]
+    pub fn task_request(
+        &self,
+        task: Option<Name>,
+        request: &mut Request,
+    ) -> Result<Name, RequestField>
+        requires { SomeIff task (IsNamed self.now.task) (name_value self.now.task) }
         ensures { TaskAsks self.now (Asks self.now) (named_answer result request.new) }
     {
-        let task = match self.named_task() {
-            Ok(task) => task,
-            Err(field) => return Err(field),
-        };
+        let task = self.named_task(task)?;
         match self.request(request) {
             None => Ok(task),
             Some(field) => Err(field),

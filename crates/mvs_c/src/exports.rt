@@ -90,7 +90,9 @@ pub fn placement(number: u32) -> Option<Placement>
 pub fn put(alloc: Global, session: &mut Handle, held: Box<Open>)
     ensures { session.new.open ≡ Some held.value }
 {
-    drop(mem::replace(session, Handle::of(held)).into_box(alloc));
+    if let Some(left) = mem::replace(session, Handle::of(held)).into_box(alloc) {
+        drop(left);
+    }
 }
 
 /// Takes the session out of a handle.
@@ -134,6 +136,7 @@ fn try_line(held: &mut Open, line: &[u8], event: &mut Event) -> u32
 }
 
 // Passes a request of a kind to a session that continues, if there is a request and a step is running.
+#[inline(always)]
 fn serve(
     held: &mut Open,
     kind: Option<RequestKind>,
@@ -170,7 +173,7 @@ fn execute_request(held: &mut Open, ask: &RawRequest, event: &mut Event) -> u32
         return OVER;
     }
     let mut request = Request::Return;
-    let named = ask.task_request(&mut request);
+    let named = ask.task_request(held.task_named(&ask.task), &mut request);
     serve(held, ask.kind(), named, &request, event)
 }
 
@@ -187,7 +190,7 @@ fn execute_list(held: &mut Open, ask: &RawRequest, areas: &mut [ListArea], event
         return OVER;
     }
     let mut request = Request::Return;
-    let named = ask.task_list_request(areas, &mut request);
+    let named = ask.task_list_request(held.task_named(&ask.task), areas, &mut request);
     let status = serve(held, ask.kind(), named, &request, event);
     if status == OK {
         write_listed(held.reply(), areas);
@@ -760,7 +763,7 @@ pub extern "C" fn mvs_statement_into(
 ) -> u32
     ensures { States ask.now area.now out.old out.new wanted.old wanted.new result }
 {
-    let Ok(_) = ask.task_request(&mut Request::Return) else {
+    let Ok(_) = ask.task_request(name_of(&ask.task), &mut Request::Return) else {
         return NO_REQUEST;
     };
     if name_of(area).is_none() {

@@ -67,9 +67,6 @@ impl Handle {
     pub fn into_box(self, alloc: Global) -> Option<Box<Open>>
         ensures { MatchOption result (self.open ≡ None) (λ boxed. self.open ≡ Some boxed.value) }
     {
-        match self.into_parts(alloc) {
-            Some(parts) => Some(parts.whole()),
-            None => None,
-        }
+        Some(self.into_parts(alloc)?.whole())
     }
 }

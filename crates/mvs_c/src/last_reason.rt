@@ -64,7 +64,10 @@ impl LastReason {
         ensures { self.new ≡ no_why }
     {
         self.text.cut(0);
-        self.fields = None;
+        // Most requests are granted, and leave nothing to remove.
+        if self.fields.is_some() {
+            self.fields = None;
+        }
     }
 
     /// Returns the line. It ends with a newline.

@@ -18,6 +18,7 @@ mod field;
 mod handle;
 mod held;
 mod last;
+mod last_name;
 mod last_reason;
 pub mod laws;
 mod lend;

@@ -2,7 +2,7 @@
 
 ghost use Rattle.std.specs.Prelude.{◌≡◌, ◌<◌, ◌≤◌, ◌+◌, ◌^◌, ◌++◌, MatchBool, SomeIff, length, map};
 ghost use Rattle.mvs_model.specs.Place.{place_at};
-ghost use Rattle.mvs_c.specs.Asks.{TakesForm, TaskAsks, answer_of, form_value, named_answer, or_else};
+ghost use Rattle.mvs_c.specs.Asks.{IsNamed, TakesForm, TaskAsks, answer_of, form_value, name_value, named_answer, or_else};
 ghost use Rattle.mvs_c.specs.Lists.{AreLengths, ArePlaces, AsksList, IsListLength, IsListStart, ObtainsList, ReleasesList, area_values, is_list_form, listed};
 
 use crate::ask::{
@@ -192,15 +192,14 @@ impl RawRequest {
     /// Writes the list request over another, and returns the task that makes it, or the first field that does not fit.
     pub fn task_list_request(
         &self,
+        task: Option<Name>,
         areas: &[ListArea],
         request: &mut Request,
     ) -> Result<Name, RequestField>
+        requires { SomeIff task (IsNamed self.now.task) (name_value self.now.task) }
         ensures { TaskAsks self.now (AsksList self.now areas.now) (named_answer result request.new) }
     {
-        let task = match self.named_task() {
-            Ok(task) => task,
-            Err(field) => return Err(field),
-        };
+        let task = self.named_task(task)?;
         match self.list_request(areas, request) {
             None => Ok(task),
             Some(field) => Err(field),

@@ -3,7 +3,7 @@
 ghost use Rattle.std.specs.Prelude.{◌≡◌, ◌≢◌, ◌<◌, ◌≤◌, length};
 ghost use Rattle.mvs_c.specs.ListStatements.{StatesList};
 
-use crate::ask::{RawRequest, RequestKind};
+use crate::ask::{RawRequest, RequestKind, name_of};
 use crate::buffer::hand_over;
 use crate::list::ListArea;
 use crate::list_statement::{is_base, list_statement};
@@ -21,7 +21,7 @@ pub extern "C" fn mvs_list_statement_into(
 ) -> u32
     ensures { StatesList ask.now areas.now base.now out.old out.new wanted.old wanted.new result }
 {
-    let Ok(_) = ask.task_list_request(areas, &mut Request::Return) else {
+    let Ok(_) = ask.task_list_request(name_of(&ask.task), areas, &mut Request::Return) else {
         return NO_REQUEST;
     };
     if !is_base(base) {

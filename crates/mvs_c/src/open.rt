@@ -1,6 +1,6 @@
 //! A session, its last event, why its last request was refused, what is recorded of it, and the pages that it knows as assigned.
 
-ghost use Rattle.std.specs.Prelude.{◌≡◌, ◌≢◌, ◌+◌, ◌^◌, ◌<◌, ◌∷◌, [], List, Bool, true, false, None, Some, length, IfOk, IfSome, IsOk, IsSome, MatchBool, MatchOption, MatchResult, OnErr};
+ghost use Rattle.std.specs.Prelude.{◌≡◌, ◌≢◌, ◌+◌, ◌^◌, ◌<◌, ◌∷◌, [], List, Bool, true, false, None, Some, length, IfOk, IfSome, IsOk, IsSome, MatchBool, MatchOption, MatchResult, OnErr, SomeIff};
 ghost use Rattle.mvs_model.specs.FullAnswers.{ended_with_in};
 ghost use Rattle.mvs_model.specs.Memory.{StopsForMemory};
 ghost use Rattle.mvs_model.specs.Runs.{machine};
@@ -14,11 +14,13 @@ ghost use Rattle.mvs_c.specs.Reasons.{no_why};
 ghost use Rattle.mvs_c.specs.Recording.{RecordsLine, forgotten, recorded_values, switched_on};
 ghost use Rattle.mvs_c.specs.Why.{IsWhyOfLine, IsWhyOfValues};
 ghost use Rattle.mvs_c.specs.ByteUse.{LineLacksBytes};
+ghost use Rattle.mvs_c.specs.Asks.{IsNamed, name_value};
 ghost use Rattle.mvs_c.specs.Opens.{TakesLine, events_of, fault_of, keeps_bytes, last_of, new_open, recording, text_of, without_line};
 ghost use Rattle.mvs_c.specs.Pages.{AreFlags, FindsChanged};
 
 use crate::byte_use::line_uses_bytes;
 use crate::last::Last;
+use crate::last_name::LastName;
 use crate::last_reason::LastReason;
 use crate::pages::{KnownPages, PageSpan};
 use crate::reason::ReasonFields;
@@ -45,6 +47,8 @@ pub struct Open {
     recorder: Recorder,
     // Those of a session without bytes.
     pages: Option<KnownPages>,
+    // The name of a task that was read last.
+    asking: LastName,
 }
 
 impl Model for Open {
@@ -70,6 +74,7 @@ impl Open {
             why: LastReason::new(),
             recorder: Recorder::none(),
             pages,
+            asking: LastName::none(),
         }
     }
 
@@ -182,8 +187,17 @@ impl Open {
         line_event
     }
 
+    /// Returns the task that eight bytes name, or None if they are no name.
+    pub fn task_named(&mut self, bytes: &[u8; 8]) -> Option<Name>
+        ensures named { SomeIff result (IsNamed bytes.now) (name_value bytes.now) }
+        ensures same { self.new ≡ self.old }
+    {
+        self.asking.read(bytes)
+    }
+
     /// Executes a request given by values, as a session does; there is then no event of a line. Returns false if no step is
     /// running.
+    #[inline(always)]
     pub fn request(&mut self, task: &Name, request: &Request) -> bool
         requires { self.old.session.continues ≡ true }
         ensures no_step { result ≡ false → (self.old.session.walk.step ≡ None) × (self.new ≡ self.old) }
@@ -200,7 +214,7 @@ impl Open {
         self.recorder.record_request(job, task, request);
         self.why.clear();
         let served = self.session.request(task, request, &mut self.why);
-        self.last = Last::Nothing;
+        self.last.forget();
         served
     }
 
@@ -215,7 +229,7 @@ impl Open {
     {
         let written = self.session.write(place, bytes);
         if written {
-            self.last = Last::Nothing;
+            self.last.forget();
             self.why.clear();
             self.recorder.forget();
         }
@@ -316,16 +330,14 @@ impl Open {
     pub fn try_clone(&self) -> Result<Open, OutOfMemory>
         ensures { IfOk result (λ copy. copy ≡ self.now) }
     {
-        let pages = match &self.pages {
-            Some(pages) => Some(pages.try_clone()?),
-            None => None,
-        };
+        let pages = self.pages.as_ref().map(KnownPages::try_clone).transpose()?;
         Ok(Open {
             session: self.session.try_clone()?,
             last: self.last,
             why: self.why.copied(),
             recorder: self.recorder.try_clone()?,
             pages,
+            asking: self.asking.copied(),
         })
     }
 }

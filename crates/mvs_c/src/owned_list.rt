@@ -36,10 +36,8 @@ impl OwnedList {
     pub fn new(alloc: Global) -> Result<OwnedList, OutOfMemory>
         ensures { IfOk result (λ l. l ≡ []) }
     {
-        match Vec::with_capacity(alloc, MOST_SUBPOOLS) {
-            Ok(items) => Ok(OwnedList { items }),
-            Err(_) => Err(OutOfMemory),
-        }
+        let items = Vec::with_capacity(alloc, MOST_SUBPOOLS).map_err(|_| OutOfMemory)?;
+        Ok(OwnedList { items })
     }
 
     // Removes all items.
@@ -85,9 +83,9 @@ impl OwnedList {
         ensures { IfOk result (λ copy. copy ≡ self.now) }
     {
         let mut copy = OwnedList::new(*self.items.allocator())?;
-        match copy.items.extend_from_slice(self.items.as_slice()) {
-            Ok(()) => Ok(copy),
-            Err(_) => Err(OutOfMemory),
-        }
+        copy.items
+            .extend_from_slice(self.items.as_slice())
+            .map_err(|_| OutOfMemory)?;
+        Ok(copy)
     }
 }

@@ -94,6 +94,7 @@ impl Recorder {
     }
 
     /// Records a request of a task, before it is executed, if that is to be recorded.
+    #[inline(always)]
     pub fn record_request(&mut self, job: &Job, task: &Name, request: &Request)
         ensures { self.new ≡ recorded self.old job.now task.now (asked_of request.now) }
     {
@@ -169,10 +170,7 @@ impl Recorder {
     pub fn try_clone(&self) -> Result<Recorder, OutOfMemory>
         ensures { IfOk result (λ copy. copy ≡ self.now) }
     {
-        let owned = match &self.owned {
-            Some(owned) => Some(owned.try_clone()?),
-            None => None,
-        };
+        let owned = self.owned.as_ref().map(OwnedList::try_clone).transpose()?;
         Ok(Recorder {
             is_made: self.is_made,
             task: self.task,

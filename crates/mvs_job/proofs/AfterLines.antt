@@ -38,7 +38,6 @@ use Rattle.mvs_job.specs.declared.name_origins.NameOrigins.{NameOrigins as Lines
 use Rattle.mvs_job.specs.declared.walk.LineEvent.{LineEvent}
 use Rattle.mvs_job.specs.declared.walk.LineEvent.TheVariants as line_event
 use Rattle.mvs_job.specs.Looking.{IsLooking, KeepsExplained}
-use Rattle.mvs_job.specs.Apart.{AppendsExplanation}
 use Rattle.mvs_job.specs.Explaining.{IsExplanationText, explanation_text, reason_text, reason_part}
 use Rattle.mvs_job.specs.Facts.{end_of, ended_by, freed_lines, freed_text}
 use Rattle.std.specs.List.{flat_map}
@@ -445,9 +444,3 @@ line_keeps step w' bytes mid after (line_event.Answered t a) (s, job, later, of,
 pub looking_begun : (step : Option JobValue) (set begun : NameOrigins) (read : Line) (x : Explained) → begun ≡ lines_before step set → IsLooking step begun read x → IsLooking step set read x
 looking_begun step set begun read x e look =
     record { before = look.before; subpools = look.subpools; unheard = look.unheard; unnamed = look.unnamed; lines = λ job is. look.lines job is ∙ e ∙ ap (λ o. lines_before o set) is }
-
-pub stands_after : (before after : Option (List ℕ)) (w : WalkValue) (set : NameOrigins) (l : List ℕ) (w' : WalkValue) (t : LineEvent) (text : List ℕ) → Appends before after text → IsExplanationText w.step set l (events_of_line w.number w' t) w'.step text → AppendsExplanation before after w set l w' t
-stands_after before after w set l w' (line_event.Faulted fault) text a is = tt
-stands_after before after w set l w' line_event.Nothing text a is = (text, a, is)
-stands_after before after w set l w' (line_event.StepBegan end card) text a is = (text, a, is)
-stands_after before after w set l w' (line_event.Answered t x) text a is = (text, a, is)

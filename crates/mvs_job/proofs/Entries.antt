@@ -8,7 +8,7 @@ use Rattle.mvs_model.specs.Runs.{machine}
 use Rattle.mvs_model.specs.Walk.{Closes}
 use Rattle.mvs_job.specs.declared.walk.LineEvent.{LineEvent}
 use Rattle.mvs_job.specs.declared.walk.LineEvent.TheVariants as line_event
-use Rattle.mvs_job.specs.LineEvents.{IsReadIn, WalkValue, ServesAs, closing, ended}
+use Rattle.mvs_job.specs.LineEvents.{HasRequest, IsReadIn, WalkValue, ServesAs, closing, ended}
 use Rattle.mvs_job.specs.declared.consumer.End.TheVariants as end
 use Rattle.mvs_job.specs.Trace.{Entry, IsClosed, IsExecuted, IsExhausted, IsFaulty}
 use Rattle.mvs_job.specs.Consuming.{IsAny, IsEnd, IsEntry}
@@ -18,20 +18,20 @@ module _ (w w' : WalkValue) (line : List ℕ) (reads : IsReadIn w.step line w'.r
   abbrev pub OfExecuted : ℕ → LineEvent → Type 0
   OfExecuted n t = (e : Entry) × (IsExecuted w.number w.step line e × (e.after ≡ w'.step)) × IsEntry n line w' t e
 
-  pub entry_executed : (n : ℕ) (t : LineEvent) → n ≡ w.number → ((fault : Fault) → t ≡ line_event.Faulted fault → ⊥) → ServesAs w line t w' → OfExecuted n t
-  entry_executed n (line_event.Faulted fault) at other h = absurd (other fault refl)
-  entry_executed n line_event.Nothing at other (said, of, serves) = subst (λ n. OfExecuted n line_event.Nothing) (sym at) (_, ((said, _, _, of, serves, refl), refl), record { read = reads; of_line = (said, _, _, of, serves, refl); events = refl; after = refl })
-  entry_executed n (line_event.StepBegan ended card) at other (said, of, serves) =
-      subst (λ n. OfExecuted n (line_event.StepBegan ended card)) (sym at) (_, ((said, _, _, of, serves, refl), refl), record { read = reads; of_line = (said, _, _, of, serves, refl); events = refl; after = refl })
-  entry_executed n (line_event.Answered t a) at other (said, of, serves) =
-      subst (λ n. OfExecuted n (line_event.Answered t a)) (sym at) (_, ((said, _, _, of, serves, refl), refl), record { read = reads; of_line = (said, _, _, of, serves, refl); events = refl; after = refl })
+  pub entry_executed : (n : ℕ) (t : LineEvent) → n ≡ w.number → ((fault : Fault) → t ≡ line_event.Faulted fault → ⊥) → ServesAs w line t w' → HasRequest w' t → OfExecuted n t
+  entry_executed n (line_event.Faulted fault) at other h has = absurd (other fault refl)
+  entry_executed n line_event.Nothing at other (said, of, serves) has = subst (λ n. OfExecuted n line_event.Nothing) (sym at) (_, ((said, _, _, of, serves, refl), refl), record { read = reads; of_line = (said, _, _, of, serves, refl); events = refl; after = refl; request = has })
+  entry_executed n (line_event.StepBegan ended card) at other (said, of, serves) has =
+      subst (λ n. OfExecuted n (line_event.StepBegan ended card)) (sym at) (_, ((said, _, _, of, serves, refl), refl), record { read = reads; of_line = (said, _, _, of, serves, refl); events = refl; after = refl; request = has })
+  entry_executed n (line_event.Answered t a) at other (said, of, serves) has =
+      subst (λ n. OfExecuted n (line_event.Answered t a)) (sym at) (_, ((said, _, _, of, serves, refl), refl), record { read = reads; of_line = (said, _, _, of, serves, refl); events = refl; after = refl; request = has })
 
   -- one with a fault
   abbrev pub OfFaulty : ℕ → LineEvent → Type 0
   OfFaulty n t = (e : Entry) × IsFaulty w.number w.step line e × IsEntry n line w' t e
 
   faulty_at : (n : ℕ) (fault : Fault) → n ≡ w.number → ServesAs w line (line_event.Faulted fault) w' → OfFaulty n (line_event.Faulted fault)
-  faulty_at n fault at (of, same) = subst (λ n. OfFaulty n (line_event.Faulted fault)) (sym at) (_, (fault, of, refl), record { read = reads; of_line = (fault, of, refl); events = refl; after = sym same })
+  faulty_at n fault at (of, same) = subst (λ n. OfFaulty n (line_event.Faulted fault)) (sym at) (_, (fault, of, refl), record { read = reads; of_line = (fault, of, refl); events = refl; after = sym same; request = tt })
 
   pub entry_faulty : (n : ℕ) (t : LineEvent) (fault : Fault) → n ≡ w.number → t ≡ line_event.Faulted fault → ServesAs w line t w' → OfFaulty n t
   entry_faulty n t fault at is h = subst (OfFaulty n) (sym is) (faulty_at n fault at (subst (λ t. ServesAs w line t w') is h))
@@ -43,11 +43,11 @@ module _ (w w' : WalkValue) (line : List ℕ) (reads : IsReadIn w.step line w'.r
   executed_any : (n : ℕ) (t : LineEvent) → OfExecuted n t → OfAny n t
   executed_any n t (e, is, entry) = (e, inl is.0, entry)
 
-  pub entry_any : (n : ℕ) (t : LineEvent) → n ≡ w.number → ServesAs w line t w' → OfAny n t
-  entry_any n (line_event.Faulted fault) at h = let r = faulty_at n fault at h in (r.0, inr (inl r.1), r.2)
-  entry_any n line_event.Nothing at h = executed_any n line_event.Nothing (entry_executed n line_event.Nothing at (λ fault e. let f : line_event.Nothing ≡ line_event.Faulted fault = e in cc) h)
-  entry_any n (line_event.StepBegan ended card) at h = executed_any n (line_event.StepBegan ended card) (entry_executed n (line_event.StepBegan ended card) at (λ fault e. let f : line_event.StepBegan ended card ≡ line_event.Faulted fault = e in cc) h)
-  entry_any n (line_event.Answered t a) at h = executed_any n (line_event.Answered t a) (entry_executed n (line_event.Answered t a) at (λ fault e. let f : line_event.Answered t a ≡ line_event.Faulted fault = e in cc) h)
+  pub entry_any : (n : ℕ) (t : LineEvent) → n ≡ w.number → ServesAs w line t w' → HasRequest w' t → OfAny n t
+  entry_any n (line_event.Faulted fault) at h has = let r = faulty_at n fault at h in (r.0, inr (inl r.1), r.2)
+  entry_any n line_event.Nothing at h has = executed_any n line_event.Nothing (entry_executed n line_event.Nothing at (λ fault e. let f : line_event.Nothing ≡ line_event.Faulted fault = e in cc) h has)
+  entry_any n (line_event.StepBegan ended card) at h has = executed_any n (line_event.StepBegan ended card) (entry_executed n (line_event.StepBegan ended card) at (λ fault e. let f : line_event.StepBegan ended card ≡ line_event.Faulted fault = e in cc) h has)
+  entry_any n (line_event.Answered t a) at h has = executed_any n (line_event.Answered t a) (entry_executed n (line_event.Answered t a) at (λ fault e. let f : line_event.Answered t a ≡ line_event.Faulted fault = e in cc) h has)
 
 -- a line at which memory is exhausted
 pub entry_exhausted : (w : WalkValue) (line : List ℕ) (n : ℕ) (o : Option Bool) → n ≡ w.number → StopsForMemory w.number w.step (line ∷ []) (ended o) → (e : Entry) × IsExhausted w.number w.step line e × (IsEnd n (end.Exhausted o) e × (e.before ≡ w.step))

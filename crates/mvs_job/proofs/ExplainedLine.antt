@@ -74,7 +74,7 @@ module _ (n : ℕ) (line : List ℕ) (w : WalkValue) (e : Entry) where
 
   -- the job before the line
   abbrev pub before_it : WalkValue
-  before_it = record { step = e.before; number = n; read = w.read; reply = w.reply }
+  before_it = record { step = e.before; number = n; read = w.read; request = w.request; reply = w.reply }
 
   serves_as : (t : LineEvent) → Said n line t w e → ServesAs before_it line t w
   serves_as (line_event.Faulted fault) (of, kind, same) = (of, same)

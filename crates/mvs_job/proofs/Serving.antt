@@ -240,6 +240,11 @@ pub err_of : {T E P : Type 0} (r : Result T E) → ((x : T) → r ≡ Ok x → �
 err_of (Ok x) other h = absurd (other x refl)
 err_of (Err e) other h = h
 
+-- a result that is no Err is Ok
+pub ok_of : {E : Type 0} (r : Result (Unit {0}) E) → ((e : E) → r ≡ Err e → ⊥) → r ≡ Ok tt
+ok_of (Ok x) other = refl
+ok_of (Err e) other = absurd (other e refl)
+
 -- what holds where memory was wanting
 pub not_answered : (P : Condition) (o new : Option JobValue) (t : Name) (s : Statement) (reply : Reply) (r : Result Short OutOfMemory) → ((x : Short) → r ≡ Ok x → ⊥)
     → MatchResult r (λ answer. (x : JobValue) × (y : JobValue) × (o ≡ Some x) × (new ≡ Some y) × Does P x t s (full_answer y.state (ended_with_in reply) t answer) y × IsAvailableIn y.state answer) (λ _. TakesMemory o (line.Statement t s) [])

@@ -10,7 +10,7 @@ use Rattle.mvs_job.specs.declared.printing.Stop.{Stop}
 use Rattle.mvs_job.specs.declared.printing.Stop.TheVariants as stop
 use Rattle.mvs_job.specs.declared.walk.LineEvent.{LineEvent}
 use Rattle.mvs_job.specs.declared.walk.LineEvent.TheVariants as line_event
-use Rattle.mvs_job.specs.LineEvents.{IsReadIn, WalkValue, closing, ended, events_of_line}
+use Rattle.mvs_job.specs.LineEvents.{HasRequest, IsReadIn, WalkValue, closing, ended, events_of_line}
 use Rattle.mvs_job.specs.Observing.{Hearing, ObservesLine}
 use Rattle.mvs_job.specs.declared.consumer.End.{End}
 use Rattle.mvs_job.specs.declared.consumer.End.TheVariants as end
@@ -40,6 +40,7 @@ pub record IsEntry (number : ℕ) (line : List ℕ) (w : WalkValue) (t : LineEve
   pub of_line : IsOfLine t number line e
   pub events : e.events ≡ events_of_line number w t
   pub after : e.after ≡ w.step
+  pub request : HasRequest w t
 
 -- The entry is the last one of a trace that ends so.
 abbrev pub IsEnd : ℕ → End → Entry → Type 0

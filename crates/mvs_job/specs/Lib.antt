@@ -1,4 +1,3 @@
-pub mod Apart
 pub mod Looking
 pub mod Explained
 pub mod Exchanging

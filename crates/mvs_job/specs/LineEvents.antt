@@ -1,5 +1,5 @@
 -- The events of a line, and the state of a job between two lines.
-use Rattle.std.specs.Prelude.{refl, ◌≡◌, ◌≤◌, ◌⊎◌, ℕ, List, [], ◌∷◌, ◌++◌, Option, Some, None, Bool, true, false, Result, Ok, Err, MatchOption}
+use Rattle.std.specs.Prelude.{refl, ◌≡◌, ◌≢◌, ◌≤◌, ◌⊎◌, ℕ, List, [], ◌∷◌, ◌++◌, Option, Some, None, Bool, true, false, Result, Ok, Err, MatchOption}
 use Rattle.std.specs.Bool.{MatchBool}
 use Rattle.std.specs.Coded.{Coded, code_by, coded×, coded_bool, coded_ℕ, coded_option}
 use Rattle.std.specs.FinMap as map
@@ -8,6 +8,7 @@ use Rattle.mvs_model.specs.declared.line.Fault.{Fault}
 use Rattle.mvs_model.specs.declared.line.Fault.TheVariants.{OutOfPlace}
 use Rattle.mvs_model.specs.declared.line.Line.{Line}
 use Rattle.mvs_model.specs.declared.line.Line.TheVariants as line
+use Rattle.mvs_model.specs.declared.line.SourceRequest.{SourceRequest}
 use Rattle.mvs_model.specs.declared.line.Statement.{Statement}
 use Rattle.mvs_model.specs.declared.line.Statement.TheVariants as says
 use Rattle.mvs_model.specs.declared.answer.Answer.{Answer as Short}
@@ -17,9 +18,12 @@ use Rattle.mvs_model.specs.Card.{CardValue}
 use Rattle.mvs_model.specs.Changes.{Granted}
 use Rattle.mvs_model.specs.Job.{JobValue}
 use Rattle.mvs_model.specs.declared.request.Reply.{Reply}
+use Rattle.mvs_model.specs.declared.request.Request.{Request}
+use Rattle.mvs_model.specs.declared.request.Request.TheVariants as asks
 use Rattle.mvs_model.specs.declared.request.Reply.TheVariants as reply
 use Rattle.mvs_model.specs.contracts.line.Line.{the_row as line_row}
 use Rattle.mvs_model.specs.contracts.request.Reply.{the_row as reply_row}
+use Rattle.mvs_model.specs.contracts.request.Request.{the_row as request_row}
 use Rattle.mvs_model.specs.FullAnswers.{full_answer, ended_with_in}
 use Rattle.mvs_model.specs.Lines.{card_of}
 use Rattle.mvs_model.specs.Name.{name_cmp, name_code}
@@ -27,7 +31,7 @@ use Rattle.mvs_model.specs.Numbers.{most_shown}
 use Rattle.mvs_model.specs.Place.{PlaceValue, place_code}
 use Rattle.mvs_model.specs.Owners.{is_active}
 use Rattle.mvs_model.specs.Reading.{FaultOf, LineOf}
-use Rattle.mvs_model.specs.Resolving.{resolved}
+use Rattle.mvs_model.specs.Resolving.{names_set, resolved}
 use Rattle.mvs_model.specs.Runs.{Condition, Any, Makes, job_machine}
 use Rattle.mvs_model.specs.State.{State, state_code}
 use Rattle.mvs_model.specs.Walk.{ServesLine, is_first}
@@ -36,11 +40,12 @@ use Rattle.mvs_job.specs.declared.walk.LineEvent.{LineEvent}
 use Rattle.mvs_job.specs.declared.walk.LineEvent.TheVariants as line_event
 
 -- A job between two lines: its step, none before the first; the number of the next line; what the last line says that was parsed;
--- and the reply to the last request that was made.
+-- and the last request that a line made, and the reply to the last one.
 pub record WalkValue : Type 0 where
   pub step : Option JobValue
   pub number : ℕ
   pub read : Line
+  pub request : Request
   pub reply : Reply
 
 -- codes, for models' values
@@ -48,11 +53,11 @@ abbrev pub job_code : Coded JobValue
 job_code = code_by (State × (map.FinMap name_cmp PlaceValue × (Bool × Bool))) (coded× state_code (coded× (map.code name_code place_code) (coded× coded_bool coded_bool))) (λ j. (j.state, (j.names, (j.abended, j.former)))) (λ p. record { state = p.0; names = p.1.0; abended = p.1.1.0; former = p.1.1.1 }) (λ _. refl)
 
 abbrev pub walk_code : Coded WalkValue
-walk_code = code_by (Option JobValue × (ℕ × (Line × Reply))) (coded× (coded_option job_code) (coded× coded_ℕ (coded× line_row.coded reply_row.coded))) (λ w. (w.step, (w.number, (w.read, w.reply)))) (λ p. record { step = p.0; number = p.1.0; read = p.1.1.0; reply = p.1.1.1 }) (λ _. refl)
+walk_code = code_by (Option JobValue × (ℕ × (Line × (Request × Reply)))) (coded× (coded_option job_code) (coded× coded_ℕ (coded× line_row.coded (coded× request_row.coded reply_row.coded)))) (λ w. (w.step, (w.number, (w.read, (w.request, w.reply))))) (λ p. record { step = p.0; number = p.1.0; read = p.1.1.0; request = p.1.1.1.0; reply = p.1.1.1.1 }) (λ _. refl)
 
 -- a job before its first line
 abbrev pub new_walk : WalkValue
-new_walk = record { step = None; number = 1; read = line.Nothing; reply = reply.NotRun }
+new_walk = record { step = None; number = 1; read = line.Nothing; request = asks.Return; reply = reply.NotRun }
 
 -- the card of a REGION statement of a task
 abbrev pub region_card : Name → Statement → Option CardValue
@@ -123,6 +128,29 @@ KeepsReplyOf old bytes (line_event.Answered t a) new =
     (s : Statement) × (job : JobValue) × (later : JobValue) × LineOf (is_first old.step) bytes (line.Statement t s) × (old.step ≡ Some job) × (new.step ≡ Some later)
     × KeepsReply job t s old.reply (full_answer later.state (ended_with_in new.reply) t a) new.reply later
 KeepsReplyOf old bytes line_event new = new.reply ≡ old.reply
+
+-- The machine was asked this, for a request that sets no name.
+abbrev pub Resolves : JobValue → SourceRequest → Request → Type 0
+Resolves job a asked = names_set a ≡ [] → resolved job.names a ≡ Some asked
+
+-- The request that is kept after a statement: the one that was made, if the task was active and all its names were set.
+abbrev pub KeepsRequest : JobValue → Statement → Short → Request → Type 0
+KeepsRequest new (says.Request a) answer kept = answer ≢ short.NotRun → answer ≢ short.NoName → Resolves new a kept
+KeepsRequest new (says.Region below above fill residence) answer kept = Unit {0}
+KeepsRequest new (says.Where name) answer kept = Unit {0}
+KeepsRequest new says.ReportSubpools answer kept = Unit {0}
+KeepsRequest new says.ReportMap answer kept = Unit {0}
+
+-- The same for a line that says this, in a step.
+abbrev pub KeepsRequestIn : Option JobValue → Line → Short → Request → Type 0
+KeepsRequestIn (Some new) (line.Statement t s) answer kept = KeepsRequest new s answer kept
+KeepsRequestIn (Some new) line.Nothing answer kept = Unit {0}
+KeepsRequestIn None said answer kept = Unit {0}
+
+-- The job has the request of its last line.
+abbrev pub HasRequest : WalkValue → LineEvent → Type 0
+HasRequest w (line_event.Answered t a) = KeepsRequestIn w.step w.read a w.request
+HasRequest w _ = Unit {0}
 
 -- The bytes of an answer can be read, and are few.
 abbrev pub IsAvailableIn : State → Short → Type 0

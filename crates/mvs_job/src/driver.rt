@@ -36,19 +36,14 @@ pub fn run_entry<W: Write, C: Consumer>(
     let parsed = walk.parse(line);
     consumer.look(walk);
     match walk.execute(parsed, hints, consumer) {
-        Ok(line_event) => match consumer.entry(writer, line_number, line, walk, &line_event) {
-            Ok(()) => Ok(!matches!(line_event, LineEvent::Faulted(_))),
-            Err(stop) => Err(stop),
-        },
-        Err(stopped) => match consumer.end(
-            writer,
-            line_number,
-            walk,
-            End::Exhausted(stopped.ended),
-        ) {
-            Ok(()) => Err(Stop::Memory),
-            Err(_) => Err(Stop::Write),
-        },
+        Ok(line_event) => {
+            consumer.entry(writer, line_number, line, walk, &line_event)?;
+            Ok(!matches!(line_event, LineEvent::Faulted(_)))
+        }
+        Err(stopped) => {
+            consumer.end(writer, line_number, walk, End::Exhausted(stopped.ended))?;
+            Err(Stop::Memory)
+        }
     }
 }
 
@@ -64,10 +59,8 @@ pub fn run_end<W: Write, C: Consumer>(
     ensures write { IsErrOf result Stop.Write → writer.new.failed ≡ true }
 {
     let closing = walk.close();
-    match consumer.end(writer, walk.number(), walk, End::Closed(closing.ended)) {
-        Ok(()) => Ok(closing.outcome),
-        Err(_) => Err(Stop::Write),
-    }
+    consumer.end(writer, walk.number(), walk, End::Closed(closing.ended))?;
+    Ok(closing.outcome)
 }
 
 /// Runs a script of at most 16,777,215 bytes, and gives each entry of the run to a consumer.
@@ -92,11 +85,11 @@ pub fn run_lines<W: Write, C: Consumer>(
     'lines: while at < script.len() {
         let rest = &script[at..];
         let len = line_end(rest);
-        match run_entry(&mut walk, &rest[..len], &[], writer, consumer) {
-            Ok(true) => at += len + 1,
-            Ok(false) => return Ok(Outcome::ScriptFault),
-            Err(stop) => return Err(stop),
+        let continues = run_entry(&mut walk, &rest[..len], &[], writer, consumer)?;
+        if !continues {
+            return Ok(Outcome::ScriptFault);
         }
+        at += len + 1;
     }
     run_end(&walk, writer, consumer)
 }

@@ -1,6 +1,6 @@
 //! The printing of a run with explanations.
 
-ghost use Rattle.std.specs.Prelude.{◌≡◌, ◌<◌, ◌+◌, ◌^◌, ◌∷◌, [], ℕ, true, IfOk, IsErrOf, MatchResult, OnErr, OnOk};
+ghost use Rattle.std.specs.Prelude.{◌≡◌, ◌<◌, ◌+◌, ◌^◌, ◌∷◌, [], ℕ, true, IfOk, MatchResult, OnErr, OnOk};
 ghost use Rattle.std.specs.Option.{option_and_then};
 ghost use Rattle.line_text.specs.Writing.{Prints};
 ghost use Rattle.mvs_job.specs.Looking.{IsLooking, KeepsExplained, knows_set};
@@ -9,7 +9,6 @@ ghost use Rattle.mvs_job.specs.Explained.{explained};
 ghost use Rattle.mvs_job.specs.Explaining.{IsExplanationText, explanation_text, text_of_event};
 ghost use Rattle.mvs_job.specs.Granting.{granted_facts, reports_grant};
 ghost use Rattle.mvs_job.specs.NamedAddress.{IsNamingOf, RecordsOrigins, SetsSome, line_address, reason_address, no_lines, names_after};
-ghost use Rattle.mvs_job.specs.Serving.{ReturnsEvent};
 ghost use Rattle.mvs_job.specs.LineEvents.{IsAvailable, ServesAs, ended, events_of_line};
 ghost use Rattle.mvs_job.specs.Why.{OfNext, line_reason};
 
@@ -104,13 +103,9 @@ impl Consumer for Explained {
         walk: &Walk,
         line_event: &LineEvent,
     ) -> Result<(), Stop> {
-        let Ok(()) = self.keep(line_number, walk, line_event) else {
-            return Err(Stop::Memory);
-        };
-        match self.print(writer, line_number, walk, line_event) {
-            Ok(()) => Ok(()),
-            Err(_) => Err(Stop::Write),
-        }
+        self.keep(line_number, walk, line_event)?;
+        self.print(writer, line_number, walk, line_event)?;
+        Ok(())
     }
 
     fn end<W: Write>(
@@ -235,48 +230,9 @@ impl Explained {
         self.lines.begin(walk);
         let parsed = walk.parse(line);
         self.look_at(walk);
-        let line_event = match walk.execute(parsed, &[], self) {
-            Ok(line_event) => line_event,
-            Err(stopped) => return Err(stopped),
-        };
-        match self.keep(number, walk, &line_event) {
-            Ok(()) => Ok(line_event),
-            Err(_) => Err(OutOfMemoryAt { ended: None }),
-        }
-    }
-
-    /// Looks at a line, executes it, and prints its events.
-    pub(crate) fn run_line<W: Write>(
-        &mut self,
-        walk: &mut Walk,
-        line: &[u8],
-        writer: &mut Watched<W>,
-    ) -> Result<LineEvent, Stop>
-        requires { walk.old.number + 1 < 2 ^ 32 }
-        ensures ran { ReturnsEvent (W.contents writer.old.inner) (W.contents writer.new.inner)
-            walk.old line.now walk.new result }
-        ensures lines { IfOk result
-            (λ line_event. RecordsOrigins walk.old self.old.lines line.now walk.new line_event self.new.lines) }
-        ensures explained { IfOk result
-            (λ line_event. let events = events_of_line walk.old.number walk.new line_event in
-            IsExplanationText walk.old.step self.old.lines line.now events walk.new.step
-            (explanation_text self.new walk.new.read events walk.new.step)) }
-        ensures full_answer { IfOk result (IsAvailable walk.new) }
-        ensures number { walk.new.number ≡ walk.old.number + 1 }
-        ensures ok { OnOk result (writer.new.failed ≡ writer.old.failed) }
-        ensures write { IsErrOf result Stop.Write → writer.new.failed ≡ true }
-    {
-        let number = walk.number();
-        match self.serve(walk, line) {
-            Ok(line_event) => match print_line(writer, number, walk, &line_event) {
-                Ok(()) => Ok(line_event),
-                Err(_) => Err(Stop::Write),
-            },
-            Err(stopped) => match print_ended(writer, stopped.ended) {
-                Ok(()) => Err(Stop::Memory),
-                Err(_) => Err(Stop::Write),
-            },
-        }
+        let line_event = walk.execute(parsed, &[], self)?;
+        self.keep(number, walk, &line_event)?;
+        Ok(line_event)
     }
 
     /// Prints why a line with these events was refused, the name that has the address of the reason, the subpools that were freed

@@ -18,7 +18,7 @@ ghost use Rattle.mvs_model.specs.Runs.{Asks, Does, Makes};
 ghost use Rattle.mvs_model.specs.State.{State};
 ghost use Rattle.mvs_model.specs.View.{IsBounded};
 ghost use Rattle.request_forms.specs.Taking.{Takes};
-ghost use Rattle.mvs_job.specs.LineEvents.{IsAvailableIn, KeepsReply, Replies, region_card};
+ghost use Rattle.mvs_job.specs.LineEvents.{IsAvailableIn, KeepsReply, KeepsRequest, Replies, region_card};
 ghost use Rattle.mvs_job.specs.Steady.{IsSteady};
 ghost use Rattle.mvs_job.specs.Valued.{BuildsInRange, MayWrite, Requests};
 ghost use Rattle.mvs_model.specs.Steps.{Step as MachineStep};
@@ -303,6 +303,8 @@ impl Job {
             (λ asked. let said = full_answer self.new.state (ended_with_in reply.new) task.now answer in
             Passes observer.old self.old task.now asked said observer.new
             ⊎ Fails O.heard observer.old self.old task.now asked said observer.new)) }
+        ensures request { IfOk result
+            (λ answer. KeepsRequest self.new (Statement.Request written.now) answer request.new) }
         ensures unheard { OnErr result (observer.new ≡ observer.old) }
         ensures full_answer { IfOk result (IsAvailableIn self.new.state) }
     {
@@ -310,9 +312,7 @@ impl Job {
             return Ok(Answer::NoName);
         };
         self.settle_or_do(task, request, hints, reply, observer);
-        let Ok(()) = set_names(&mut self.names, written, reply) else {
-            return Err(OutOfMemory);
-        };
+        set_names(&mut self.names, written, reply)?;
         Ok(answer_of(written, request, reply))
     }
 
@@ -340,6 +340,8 @@ impl Job {
         ensures observed { IfOk result
             (λ answer. Observes O.heard observer.old self.old task.now statement.now
             (full_answer self.new.state (ended_with_in reply.new) task.now answer) observer.new) }
+        ensures request { IfOk result
+            (λ answer. KeepsRequest self.new statement.now answer request.new) }
         ensures unheard { OnErr result (observer.new ≡ observer.old) }
         ensures full_answer { IfOk result (IsAvailableIn self.new.state) }
     {

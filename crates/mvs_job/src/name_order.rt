@@ -74,8 +74,6 @@ pub(crate) fn put_in_order(
     ensures err { OnErr result (order.new.items ≡ order.old.items) }
 {
     let at = count_up_to(order, number);
-    match order.insert(at, (name, number)) {
-        Ok(()) => Ok(()),
-        Err(_) => Err(OutOfMemory),
-    }
+    order.insert(at, (name, number)).map_err(|_| OutOfMemory)?;
+    Ok(())
 }

@@ -171,10 +171,8 @@ impl NameOrigins {
     {
         self.forget_former();
         put_in_order(&mut self.order, name, number)?;
-        match self.numbers.insert(name, number) {
-            Ok(_) => Ok(()),
-            Err(_) => Err(OutOfMemory),
-        }
+        self.numbers.insert(name, number).map_err(|_| OutOfMemory)?;
+        Ok(())
     }
 
     // Sets names by the line of a number, from the left.

@@ -49,10 +49,8 @@ impl Consumer for Printer {
         walk: &Walk,
         line_event: &LineEvent,
     ) -> Result<(), Stop> {
-        match print_line(writer, line_number, walk, line_event) {
-            Ok(()) => Ok(()),
-            Err(_) => Err(Stop::Write),
-        }
+        print_line(writer, line_number, walk, line_event)?;
+        Ok(())
     }
 
     fn end<W: Write>(

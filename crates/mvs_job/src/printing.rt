@@ -13,11 +13,12 @@ use crate::driver::run_entry;
 use crate::job::Job;
 use crate::printer::Printer;
 use crate::reports::{print_map, print_subpools};
-use crate::stream::fault_of;
+use crate::run::RunFault;
 use crate::walk::{LineEvent, Walk};
 use job_script::{print_abend, print_data, print_short_answer};
 use line_text::{print_fault, print_region, print_step_end};
 use mvs_model::answer::Answer;
+use mvs_model::error::OutOfMemory;
 use mvs_model::line::Fault;
 use mvs_model::name::Name;
 use mvs_model::place::{Addr, Place};
@@ -28,10 +29,30 @@ use thiserror::Error;
 
 /// Why a job stops before its end.
 #[derive(Clone, Copy, Debug, PartialEq, Eq, Error)]
-#[error("{}", fault_of(*self))]
+#[error("{}", RunFault::from(*self))]
 pub enum Stop {
     Write,
     Memory,
+}
+
+impl From<Failed> for Stop {
+    ghost use Rattle.mvs_job.specs.declared.printing.Stop.{Stop};
+
+    ghost from_gives = { λ _ stop. stop ≡ Stop.Write };
+
+    fn from(_: Failed) -> Stop {
+        Stop::Write
+    }
+}
+
+impl From<OutOfMemory> for Stop {
+    ghost use Rattle.mvs_job.specs.declared.printing.Stop.{Stop};
+
+    ghost from_gives = { λ _ stop. stop ≡ Stop.Memory };
+
+    fn from(_: OutOfMemory) -> Stop {
+        Stop::Memory
+    }
 }
 
 /// Prints the end of a step, if one ended.

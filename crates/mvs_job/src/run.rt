@@ -9,11 +9,12 @@ ghost use Rattle.mvs_model.specs.Numbers.{most_script_bytes};
 ghost use Rattle.mvs_laws.specs.Tidy.{Tidy, IsPrintingInFull};
 ghost use Rattle.mvs_job.specs.Exchanging.{Exchanges};
 ghost use Rattle.mvs_job.specs.Giving.{fault_text};
-ghost use Rattle.mvs_job.specs.Streams.{HasEnded, HasGivenUp};
+ghost use Rattle.mvs_job.specs.Streams.{HasEnded, HasGivenUp, fault_of};
 
 use crate::consumer::Consumer;
 use crate::hints::AddressHints;
 use crate::printer::Printer;
+use crate::printing::Stop;
 use crate::source::Source;
 use crate::stream::{Progress, Stream};
 use mvs_model::numbers::MOST_SCRIPT_BYTES;
@@ -48,6 +49,17 @@ impl RunFault {
             RunFault::Write => "write failed",
             RunFault::Memory => "out of memory",
             RunFault::ReadTooLong => "script too long",
+        }
+    }
+}
+
+impl From<Stop> for RunFault {
+    ghost from_gives = { λ stop fault. fault ≡ fault_of stop };
+
+    fn from(stop: Stop) -> RunFault {
+        match stop {
+            Stop::Write => RunFault::Write,
+            Stop::Memory => RunFault::Memory,
         }
     }
 }

@@ -68,16 +68,6 @@ fn read<S: Source, W: Write>(
     reader.read(chunk).map_err(|_| RunFault::Read)
 }
 
-/// Returns the fault of a job that stops so.
-pub(crate) fn fault_of(stop: Stop) -> RunFault
-    ensures { result ≡ fault_of stop }
-{
-    match stop {
-        Stop::Write => RunFault::Write,
-        Stop::Memory => RunFault::Memory,
-    }
-}
-
 impl Stream {
     /// Makes a job before its first line.
     pub fn new(alloc: Global, placement: Placement, hints: AddressHints) -> Stream
@@ -172,11 +162,8 @@ impl Stream {
         ensures write { IsErrOf result Stop.Write → writer.new.failed ≡ true }
     {
         let hints = self.hints.of(self.walk.number());
-        match run_entry(&mut self.walk, &bytes[..end], hints, writer, consumer) {
-            Ok(true) => Ok(Some(end + 1)),
-            Ok(false) => Ok(None),
-            Err(stop) => Err(stop),
-        }
+        let continues = run_entry(&mut self.walk, &bytes[..end], hints, writer, consumer)?;
+        Ok(if continues { Some(end + 1) } else { None })
     }
 
     // Takes the first of some bytes, and answers that it took one, or none where the job has ended.
@@ -198,11 +185,8 @@ impl Stream {
         ensures ok { OnOk result (writer.new.failed ≡ writer.old.failed) }
         ensures write { IsErrOf result Stop.Write → writer.new.failed ≡ true }
     {
-        match self.feed(bytes[0], writer, consumer) {
-            Ok(true) => Ok(Some(1)),
-            Ok(false) => Ok(None),
-            Err(stop) => Err(stop),
-        }
+        let continues = self.feed(bytes[0], writer, consumer)?;
+        Ok(if continues { Some(1) } else { None })
     }
 
     // Consumes the first line of some bytes, or the first byte. Returns the number of bytes consumed, or None if the job has ended.
@@ -274,11 +258,11 @@ impl Stream {
         if self.line.bytes().is_empty() {
             return run_end(&self.walk, writer, consumer);
         }
-        match self.end_line(writer, consumer) {
-            Ok(true) => run_end(&self.walk, writer, consumer),
-            Ok(false) => Ok(Outcome::ScriptFault),
-            Err(stop) => Err(stop),
+        let continues = self.end_line(writer, consumer)?;
+        if !continues {
+            return Ok(Outcome::ScriptFault);
         }
+        run_end(&self.walk, writer, consumer)
     }
 
     /// Reads into the chunk once, and consumes the bytes.
@@ -308,21 +292,15 @@ impl Stream {
         ensures write { IsErrOf result RunFault.Write → writer.new.failed ≡ true }
         ensures not_long { ¬ IsErrOf result RunFault.ReadTooLong }
     {
-        let count = match read(reader, writer, chunk) {
-            Ok(count) => count,
-            Err(fault) => return Err(fault),
-        };
+        let count = read(reader, writer, chunk)?;
         if count == 0 {
-            return match self.finish(writer, consumer) {
-                Ok(outcome) => Ok(Progress::Ended(outcome)),
-                Err(stop) => Err(fault_of(stop)),
-            };
+            return Ok(Progress::Ended(self.finish(writer, consumer)?));
         }
-        match self.feed_all(&chunk[..count], writer, consumer) {
-            Ok(true) => Ok(Progress::On(count)),
-            Ok(false) => Ok(Progress::Ended(Outcome::ScriptFault)),
-            Err(stop) => Err(fault_of(stop)),
+        let continues = self.feed_all(&chunk[..count], writer, consumer)?;
+        if !continues {
+            return Ok(Progress::Ended(Outcome::ScriptFault));
         }
+        Ok(Progress::On(count))
     }
 
     /// Makes the last read, of one byte: there is none, or the script is too long.
@@ -344,16 +322,10 @@ impl Stream {
         ensures write { IsErrOf result RunFault.Write → writer.new.failed ≡ true }
     {
         let mut last = [0u8; 1];
-        let count = match read(reader, writer, &mut last) {
-            Ok(count) => count,
-            Err(fault) => return Err(fault),
-        };
+        let count = read(reader, writer, &mut last)?;
         if count > 0 {
             return Err(RunFault::ReadTooLong);
         }
-        match self.finish(writer, consumer) {
-            Ok(outcome) => Ok(outcome),
-            Err(stop) => Err(fault_of(stop)),
-        }
+        Ok(self.finish(writer, consumer)?)
     }
 }

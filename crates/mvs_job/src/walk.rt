@@ -12,12 +12,12 @@ ghost use Rattle.mvs_model.specs.Reading.{IsReading};
 ghost use Rattle.mvs_model.specs.Runs.{Does, machine};
 ghost use Rattle.mvs_model.specs.Walk.{Closes, has_abended, is_first};
 ghost use Rattle.request_forms.specs.Taking.{Takes};
-ghost use Rattle.mvs_job.specs.LineEvents.{IsAvailable, IsAvailableIn, ServesAsUnder, KeepsReply, KeepsReplyOf, region_card, closing, end_of_step, ended, new_walk};
+ghost use Rattle.mvs_job.specs.LineEvents.{HasRequest, IsAvailable, IsAvailableIn, ServesAsUnder, KeepsReply, KeepsReplyOf, region_card, closing, end_of_step, ended, new_walk};
 ghost use Rattle.mvs_job.specs.Valued.{ObservesValues, RequestsOf, WritesOf};
 ghost use Rattle.mvs_job.specs.Observing.{ObservesLine};
 
 use crate::copying::{copy_job, copy_reply};
-use crate::copying_lines::copy_line;
+use crate::copying_lines::{copy_line, copy_request};
 use crate::job::Job;
 use crate::observer::{Observer, Unobserved};
 use crate::run::RunFault;
@@ -57,6 +57,16 @@ pub struct OutOfMemoryAt {
     pub ended: Option<bool>,
 }
 
+impl From<OutOfMemory> for OutOfMemoryAt {
+    ghost use Rattle.std.specs.Prelude.{◌≡◌, None};
+
+    ghost from_gives = { λ _ stopped. stopped.ended ≡ None };
+
+    fn from(_: OutOfMemory) -> OutOfMemoryAt {
+        OutOfMemoryAt { ended: None }
+    }
+}
+
 /// How a job ends that has no more lines: its step ends, and a task of it had abended or not; where no step has begun, the
 /// script lacks its REGION statement.
 #[derive(Clone, Copy, Debug, PartialEq, Eq)]
@@ -74,7 +84,7 @@ pub struct Walk {
     job: Option<Job>,
     /// The number of the next line.
     number: u32,
-    /// The last line that was parsed, and the last request and reply. They are large, so they stay in place.
+    /// The last line that was parsed, the last request that a line made, and the last reply. They are large, so they stay in place.
     read: Line,
     request: Request,
     reply: Reply,
@@ -87,7 +97,7 @@ impl Model for Walk {
 
     ghost coded = { walk_code };
 
-    ghost view = { λ w. record { step = w.job; number = w.number; read = w.read; reply = w.reply } };
+    ghost view = { λ w. record { step = w.job; number = w.number; read = w.read; request = w.request; reply = w.reply } };
 }
 
 // Returns the card of a REGION statement of a task, or None for another statement.
@@ -204,6 +214,13 @@ impl Walk {
         }
     }
 
+    /// Returns the last request that a line made. One that is made by values is not kept.
+    pub fn last_request(&self) -> &Request
+        ensures { result.now ≡ self.now.request }
+    {
+        &self.request
+    }
+
     /// Returns the reply to the last request that was made.
     pub fn reply(&self) -> &Reply
         ensures { result.now ≡ self.now.reply }
@@ -275,38 +292,33 @@ impl Walk {
             → IfOk result (λ answered. ObservesLine O.heard observer.old self.old.step line answered self.new observer.new) }
         // If memory is exhausted, it sees nothing.
         ensures unheard { OnErr result (observer.new ≡ observer.old) }
+        ensures request { IfOk result (HasRequest self.new) }
         ensures full_answer { IfOk result (IsAvailable self.new) }
         ensures read { self.new.read ≡ self.old.read }
         ensures number { self.new.number ≡ self.old.number + 1 }
     {
         self.number += 1;
-        match parsed {
-            Ok(()) => {}
-            Err(fault) => return Ok(LineEvent::Faulted(fault)),
+        if let Err(fault) = parsed {
+            return Ok(LineEvent::Faulted(fault));
         }
         let Line::Statement(task, statement) = &self.read else {
             return Ok(LineEvent::Nothing);
         };
         if let Some(card) = card_of(task, statement) {
-            return match begin(&mut self.job, self.alloc, self.placement, &card) {
-                Ok(ended) => Ok(LineEvent::StepBegan { ended, card }),
-                Err(stopped) => Err(stopped),
-            };
+            let ended = begin(&mut self.job, self.alloc, self.placement, &card)?;
+            return Ok(LineEvent::StepBegan { ended, card });
         }
         let Some(job) = &mut self.job else {
             unreachable!();
         };
-        let served = job.serve(
+        let answer = job.serve(
             task,
             statement,
             hints,
             &mut self.request,
             &mut self.reply,
             observer,
-        );
-        let Ok(answer) = served else {
-            return Err(OutOfMemoryAt { ended: None });
-        };
+        )?;
         Ok(LineEvent::Answered {
             task: *task,
             answer,
@@ -378,7 +390,7 @@ impl Walk {
             job: copy_job(&self.job)?,
             number: self.number,
             read: copy_line(&self.read),
-            request: Request::Return,
+            request: copy_request(&self.request),
             reply: copy_reply(&self.reply),
         })
     }

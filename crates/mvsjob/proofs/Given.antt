@@ -32,7 +32,8 @@ script_mode_of given other same m is =
       blanks = λ a b c d. is.blanks (same (codes "random") ∙ a) (same (codes "judge") ∙ b) (no (codes "check") c) (same (codes "blank") ∙ d);
       asks = λ a b c d e. is.asks (same (codes "random") ∙ a) (same (codes "judge") ∙ b) (no (codes "check") c) (no (codes "blank") d) (same (codes "ask") ∙ e);
       assembles = λ a b c d e f. is.assembles (same (codes "random") ∙ a) (same (codes "judge") ∙ b) (no (codes "check") c) (no (codes "blank") d) (no (codes "ask") e) (same (codes "assemble") ∙ f);
-      runs = λ a b c d e f. is.runs (same (codes "random") ∙ a) (same (codes "judge") ∙ b) (no (codes "check") c) (no (codes "blank") d) (no (codes "ask") e) (no (codes "assemble") f);
+      explores = λ a b c d e f g. is.explores (same (codes "random") ∙ a) (same (codes "judge") ∙ b) (no (codes "check") c) (no (codes "blank") d) (no (codes "ask") e) (no (codes "assemble") f) (same (codes "schedules") ∙ g);
+      runs = λ a b c d e f g. is.runs (same (codes "random") ∙ a) (same (codes "judge") ∙ b) (no (codes "check") c) (no (codes "blank") d) (no (codes "ask") e) (no (codes "assemble") f) (no (codes "schedules") g);
     }
 
 pub mode_of : (given other : Text → Option Text) → AreSame given other → (m : Mode) → IsMode given m → IsMode other m

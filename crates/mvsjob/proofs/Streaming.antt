@@ -7,7 +7,8 @@ use Rattle.mvs_model.specs.Runs.{IsAnswered, IsPrinting, IsPrintingFront}
 use Rattle.mvs_job.specs.declared.run.RunFault.{RunFault}
 use Rattle.mvs_job.specs.declared.run.RunFault.TheVariants.{Memory, Read, ReadTooLong}
 use Rattle.mvs_job.specs.Exchanging.{Exchanges, IsRest}
-use Rattle.mvsjob.specs.Streaming.{Writes, WritesPart}
+use Rattle.page.specs.Pages.{IsPage, StopsPage}
+use Rattle.mvsjob.specs.Streaming.{Writes, WritesPageOf, WritesPart}
 
 pub writes_of : (left more before after : Option (List ℕ)) (P : List ℕ → List ℕ → List ℕ → Type 0) (Q : List ℕ → List ℕ → Type 0) → ((read script written : List ℕ) → P read script written → Q script written)
     → Exchanges left more before after P → Writes left before after Q
@@ -55,3 +56,9 @@ module _ (left unread more before after : Option (List ℕ)) (same : left ≡ un
       → IfErr r (λ fault. fault ≡ Memory → Writes unread before after (λ script written. IsPrintingBefore script written))
   written_before (Ok outcome) h = tt
   written_before (Err fault) h = λ e. subst (λ l. Writes l before after (λ script written. IsPrintingBefore script written)) same (writes_of left more before after (λ read script written. IsPrintingBefore script written) (λ script written. IsPrintingBefore script written) (λ read script written p. p) (h e))
+
+-- the page of a run, or the beginning of one
+pub page_of : (unread before after : Option (List ℕ)) (frame : List ℕ) (ended : Result Outcome RunFault) → IfOk ended (λ outcome. Writes unread before after (λ script text. IsPage frame script text (Ok outcome)))
+    → IfErr ended (λ fault. WritesPart unread before after (λ consumed script text. StopsPage frame consumed script text fault)) → WritesPageOf unread before after frame ended
+page_of unread before after frame (Ok outcome) p q = p
+page_of unread before after frame (Err fault) p q = q

@@ -21,7 +21,7 @@ use Rattle.random_script.specs.declared.Profile.TheVariants.{Tasks, Pools, Tidy,
 use Rattle.mvsjob.specs.declared.options.Color.TheVariants.{Auto, Always, Never}
 use Rattle.std.specs.Str.Parse.{IsNumeral, digits_value, without_leading_plus}
 use Rattle.mvsjob.specs.declared.options.Mode.{Mode}
-use Rattle.mvsjob.specs.declared.options.Mode.TheVariants.{Run, Check, Judge, Blank, Ask, Assemble, Random, Code, Rule as RuleOf}
+use Rattle.mvsjob.specs.declared.options.Mode.TheVariants.{Run, Check, Judge, Blank, Ask, Assemble, Schedules, Random, Code, Rule as RuleOf}
 
 -- A value has to be one of these.
 abbrev pub IsOneOf : List Text → ValueParser → Type 0
@@ -101,12 +101,18 @@ rule_app a = with_rule a (value_rule (codes "rule") (Unsigned 1 74))
 abbrev pub second_app : App → App
 second_app a = with_rule a (value_rule (codes "with") NonEmptyString)
 
--- the program's command: a word and twenty-two options, which may all be left out, and a version
+-- and with the options for the schedules of a script
+abbrev pub schedules_app : App → App
+schedules_app a =
+    with_rule (with_rule (with_rule (with_rule (with_rule a (flag_rule (codes "schedules"))) (value_rule (codes "schedule") NonEmptyString)) (value_rule (codes "with-schedule") NonEmptyString))
+    (value_rule (codes "most") (Unsigned 1 1000000000))) (flag_rule (codes "ignore-addresses"))
+
+-- the program's command: a word and twenty-seven options, which may all be left out, and a version
 abbrev pub command : Parsers → App
 command ps =
-    second_app (rule_app (with_rule (with_rule (output_app (with_rule (random_app (judging_app (answers_app (with_rule (checking_app
+    schedules_app (second_app (rule_app (with_rule (with_rule (output_app (with_rule (random_app (judging_app (answers_app (with_rule (checking_app
     (with_rule (with_rule (versioned (new_app (codes "mvsjob"))) (new_rule (codes "FILE"))) (value_rule (codes "place") ps.place))) (value_rule (codes "format") ps.format)))))
-    (value_rule (codes "profile") ps.profile))) (value_rule (codes "color") ps.color)) (value_rule (codes "code") ps.code)))
+    (value_rule (codes "profile") ps.profile))) (value_rule (codes "color") ps.color)) (value_rule (codes "code") ps.code))))
 
 -- what of the words clap gives to an argument
 abbrev pub assigned : Parsers → List Text → Text → Option Text
@@ -144,8 +150,8 @@ pub record IsRecipe (given : Text → Option Text) (recipe : Recipe) : Type 0 wh
   pub made : IsProfile (given (codes "profile")) recipe.profile
 
 -- A random script is made if `--random` is given; else an output is judged with `--judge`; else answers are compared with
--- `--check`, removed with `--blank`, WHERE statements added with `--ask`, or a program written with `--assemble`; else the script
--- is run.
+-- `--check`, removed with `--blank`, WHERE statements added with `--ask`, a program written with `--assemble`, or all schedules run with
+-- `--schedules`; else the script is run.
 pub record IsScriptMode (given : Text → Option Text) (mode : Mode) : Type 0 where
   pub makes : (seed : Text) → given (codes "random") ≡ Some seed → (recipe : Recipe) × (mode ≡ Random recipe) × IsRecipe given recipe
   pub judges : (output : Text) → given (codes "random") ≡ None → given (codes "judge") ≡ Some output → mode ≡ Judge
@@ -153,7 +159,8 @@ pub record IsScriptMode (given : Text → Option Text) (mode : Mode) : Type 0 wh
   pub blanks : given (codes "random") ≡ None → given (codes "judge") ≡ None → IsUnset given (codes "check") → IsSet given (codes "blank") → mode ≡ Blank
   pub asks : given (codes "random") ≡ None → given (codes "judge") ≡ None → IsUnset given (codes "check") → IsUnset given (codes "blank") → IsSet given (codes "ask") → mode ≡ Ask
   pub assembles : given (codes "random") ≡ None → given (codes "judge") ≡ None → IsUnset given (codes "check") → IsUnset given (codes "blank") → IsUnset given (codes "ask") → IsSet given (codes "assemble") → mode ≡ Assemble
-  pub runs : given (codes "random") ≡ None → given (codes "judge") ≡ None → IsUnset given (codes "check") → IsUnset given (codes "blank") → IsUnset given (codes "ask") → IsUnset given (codes "assemble") → mode ≡ Run
+  pub explores : given (codes "random") ≡ None → given (codes "judge") ≡ None → IsUnset given (codes "check") → IsUnset given (codes "blank") → IsUnset given (codes "ask") → IsUnset given (codes "assemble") → IsSet given (codes "schedules") → mode ≡ Schedules
+  pub runs : given (codes "random") ≡ None → given (codes "judge") ≡ None → IsUnset given (codes "check") → IsUnset given (codes "blank") → IsUnset given (codes "ask") → IsUnset given (codes "assemble") → IsUnset given (codes "schedules") → mode ≡ Run
 
 -- The text of a code is printed if `--code` is given; else that of the rule that `--rule` names; else a script is served.
 pub record IsMode (given : Text → Option Text) (mode : Mode) : Type 0 where
@@ -195,6 +202,11 @@ pub record IsFormat (said : Option Text) (format : Format) : Type 0 where
   pub junit : said ≢ Some (codes "tap") → said ≡ Some (codes "junit") → format ≡ form.Junit
   pub text : said ≢ Some (codes "tap") → said ≢ Some (codes "junit") → format ≡ form.Text
 
+-- The number of schedules that are run at most is that of `--most`, or 1,000,000.
+pub record IsMost (said : Option Text) (most : ℕ) : Type 0 where
+  pub count : (text : Text) (n : ℕ) → said ≡ Some text → IsNumber text n → n ≤ 1000000000 → most ≡ n
+  pub usual : said ≡ None → most ≡ 1000000
+
 -- The settings are those that the words say, of which this is what each option is given.
 pub record AreSettings (given : Text → Option Text) (s : Settings) : Type 0 where
   pub file : s.file.now ≡ unwrap_or (given (codes "FILE")) (codes "-")
@@ -211,3 +223,7 @@ pub record AreSettings (given : Text → Option Text) (s : Settings) : Type 0 wh
   pub color : IsColor (given (codes "color")) s.color
   pub format : IsFormat (given (codes "format")) s.form.format
   pub hidden : IsTrue s.form.is_hidden ↔ IsSet given (codes "hide")
+  pub schedule : option_map (λ order. order.now) s.schedule ≡ given (codes "schedule")
+  pub second_schedule : option_map (λ order. order.now) s.second_schedule ≡ given (codes "with-schedule")
+  pub most : IsMost (given (codes "most")) s.most
+  pub ignores : IsTrue s.ignores_addresses ↔ IsSet given (codes "ignore-addresses")

@@ -13,9 +13,10 @@ use Rattle.mvs_job.specs.Giving.{fault_text}
 use Rattle.mvsjob.specs.declared.ending.Cause.{Cause}
 use Rattle.mvsjob.specs.declared.ending.Cause.TheVariants.{Missing, Forbidden, Directory, Unnamed, TooLong, Other}
 use Rattle.mvsjob.specs.declared.ending.ExitReason.{ExitReason}
-use Rattle.mvsjob.specs.declared.ending.ExitReason.TheVariants.{Ran, NotServed, Leaked, Printed, Checked, Judged, Refused, GaveUp}
+use Rattle.mvsjob.specs.declared.ending.ExitReason.TheVariants.{Ran, NotServed, Leaked, Printed, Checked, Judged, Explored, Refused, GaveUp}
 use Rattle.mvsjob.specs.declared.ending.CliError.{CliError}
-use Rattle.mvsjob.specs.declared.ending.CliError.TheVariants.{Script, Output, Second, PageFile, Pipe, Job}
+use Rattle.mvsjob.specs.declared.ending.CliError.TheVariants.{Script, Output, Second, PageFile, Order, SecondOrder, Pipe, Job}
+use Rattle.schedules.specs.declared.report.Verdict.TheVariants.{Same, Varies, Stopped}
 
 abbrev pub status_of : ExitReason → ℕ
 status_of (Ran Clean) = 0
@@ -28,12 +29,17 @@ status_of (Checked differs) = if differs then 1 else 0
 status_of (Judged Accepted) = 0
 status_of (Judged finding.Refused) = 1
 status_of (Judged (Undecided line)) = 2
+status_of (Explored Same) = 0
+status_of (Explored Varies) = 1
+status_of (Explored Stopped) = 2
 status_of Refused = 16
 status_of (GaveUp Pipe) = 141
 status_of (GaveUp (Script why)) = 16
 status_of (GaveUp (Output why)) = 16
 status_of (GaveUp (Second why)) = 16
 status_of (GaveUp (PageFile why)) = 16
+status_of (GaveUp (Order why)) = 16
+status_of (GaveUp (SecondOrder why)) = 16
 status_of (GaveUp (Job fault)) = 16
 
 -- how a strict run ends, in which each line was executed, or not

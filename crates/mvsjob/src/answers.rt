@@ -73,11 +73,11 @@ fn reported<'a>(
 ) -> Option<FaultyLine<'a>>
     ensures { IsReported is_hidden counts.now faulty.now result }
 {
-    match faulty {
-        Some(faulty) if hides_fault(is_hidden, counts, faulty.number) => None,
-        Some(faulty) => Some(in_script(script, faulty)),
-        None => None,
+    let faulty = faulty.as_ref()?;
+    if hides_fault(is_hidden, counts, faulty.number) {
+        return None;
     }
+    Some(in_script(script, faulty))
 }
 
 /// Runs a script, and reports which of the answers that it expects are those of the run. A script that ends with a fault that it does
@@ -92,20 +92,14 @@ pub fn check_answers<'a, W: Write>(
     ensures { Checks (W.contents writer.old.inner) (W.contents writer.new.inner) settings.now.form
         settings.now.file.now script.now result }
 {
-    let Ok(run) = statements(alloc, script) else {
-        return Err(CliError::Job(RunFault::Memory));
-    };
+    let run = statements(alloc, script).map_err(|_| RunFault::Memory)?;
     let (ran, printed) = printing_of(alloc, settings.placement, &run);
-    let Ok(outcome) = ran else {
-        // A vector that accepts no byte has no memory for it.
-        return Err(CliError::Job(RunFault::Memory));
-    };
-    let Ok(report) = report_answers(alloc, settings.form, settings.file, script, &printed) else {
-        return Err(CliError::Job(RunFault::Memory));
-    };
-    let Ok(()) = write_all(writer, &report.text) else {
-        return Err(CliError::Job(RunFault::Write));
-    };
+    // A vector that accepts no byte has no memory for it.
+    let outcome = ran.map_err(|_| RunFault::Memory)?;
+    let report = report_answers(alloc, settings.form, settings.file, script, &printed).map_err(
+        |_| RunFault::Memory,
+    )?;
+    write_all(writer, &report.text)?;
     let faulty = fault_of(&run, outcome);
     Ok(ModeResult {
         ending: ending_of(&report.counts, &faulty),
@@ -122,10 +116,8 @@ pub fn write_blanks<'a, W: Write>(
         → Blanks (W.contents writer.old.inner) (W.contents writer.new.inner) script.now result }
 {
     let front = front_of(script);
-    match write_blank(writer, front.bytes) {
-        Ok(()) => Ok(ModeResult::of_front(front.faulty)),
-        Err(_) => Err(CliError::Job(RunFault::Write)),
-    }
+    write_blank(writer, front.bytes)?;
+    Ok(ModeResult::of_front(front.faulty))
 }
 
 /// Writes a script with a WHERE for each of its areas. It ends at an invalid byte.
@@ -137,8 +129,6 @@ pub fn write_questions<'a, W: Write>(
         → Asks (W.contents writer.old.inner) (W.contents writer.new.inner) script.now result }
 {
     let front = front_of(script);
-    match write_with_queries(writer, front.bytes) {
-        Ok(()) => Ok(ModeResult::of_front(front.faulty)),
-        Err(_) => Err(CliError::Job(RunFault::Write)),
-    }
+    write_with_queries(writer, front.bytes)?;
+    Ok(ModeResult::of_front(front.faulty))
 }

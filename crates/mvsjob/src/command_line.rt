@@ -10,6 +10,7 @@ ghost use Rattle.reference.specs.Texts.{names};
 
 use crate::exclusions::apart;
 use crate::options::{Color, Mode, Recipe, RunOutput, Settings};
+use crate::schedule_options::{most_runs, most_schedules, with_schedules};
 use clap::builder::ValueParser;
 use clap::{Arg, ArgAction, ArgMatches, Command};
 use expected_answers::{Format, ReportForm};
@@ -36,13 +37,15 @@ const LONG: &str = "Examples:
                                      the same, without what would be right
   mvsjob --assemble leak.job         print an HLASM program that makes the same requests
   mvsjob --code S878                 print what a code means, and what to try
+  mvsjob --schedules race.job        run every order of the tasks, and count the answers
   mvsjob --random 7 --lines 50 | mvsjob --place high
                                      run a random script, its areas at the highest addresses
 
 Exit status:
   0   the script ran to its end, and no task abended
-  1   --check: an answer is wrong or missing; --judge: no run of the script prints OUTPUT
-  2   --judge: not decided
+  1   --check: an answer is wrong or missing; --judge: no run of the script prints OUTPUT;
+      --schedules: a statement has several answers
+  2   --judge: not decided; --schedules: not all schedules were run
   4   no task abended, but with --strict a line was not executed (NOT RUN or NO NAME),
       or with --leaks an area was never released
   8   the script ran to its end, and a task abended
@@ -53,8 +56,11 @@ Exit status:
 mvsjob-script(5) describes the script language.";
 
 /// The options that have a value, where it is a word of its own.
-static VALUED: [&str; 10] = [
+static VALUED: [&str; 13] = [
     "--with",
+    "--schedule",
+    "--with-schedule",
+    "--most",
     "--place",
     "--format",
     "--judge",
@@ -107,8 +113,8 @@ fn titled<'a>(alloc: Global) -> Command<'a>
         .after_long_help(LONG)
 }
 
-// Adds an option without a value.
-fn with_flag<'a>(
+/// Adds an option without a value.
+pub fn with_flag<'a>(
     command: Command<'a>,
     alloc: Global,
     name: &'a str,
@@ -123,8 +129,8 @@ fn with_flag<'a>(
     command.arg(flag)
 }
 
-// Adds an option with a value, which the help calls by a name.
-fn with_option<'a>(
+/// Adds an option with a value, which the help calls by a name.
+pub fn with_option<'a>(
     command: Command<'a>,
     alloc: Global,
     name: &'a str,
@@ -386,7 +392,7 @@ fn with_second<'a>(command: Command<'a>, alloc: Global) -> Result<Command<'a>, A
     )
 }
 
-// Makes the command: a file and twenty-two options, all optional.
+// Makes the command: a file and twenty-seven options, all optional.
 fn command<'a>(alloc: Global) -> Result<Command<'a>, AllocError>
     ensures { IfOk result (λ c. (ps : Parsers) × AreParsers ps × (app_of c ≡ command ps)) }
 {
@@ -402,7 +408,8 @@ fn command<'a>(alloc: Global) -> Result<Command<'a>, AllocError>
     let colored = with_color(telling, alloc)?;
     let coded = with_code(colored, alloc)?;
     let ruled = with_rule_text(coded, alloc)?;
-    with_second(ruled, alloc)
+    let seconded = with_second(ruled, alloc)?;
+    with_schedules(seconded, alloc)
 }
 
 // Returns the word for the script.
@@ -505,8 +512,8 @@ fn profile(matches: &ArgMatches<'_>) -> Profile
     }
 }
 
-// Returns the number of an option, or another number where it has none.
-fn number_of(matches: &ArgMatches<'_>, name: &str, usual: u64) -> u64
+/// Returns the number of an option, or another number where it has none.
+pub fn number_of(matches: &ArgMatches<'_>, name: &str, usual: u64) -> u64
     ensures number { (text : Text) (n : ℕ) → first_value (found_of matches.now) name.now ≡ Some text
         → IsNumber text n → n < 2 ^ 64 → result ≡ n }
     ensures usual { first_value (found_of matches.now) name.now ≡ None → result ≡ usual }
@@ -565,6 +572,7 @@ fn script_mode(matches: &ArgMatches<'_>) -> Mode
         None if is_set(matches, "blank") => Mode::Blank,
         None if is_set(matches, "ask") => Mode::Ask,
         None if is_set(matches, "assemble") => Mode::Assemble,
+        None if is_set(matches, "schedules") => Mode::Schedules,
         None => Mode::Run,
     }
 }
@@ -648,6 +656,11 @@ pub fn settings<'a>(alloc: Global, words: &'a [String]) -> Result<Settings<'a>, 
             format: format(&matches),
             is_hidden: is_set(&matches, "hide"),
         },
+        schedule: matches.get_str("schedule"),
+        second_schedule: matches.get_str("with-schedule"),
+        most: most_schedules(&matches),
+        most_runs: most_runs(&matches),
+        ignores_addresses: is_set(&matches, "ignore-addresses"),
         apart: apart(&matches),
     })
 }

@@ -6,6 +6,7 @@ use crate::options::{RunOutput, Settings};
 use crate::report_fault;
 use crate::script::read_script;
 use diagnosis::{Plain, PlainName};
+use line_text::text::LineText;
 use mvs_job::RunFault;
 use mvs_model::line::Fault;
 use mvs_model::numbers::MOST_SCRIPT_BYTES;
@@ -15,7 +16,7 @@ use shell::{Command, Misread, command_meant};
 use std::alloc::Global;
 use std::cell::Cell;
 use std::fs::{self, File};
-use std::io::IsTerminal;
+use std::io::{IsTerminal, Write};
 use terminal_session::{Host, View, answer, banner, correction};
 
 /// Shows what a session says beside the answers: on standard output if that is a terminal, and otherwise on standard error.
@@ -161,14 +162,21 @@ impl<'a> Desk<'a> {
         }
         match write_page(alloc, FRAME.as_bytes(), &text, &mut writer, view.placement) {
             Ok(_) => self.report_written(view, name),
-            Err(stop) => self.report_file("write", name, CliError::of(stop).reason()),
+            Err(stop) => self.report_file("write", name, CliError::from(stop).reason()),
         }
     }
 }
 
 impl Host for Desk<'_> {
     fn on_prompt(&mut self, number: u32) {
-        self.show_some(format!(in self.rt.alloc(); "{number}> "));
+        let mut prompt = LineText::new();
+        prompt.push_decimal(number);
+        prompt.push_str(b"> ");
+        let _ = if self.is_out {
+            self.rt.stdout().write_all(prompt.as_slice())
+        } else {
+            self.rt.stderr().write_all(prompt.as_slice())
+        };
     }
 
     fn on_fault(&mut self, number: u32, line: &[u8], fault: Fault) {
@@ -222,10 +230,9 @@ impl Host for Desk<'_> {
 
     fn open(&mut self, alloc: Global, name: &[u8]) -> Option<Vec<u8>> {
         let path = self.path("open", name)?;
-        let opened = match File::open(self.rt, path) {
-            Ok(file) => read_script(alloc, file),
-            Err(error) => Err(CliError::Script(Cause::from(error.kind()))),
-        };
+        let opened = File::open(self.rt, path)
+            .map_err(|error| CliError::Script(Cause::from(error.kind())))
+            .and_then(|file| read_script(alloc, file));
         match opened {
             Ok(text) => Some(text),
             Err(why) => {

@@ -7,6 +7,10 @@ ghost use Rattle.mvsjob.specs.Endings.{cause_of, gave_up, leak_ending, strict_en
 use judge::Finding;
 use mvs_job::{RunFault, Stop, StrictOutcome};
 use mvs_model::outcome::Outcome;
+use mvs_model::watched::Failed;
+use random_script::RandomFault;
+use schedules::{OrderError, Verdict};
+use std::alloc::AllocError;
 use std::io::ErrorKind;
 use thiserror::Error;
 
@@ -71,6 +75,12 @@ pub enum CliError {
     /// The file for a page cannot be created.
     #[error("cannot create a file for the page: {0}")]
     PageFile(Cause),
+    /// The order of `--schedule` is no schedule of the script.
+    #[error("--schedule: {0}")]
+    Order(OrderError),
+    /// The order of `--with-schedule` is no schedule of the second script.
+    #[error("--with-schedule: {0}")]
+    SecondOrder(OrderError),
     /// Nobody reads what is written.
     #[error("the pipe is closed")]
     Pipe,
@@ -80,22 +90,58 @@ pub enum CliError {
 }
 
 impl From<RunFault> for CliError {
+    ghost use Rattle.mvsjob.specs.declared.ending.CliError.{CliError};
+
+    ghost from_gives = { λ fault why. why ≡ CliError.Job fault };
+
     fn from(fault: RunFault) -> CliError {
         CliError::Job(fault)
     }
 }
 
-impl CliError {
-    /// Returns why the program stops where a job stops.
-    pub fn of(stop: Stop) -> CliError
-        ensures { result ≡ gave_up stop }
-    {
+impl From<Stop> for CliError {
+    ghost from_gives = { λ stop why. why ≡ gave_up stop };
+
+    fn from(stop: Stop) -> CliError {
         match stop {
             Stop::Write => CliError::Job(RunFault::Write),
             Stop::Memory => CliError::Job(RunFault::Memory),
         }
     }
+}
 
+impl From<Failed> for CliError {
+    ghost use Rattle.mvsjob.specs.declared.ending.CliError.{CliError};
+    ghost use Rattle.mvs_job.specs.declared.run.RunFault.{RunFault};
+
+    ghost from_gives = { λ _ why. why ≡ CliError.Job RunFault.Write };
+
+    fn from(_: Failed) -> CliError {
+        CliError::Job(RunFault::Write)
+    }
+}
+
+impl From<AllocError> for CliError {
+    ghost use Rattle.mvsjob.specs.declared.ending.CliError.{CliError};
+    ghost use Rattle.mvs_job.specs.declared.run.RunFault.{RunFault};
+
+    ghost from_gives = { λ _ why. why ≡ CliError.Job RunFault.Memory };
+
+    fn from(_: AllocError) -> CliError {
+        CliError::Job(RunFault::Memory)
+    }
+}
+
+impl From<RandomFault> for CliError {
+    fn from(fault: RandomFault) -> CliError {
+        match fault {
+            RandomFault::Memory => CliError::Job(RunFault::Memory),
+            RandomFault::Write => CliError::Job(RunFault::Write),
+        }
+    }
+}
+
+impl CliError {
     /// Returns what a message about a file says of the cause.
     pub fn reason(self) -> &'static str {
         match self {
@@ -103,6 +149,7 @@ impl CliError {
             | CliError::Output(cause)
             | CliError::Second(cause)
             | CliError::PageFile(cause) => cause.text(),
+            CliError::Order(_) | CliError::SecondOrder(_) => "the order is no schedule",
             CliError::Pipe => "the pipe is closed",
             CliError::Job(fault) => fault.text(),
         }
@@ -132,6 +179,8 @@ pub enum ExitReason {
     Checked { differs: bool },
     /// An output was judged.
     Judged(Finding),
+    /// The schedules of a script were run.
+    Explored(Verdict),
     /// The options were refused, and standard error has why.
     Refused,
     /// The program stopped before its work was done.
@@ -169,6 +218,9 @@ impl ExitReason {
             ExitReason::Judged(Finding::Accepted) => 0,
             ExitReason::Judged(Finding::Refused) => 1,
             ExitReason::Judged(Finding::Undecided(_)) => 2,
+            ExitReason::Explored(Verdict::Same) => 0,
+            ExitReason::Explored(Verdict::Varies) => 1,
+            ExitReason::Explored(Verdict::Stopped) => 2,
             ExitReason::NotServed | ExitReason::Leaked => 4,
             ExitReason::Ran(Outcome::SomeAbend) => 8,
             ExitReason::Ran(Outcome::ScriptFault) => 12,
@@ -189,13 +241,14 @@ impl ExitReason {
             ExitReason::GaveUp(CliError::Second(_)) => Some("cannot read the second script"),
             ExitReason::GaveUp(CliError::PageFile(_)) => Some("cannot create a file for the page"),
             ExitReason::GaveUp(CliError::Job(fault)) => Some(fault.text()),
-            ExitReason::GaveUp(CliError::Pipe)
+            ExitReason::GaveUp(CliError::Pipe | CliError::Order(_) | CliError::SecondOrder(_))
             | ExitReason::Ran(_)
             | ExitReason::NotServed
             | ExitReason::Leaked
             | ExitReason::Printed
             | ExitReason::Checked { .. }
             | ExitReason::Judged(_)
+            | ExitReason::Explored(_)
             | ExitReason::Refused => None,
         }
     }

@@ -7,7 +7,7 @@ use clap::ArgMatches;
 type Excluding = (&'static str, &'static [&'static str]);
 
 /// The options that have no meaning together.
-static EXCLUDING: [Excluding; 10] = [
+static EXCLUDING: [Excluding; 13] = [
     (
         "code",
         &[
@@ -19,6 +19,8 @@ static EXCLUDING: [Excluding; 10] = [
             "blank",
             "ask",
             "assemble",
+            "schedules",
+            "schedule",
             "explain",
             "leaks",
             "json",
@@ -39,6 +41,8 @@ static EXCLUDING: [Excluding; 10] = [
             "blank",
             "ask",
             "assemble",
+            "schedules",
+            "schedule",
             "explain",
             "leaks",
             "json",
@@ -58,6 +62,8 @@ static EXCLUDING: [Excluding; 10] = [
             "blank",
             "ask",
             "assemble",
+            "schedules",
+            "schedule",
             "explain",
             "leaks",
             "json",
@@ -75,6 +81,8 @@ static EXCLUDING: [Excluding; 10] = [
             "blank",
             "ask",
             "assemble",
+            "schedules",
+            "schedule",
             "explain",
             "leaks",
             "json",
@@ -91,6 +99,8 @@ static EXCLUDING: [Excluding; 10] = [
             "blank",
             "ask",
             "assemble",
+            "schedules",
+            "schedule",
             "explain",
             "leaks",
             "json",
@@ -105,6 +115,8 @@ static EXCLUDING: [Excluding; 10] = [
         &[
             "ask",
             "assemble",
+            "schedules",
+            "schedule",
             "explain",
             "leaks",
             "json",
@@ -119,6 +131,8 @@ static EXCLUDING: [Excluding; 10] = [
         "ask",
         &[
             "assemble",
+            "schedules",
+            "schedule",
             "explain",
             "leaks",
             "json",
@@ -132,6 +146,8 @@ static EXCLUDING: [Excluding; 10] = [
     (
         "assemble",
         &[
+            "schedules",
+            "schedule",
             "explain",
             "leaks",
             "json",
@@ -142,18 +158,34 @@ static EXCLUDING: [Excluding; 10] = [
             "color",
         ],
     ),
+    (
+        "schedules",
+        &[
+            "schedule",
+            "explain",
+            "leaks",
+            "page",
+            "strict",
+            "interactive",
+            "color",
+        ],
+    ),
+    ("schedule", &["interactive"]),
     ("json", &["page", "color"]),
-    ("page", &["leaks", "strict", "interactive", "color"]),
+    ("page", &["interactive", "color"]),
+    ("with", &["leaks", "strict"]),
 ];
 
 /// The options that have a meaning with another one only, and that one.
-static NEEDING: [(&str, &str); 6] = [
+static NEEDING: [(&str, &str); 8] = [
     ("with", "page"),
+    ("with-schedule", "with"),
     ("open", "page"),
     ("lines", "random"),
     ("profile", "random"),
     ("hide", "check"),
     ("format", "check"),
+    ("ignore-addresses", "schedules"),
 ];
 
 // Returns whether an option is there; one without a value is, where it is set.
@@ -177,6 +209,9 @@ pub fn apart(matches: &ArgMatches<'_>) -> Option<Apart> {
         if is_given(matches, one) && !is_given(matches, other) {
             return Some(Apart::Needs(one, other));
         }
+    }
+    if is_given(matches, "most") && !is_given(matches, "judge") && !is_given(matches, "schedules") {
+        return Some(Apart::Needs("most", "schedules"));
     }
     None
 }

@@ -6,9 +6,8 @@ ghost use Rattle.mvsjob.specs.ModeResult.{Judges, word_of};
 use crate::difference::write_difference;
 use crate::ending::{CliError, ExitReason};
 use crate::served::ModeResult;
-use judge::{Finding, Judgement, judge};
+use judge::{Finding, Judgement, judge_within};
 use line_text::write_all;
-use mvs_job::RunFault;
 use mvs_model::watched::Watched;
 use std::alloc::{AllocError, Global};
 use std::io::Write;
@@ -24,6 +23,21 @@ fn word_for(finding: Finding) -> &'static str
     }
 }
 
+// Writes which line of the script is left open, and whether a search stopped at its bound.
+fn write_open_line<W: Write>(writer: &mut W, line: u32, has_stopped: bool) -> std::io::Result<()> {
+    writeln!(
+        writer,
+        "line {line} of the script obtains storage whose address the output does not show, or is a list that may be refused"
+    )?;
+    if has_stopped {
+        writeln!(
+            writer,
+            "a search for the places stopped at its bound, which --most raises"
+        )?;
+    }
+    Ok(())
+}
+
 // Writes where an output differs from what a run prints.
 fn write_details<W: Write>(
     writer: &mut W,
@@ -35,10 +49,7 @@ fn write_details<W: Write>(
     }
     write_difference(writer, output, &judgement.text)?;
     match judgement.finding {
-        Finding::Undecided(line) => writeln!(
-            writer,
-            "line {line} of the script obtains storage whose address the output does not show, or is a list that may be refused"
-        ),
+        Finding::Undecided(line) => write_open_line(writer, line, judgement.has_stopped),
         Finding::Accepted | Finding::Refused => Ok(()),
     }
 }
@@ -50,9 +61,7 @@ fn report_of(alloc: Global, judgement: &Judgement, output: &[u8]) -> Result<Vec<
         ≡ word_of judgement.now.finding ++ 10 ∷ details)) }
 {
     let mut details = Vec::new(alloc);
-    let Ok(()) = write_details(&mut details, judgement, output) else {
-        return Err(AllocError);
-    };
+    write_details(&mut details, judgement, output).map_err(|_| AllocError)?;
     let mut report = Vec::new(alloc);
     report.extend_from_slice(word_for(judgement.finding).as_bytes())?;
     report.push(b'\n')?;
@@ -65,20 +74,14 @@ pub fn judge_output<'a, W: Write>(
     alloc: Global,
     script: &'a [u8],
     output: &[u8],
+    most_runs: usize,
     writer: &mut Watched<W>,
 ) -> Result<ModeResult<'a>, CliError>
     ensures { Judges (W.contents writer.old.inner) (W.contents writer.new.inner) script.now
         output.now result }
 {
-    let judgement = match judge(alloc, script, output) {
-        Ok(judgement) => judgement,
-        Err(fault) => return Err(CliError::Job(fault)),
-    };
-    let Ok(report) = report_of(alloc, &judgement, output) else {
-        return Err(CliError::Job(RunFault::Memory));
-    };
-    let Ok(()) = write_all(writer, &report) else {
-        return Err(CliError::Job(RunFault::Write));
-    };
+    let judgement = judge_within(alloc, script, output, most_runs)?;
+    let report = report_of(alloc, &judgement, output)?;
+    write_all(writer, &report)?;
     Ok(ModeResult::of(ExitReason::Judged(judgement.finding)))
 }

@@ -1,7 +1,7 @@
 //! Simulates the virtual storage services that an unauthorized program of MVS uses in its own region.
 #![tactic(auto)]
 
-ghost use Rattle.std.specs.Prelude.{◌≡◌, false, IfOk};
+ghost use Rattle.std.specs.Prelude.{◌≡◌, ◌≢◌, Err, IfOk, Ok, false};
 ghost use Rattle.std.specs.Process.{exit_status};
 ghost use Rattle.mvsjob.specs.Endings.{status_of};
 
@@ -25,12 +25,17 @@ mod pages;
 mod piped;
 mod queries;
 mod recorder;
+mod schedule_options;
+mod scheduled;
 mod script;
+mod second_run;
 mod served;
 mod streamed;
 mod strict;
+mod tabulated;
 mod terminal;
 mod through;
+mod whole_page;
 
 use area_history::{Historian, JsonReport, TextReport};
 use coloured::{Coloured, is_coloured};
@@ -48,8 +53,10 @@ use options::{Apart, Mode, RunOutput, Settings};
 use pages::write_page_of;
 use piped::Piped;
 use recorder::LineRecorder;
+use scheduled::run_scheduled;
 use script::{read_output, read_script};
-use served::serve_script;
+use served::{ModeResult, serve_script};
+use shell::ByteReader;
 use std::env;
 use std::fs::File;
 use std::io::{self, BufWriter, ErrorKind, IsTerminal, Read, Write};
@@ -75,13 +82,13 @@ fn standard_output<'a>(
 ) -> Result<Watched<Output<'a>>, CliError>
     ensures { IfOk result (λ writer. writer.failed ≡ false) }
 {
-    match BufWriter::new(rt.alloc(), Piped::new(io::writer(rt))) {
-        Ok(writer) => Ok(Watched::new(Coloured::new(
-            writer,
-            settings.is_answers() && is_coloured(rt, settings.color),
-        ))),
-        Err(_) => Err(CliError::Job(RunFault::Memory)),
-    }
+    let writer = BufWriter::new(rt.alloc(), Piped::new(io::writer(rt))).map_err(|_| CliError::Job(
+        RunFault::Memory,
+    ))?;
+    Ok(Watched::new(Coloured::new(
+        writer,
+        settings.is_answers() && is_coloured(rt, settings.color),
+    )))
 }
 
 // Flushes what a mode printed that ended so. A flush that fails is a write that failed, and one that failed since nobody reads
@@ -110,12 +117,16 @@ pub(crate) fn passed_on<W: Write>(
     ended: Result<Outcome, RunFault>,
     read_failure: CliError,
     faulty: &FaultyLine<'_>,
-) -> Result<ExitReason, CliError> {
+) -> Result<ExitReason, CliError>
+    ensures ok { (outcome : Outcome) → ended ≡ Ok outcome → result ≢ Err (CliError.Job RunFault.Write)
+        → result ≡ Ok (ExitReason.Ran outcome) }
+    ensures read { ended ≡ Err RunFault.Read → result ≡ Err read_failure }
+    ensures fault { (fault : RunFault) → ended ≡ Err fault → fault ≢ RunFault.Read
+        → result ≡ Err (CliError.Job fault) }
+{
     match ended {
         Ok(Outcome::ScriptFault) => {
-            if writer.flush().is_err() {
-                return Err(CliError::Job(RunFault::Write));
-            }
+            writer.flush().map_err(|_| RunFault::Write)?;
             report_fault(rt, settings.file, faulty);
             Ok(ExitReason::Ran(Outcome::ScriptFault))
         }
@@ -123,6 +134,22 @@ pub(crate) fn passed_on<W: Write>(
         Err(RunFault::Read) => Err(read_failure),
         Err(fault) => Err(CliError::Job(fault)),
     }
+}
+
+// Returns how a mode ended, and reports the line that ended it, if one did.
+pub(crate) fn ended_as<W: Write>(
+    rt: &HostRuntime,
+    settings: &Settings<'_>,
+    writer: &mut Watched<W>,
+    served: &ModeResult<'_>,
+) -> Result<ExitReason, CliError>
+    ensures { IfOk result (λ ending. ending ≡ served.now.ending) }
+{
+    if let Some(faulty) = &served.faulty {
+        writer.flush().map_err(|_| RunFault::Write)?;
+        report_fault(rt, settings.file, faulty);
+    }
+    Ok(served.ending)
 }
 
 // Runs the script that a reader has as it comes.
@@ -134,9 +161,7 @@ fn run_lines<R: Read + Drop>(
 ) -> Result<ExitReason, CliError>
     requires { writer.old.failed ≡ false }
 {
-    let Ok(kept) = LineRecorder::new(rt.alloc(), reader) else {
-        return Err(CliError::Job(RunFault::Memory));
-    };
+    let kept = LineRecorder::new(rt.alloc(), reader)?;
     let (alloc, placement) = (rt.alloc(), settings.placement);
     let is_json = settings.output == RunOutput::Json;
     let ran = if is_json && settings.explains {
@@ -176,8 +201,12 @@ fn serve_reader<R: Read + Drop>(
     if settings.mode == Mode::Run && settings.output.is_page() {
         return write_page_of(rt, reader, settings, writer);
     }
+    if let Some(order) = settings.schedule {
+        return run_scheduled(rt, reader, settings, order, writer);
+    }
     if settings.is_as_it_comes() && is_at_terminal(rt, settings) {
-        return run_at_terminal(rt, OpenReader::new(reader), settings, writer);
+        let reader = OpenReader::new(ByteReader::new(reader));
+        return run_at_terminal(rt, reader, settings, writer);
     }
     if settings.is_as_it_comes() && !settings.strict && !settings.leaks {
         return run_lines(rt, OpenReader::new(reader), settings, writer);
@@ -186,13 +215,7 @@ fn serve_reader<R: Read + Drop>(
     let output = judged_output(rt, settings)?;
     let mut teller = Teller::new(rt, settings.file, &script);
     let served = serve_script(rt.alloc(), settings, &script, &output, writer, &mut teller)?;
-    if let Some(faulty) = &served.faulty {
-        if writer.flush().is_err() {
-            return Err(CliError::Job(RunFault::Write));
-        }
-        report_fault(rt, settings.file, faulty);
-    }
-    Ok(served.ending)
+    ended_as(rt, settings, writer, &served)
 }
 
 // Reads the output that is judged; it is empty without `--judge`.
@@ -200,10 +223,10 @@ fn judged_output(rt: &HostRuntime, settings: &Settings<'_>) -> Result<Vec<u8>, C
     if settings.mode != Mode::Judge {
         return Ok(Vec::new(rt.alloc()));
     }
-    match File::open(rt, settings.judged) {
-        Ok(output) => read_output(rt.alloc(), output),
-        Err(error) => Err(CliError::Output(Cause::from(error.kind()))),
-    }
+    let output = File::open(rt, settings.judged).map_err(|error| CliError::Output(Cause::from(
+        error.kind(),
+    )))?;
+    read_output(rt.alloc(), output)
 }
 
 // Opens the script, and does what the settings ask for.
@@ -220,10 +243,10 @@ fn serve(
     if settings.file == "-" {
         return serve_reader(rt, rt.stdin(), settings, writer);
     }
-    match File::open(rt, settings.file) {
-        Ok(script) => serve_reader(rt, script, settings, writer),
-        Err(error) => Err(CliError::Script(Cause::from(error.kind()))),
-    }
+    let script = File::open(rt, settings.file).map_err(|error| CliError::Script(Cause::from(
+        error.kind(),
+    )))?;
+    serve_reader(rt, script, settings, writer)
 }
 
 // Does what the settings ask for, and ends standard output.
@@ -284,6 +307,12 @@ fn finish(rt: &HostRuntime, file: &str, other: &str, ending: ExitReason) -> Exit
     }
     if let ExitReason::GaveUp(CliError::Output(cause) | CliError::Second(cause)) = ending {
         let _ = eprintln!(rt; "    {}: {}", PlainName(other), cause.text());
+    }
+    if let ExitReason::GaveUp(CliError::Order(error)) = ending {
+        let _ = eprintln!(rt; "mvsjob: --schedule: {error}");
+    }
+    if let ExitReason::GaveUp(CliError::SecondOrder(error)) = ending {
+        let _ = eprintln!(rt; "mvsjob: --with-schedule: {error}");
     }
     if let ExitReason::GaveUp(CliError::PageFile(cause)) = ending {
         let _ = eprintln!(rt; "    folder for temporary files: {}", cause.text());

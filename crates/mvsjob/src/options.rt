@@ -73,6 +73,8 @@ pub enum Mode {
     Ask,
     /// The script is written as a program for the assembler.
     Assemble,
+    /// The script is run in every order of its tasks.
+    Schedules,
     /// A random script is written.
     Random(Recipe),
     /// The text of a code is written.
@@ -107,6 +109,16 @@ pub struct Settings<'a> {
     /// Whether a run prompts for its lines, and skips those with a fault.
     pub interactive: bool,
     pub color: Color,
+    /// The order in which the statements of a step run, as the numbers of their lines, if one is given.
+    pub schedule: Option<&'a str>,
+    /// The same for the script of a second run.
+    pub second_schedule: Option<&'a str>,
+    /// The most schedules of a step that are run.
+    pub most: u32,
+    /// The most runs that a search of the judge makes.
+    pub most_runs: usize,
+    /// Whether the answers of schedules are compared without addresses.
+    pub ignores_addresses: bool,
     /// Two options that have no meaning together, if there are such.
     pub apart: Option<Apart>,
 }

@@ -27,10 +27,11 @@ fn bytes_of<R: Read + Drop>(alloc: Global, reader: R, most: u64) -> Result<Vec<u
     ensures { IfOk result (λ bytes. IfSome (R.remaining reader) (λ xs. bytes.items ≡ take most xs)) }
 {
     let mut bytes = Vec::new(alloc);
-    match reader.take(most).read_to_end(&mut bytes) {
-        Ok(_) => Ok(bytes),
-        Err(error) => Err(read_fault(&error)),
-    }
+    reader
+        .take(most)
+        .read_to_end(&mut bytes)
+        .map_err(|error| read_fault(&error))?;
+    Ok(bytes)
 }
 
 /// Reads a script: all bytes that a reader has. Fails if these are more than 16,777,215.
@@ -45,14 +46,21 @@ pub fn read_script<R: Read + Drop>(alloc: Global, reader: R) -> Result<Vec<u8>, 
     Ok(script)
 }
 
+// Returns why the program stops at a read of an output that failed.
+fn output_failure(why: CliError) -> CliError {
+    match why {
+        CliError::Script(cause) => CliError::Output(cause),
+        why => why,
+    }
+}
+
 /// Reads an output that is judged: all bytes that a reader has. Fails if these are more than 268,435,455.
 pub fn read_output<R: Read + Drop>(alloc: Global, reader: R) -> Result<Vec<u8>, CliError>
     ensures { IfOk result (λ output. IsRest (R.remaining reader) output.items) }
 {
-    match bytes_of(alloc, reader, MOST_OUTPUT_BYTES as u64 + 1) {
-        Ok(output) if output.len() > MOST_OUTPUT_BYTES => Err(CliError::Output(Cause::TooLong)),
-        Ok(output) => Ok(output),
-        Err(CliError::Script(cause)) => Err(CliError::Output(cause)),
-        Err(why) => Err(why),
+    let output = bytes_of(alloc, reader, MOST_OUTPUT_BYTES as u64 + 1).map_err(output_failure)?;
+    if output.len() > MOST_OUTPUT_BYTES {
+        return Err(CliError::Output(Cause::TooLong));
     }
+    Ok(output)
 }

@@ -15,6 +15,7 @@ ghost use Rattle.mvsjob.specs.Checking.{Checks};
 ghost use Rattle.mvsjob.specs.CommandLine.{is_page};
 ghost use Rattle.mvsjob.specs.Endings.{strict_ending};
 ghost use Rattle.mvsjob.specs.ModeResult.{Asks, Blanks, ConsumesStrictly, EndsAtFault, HasNoForeign, IsFaultOf, IsPrinted, Judges, ReportsLeaks, RunsStrictly, WritesAbout, WritesText};
+ghost use Rattle.mvsjob.specs.Tabulating.{Tabulates};
 ghost use Rattle.reference.specs.Texts.{IsRule, names, rule_name};
 
 use crate::answers::{check_answers, write_blanks, write_questions};
@@ -23,6 +24,7 @@ use crate::ending::{CliError, ExitReason};
 use crate::faulty::{FaultyLine, faulty_in};
 use crate::judging::judge_output;
 use crate::options::{Mode, Recipe, RunOutput, Settings};
+use crate::tabulated::write_schedules;
 use crate::through::Through;
 use area_history::{
     Historian, JsonReport, ReportFormat, TextReport, run_strictly_with_report, run_with_report,
@@ -36,7 +38,7 @@ use mvs_job::{
 use mvs_model::outcome::Outcome;
 use mvs_model::want::Placement;
 use mvs_model::watched::Watched;
-use random_script::{RandomFault, write_script};
+use random_script::write_script;
 use reference::{code, rule};
 use std::alloc::Global;
 use std::io::Write;
@@ -117,14 +119,12 @@ fn run_strict<'a, W: Write, H: SkipObserver>(
     ensures { RunsStrictly (W.contents writer.old.inner) (W.contents writer.new.inner)
         (H.heard hearer.old) (H.heard hearer.new) script.now result }
 {
-    match run_strictly(alloc, script, writer, placement, hearer) {
-        Ok(end) => Ok(of_strict(script, end)),
-        Err(stop) => Err(CliError::of(stop)),
-    }
+    let end = run_strictly(alloc, script, writer, placement, hearer)?;
+    Ok(of_strict(script, end))
 }
 
-// Runs a script, gives each entry of the run to a consumer, and reports each line that was not executed to an observer.
-fn consume_strict<'a, W: Write, C: Consumer, H: SkipObserver>(
+/// Runs a script, gives each entry of the run to a consumer, and reports each line that was not executed to an observer.
+pub fn consume_strict<'a, W: Write, C: Consumer, H: SkipObserver>(
     alloc: Global,
     script: &'a [u8],
     writer: &mut Watched<W>,
@@ -137,18 +137,16 @@ fn consume_strict<'a, W: Write, C: Consumer, H: SkipObserver>(
     ensures { ConsumesStrictly C.piece (W.contents writer.old.inner) (W.contents writer.new.inner)
         (H.heard hearer.old) (H.heard hearer.new) script.now result }
 {
-    match run_observed(alloc, script, writer, placement, consumer, hearer) {
-        Ok(end) => Ok(of_strict(script, end)),
-        Err(stop) => Err(CliError::of(stop)),
-    }
+    let end = run_observed(alloc, script, writer, placement, consumer, hearer)?;
+    Ok(of_strict(script, end))
 }
 
 /// A script that was read whole, and how it is run.
 #[derive(Clone, Copy)]
-struct WholeScript<'a> {
-    alloc: Global,
-    script: &'a [u8],
-    placement: Placement,
+pub struct WholeScript<'a> {
+    pub alloc: Global,
+    pub script: &'a [u8],
+    pub placement: Placement,
 }
 
 // Runs a script with a report of leaks at the end of each step.
@@ -168,13 +166,11 @@ fn report_leaks<'a, W: Write, C: Consumer, F: ReportFormat + Drop>(
         script,
         placement,
     } = whole;
-    match run_with_report(alloc, script, writer, placement, consumer, format) {
-        Ok(end) => Ok(ModeResult {
-            ending: ExitReason::Ran(end.outcome).with_leaks(end.has_leaked),
-            faulty: fault_of(script, end.outcome),
-        }),
-        Err(stop) => Err(CliError::of(stop)),
-    }
+    let end = run_with_report(alloc, script, writer, placement, consumer, format)?;
+    Ok(ModeResult {
+        ending: ExitReason::Ran(end.outcome).with_leaks(end.has_leaked),
+        faulty: fault_of(script, end.outcome),
+    })
 }
 
 // Runs a script in that way, and reports each line that was not executed to an observer.
@@ -196,23 +192,20 @@ fn report_leaks_strictly<'a, W: Write, C: Consumer, F: ReportFormat + Drop, H: S
         placement,
     } = whole;
     let mut strict = Strict::new(consumer, hearer);
-    match run_strictly_with_report(alloc, script, writer, placement, &mut strict, format) {
-        Ok(end) => {
-            let ran = StrictOutcome {
-                outcome: end.outcome,
-                all_served: end.all_served,
-            };
-            Ok(ModeResult {
-                ending: ExitReason::of_strict(ran).with_leaks(end.has_leaked),
-                faulty: fault_of(script, end.outcome),
-            })
-        }
-        Err(stop) => Err(CliError::of(stop)),
-    }
+    let end = run_strictly_with_report(alloc, script, writer, placement, &mut strict, format)?;
+    let ran = StrictOutcome {
+        outcome: end.outcome,
+        all_served: end.all_served,
+    };
+    Ok(ModeResult {
+        ending: ExitReason::of_strict(ran).with_leaks(end.has_leaked),
+        faulty: fault_of(script, end.outcome),
+    })
 }
 
-// Runs a script in one of these ways.
-fn report_leaks_as<'a, W: Write, C: Consumer, F: ReportFormat + Drop, H: SkipObserver>(
+/// Runs a script with a report of leaks at the end of each step. If it is strict, each line that was not executed is reported to an
+/// observer.
+pub fn report_leaks_as<'a, W: Write, C: Consumer, F: ReportFormat + Drop, H: SkipObserver>(
     whole: WholeScript<'a>,
     strict: bool,
     writer: &mut Watched<W>,
@@ -318,11 +311,8 @@ fn write_random<W: Write>(
         lines,
         profile,
     } = recipe;
-    match write_script(alloc, &mut writer, seed, lines, profile) {
-        Ok(()) => Ok(ModeResult::of(ExitReason::Printed)),
-        Err(RandomFault::Memory) => Err(CliError::Job(RunFault::Memory)),
-        Err(RandomFault::Write) => Err(CliError::Job(RunFault::Write)),
-    }
+    write_script(alloc, &mut writer, seed, lines, profile)?;
+    Ok(ModeResult::of(ExitReason::Printed))
 }
 
 // Writes a text of the reference, if there is one.
@@ -333,13 +323,10 @@ fn write_text<W: Write>(
     ensures { IfSome text.entry (λ t. WritesText (W.contents writer.old.inner)
         (W.contents writer.new.inner) t.now result) }
 {
-    match text {
-        Some(text) => match write_all(writer, text.as_bytes()) {
-            Ok(()) => Ok(ModeResult::of(ExitReason::Printed)),
-            Err(_) => Err(CliError::Job(RunFault::Write)),
-        },
-        None => Ok(ModeResult::of(ExitReason::Printed)),
+    if let Some(text) = text {
+        write_all(writer, text.as_bytes())?;
     }
+    Ok(ModeResult::of(ExitReason::Printed))
 }
 
 // Runs a script as the settings have it.
@@ -449,6 +436,9 @@ pub fn serve_script<'a, W: Write, H: SkipObserver>(
         → Asks (W.contents writer.old.inner) (W.contents writer.new.inner) script.now result }
     ensures assemble { settings.now.mode ≡ Mode.Assemble
         → IfOk result (λ served. IsPrinted served ⊎ EndsAtFault script.now served) }
+    ensures schedules { settings.now.mode ≡ Mode.Schedules
+        → Tabulates settings.now.output settings.now.ignores_addresses settings.now.most
+        (W.contents writer.old.inner) (W.contents writer.new.inner) script.now result }
     ensures random { (recipe : Recipe) → settings.now.mode ≡ Mode.Random recipe
         → IfOk result IsPrinted }
     ensures code { settings.now.mode ≡ Mode.Code → Contains names settings.now.code.now
@@ -464,10 +454,11 @@ pub fn serve_script<'a, W: Write, H: SkipObserver>(
     match settings.mode {
         Mode::Run => run(alloc, settings, script, writer, hearer),
         Mode::Check => check_answers(alloc, settings, script, writer),
-        Mode::Judge => judge_output(alloc, script, other, writer),
+        Mode::Judge => judge_output(alloc, script, other, settings.most_runs, writer),
         Mode::Blank => write_blanks(script, writer),
         Mode::Ask => write_questions(script, writer),
         Mode::Assemble => write_assembled(alloc, script, writer),
+        Mode::Schedules => write_schedules(alloc, settings, script, writer),
         Mode::Random(recipe) => write_random(alloc, writer, recipe),
         Mode::Code => write_text(writer, code(settings.code)),
         Mode::Rule(number) => write_text(writer, rule(number)),

@@ -1,6 +1,6 @@
 //! Runs a script as it comes.
 
-ghost use Rattle.std.specs.Prelude.{◌≡◌, ◌≢◌, ◌<◌, ◌≤◌, ◌+◌, ◌⊎◌, [], List, Ok, Option, ℕ, true, false, length, take, IfErr, IfOk, IfSome, IsErrOf, IsSome, OnOk};
+ghost use Rattle.std.specs.Prelude.{◌≡◌, ◌≢◌, ◌<◌, ◌≤◌, ◌+◌, ◌⊎◌, [], Err, List, Ok, Option, ℕ, true, false, length, take, IfErr, IfOk, IfSome, IsErrOf, IsSome, OnOk};
 ghost use Rattle.std.specs.Io.KnownBytes.{IsAtEnd};
 ghost use Rattle.mvs_model.specs.Memory.{IsPrintingBefore};
 ghost use Rattle.mvs_model.specs.Numbers.{most_script_bytes};
@@ -8,7 +8,7 @@ ghost use Rattle.mvs_model.specs.Runs.{IsAnswered, IsPrinting, IsPrintingFront};
 ghost use Rattle.mvs_job.specs.Consuming.{WritesText};
 ghost use Rattle.mvs_job.specs.Streams.{StopsText};
 ghost use Rattle.page.specs.Pages.{IsPage, IsShown, StopsPage};
-ghost use Rattle.mvsjob.specs.Streaming.{Writes, WritesPart};
+ghost use Rattle.mvsjob.specs.Streaming.{Writes, WritesPageOf, WritesPart};
 
 use crate::recorder::LineRecorder;
 use mvs_job::{AddressHints, Consumer, RunFault, run_job, run_source};
@@ -160,17 +160,16 @@ pub fn stream_two_pages<R: Read + Drop, S: Read + Drop, W: Write>(
     placements: (Placement, Placement),
 ) -> TwoRuns<R, S>
     requires { writer.old.failed ≡ false }
-    ensures first { IfOk result.first.ended
-        (λ outcome. (mid : Option (List ℕ)) × Writes (R.remaining first.inner) (W.contents writer.old.inner) mid
-        (λ script text. IsPage FRAME.now script text (Ok outcome))
-        × IfSome result.second (λ second_run. IfOk second_run.ended
-        (λ ended. Writes (S.remaining second.inner) mid (W.contents writer.new.inner)
-        (λ script text. IsPage SECOND_RUN.now script text (Ok ended))))) }
+    // The second page follows the first, also if its run stops.
+    ensures pages { IfOk result.first.ended
+        (λ outcome. (mid : Option (List ℕ))
+        × WritesPageOf (R.remaining first.inner) (W.contents writer.old.inner) mid FRAME.now (Ok outcome)
+        × IfSome result.second
+        (λ run. WritesPageOf (S.remaining second.inner) mid (W.contents writer.new.inner) SECOND_RUN.now run.ended)) }
     ensures begun { OnOk result.first.ended (IsSome result.second) }
     ensures fault { IfErr result.first.ended
-        (λ fault. WritesPart (R.remaining first.inner)
-        (W.contents writer.old.inner) (W.contents writer.new.inner)
-        (λ consumed script text. StopsPage FRAME.now consumed script text fault)) }
+        (λ fault. WritesPageOf (R.remaining first.inner)
+        (W.contents writer.old.inner) (W.contents writer.new.inner) FRAME.now (Err fault)) }
 {
     let first = stream_page(alloc, FRAME.as_bytes(), first, writer, placements.0);
     if first.ended.is_err() {

@@ -11,7 +11,7 @@ use crate::strict::Teller;
 use crate::{Output, passed_on};
 use area_history::{Historian, JsonReport, ReportFormat, Reporter, TextReport};
 use event_json::EventLines;
-use mvs_job::{Consumer, Explained, RunFault, SkipObserver, Strict, StrictOutcome};
+use mvs_job::{Consumer, RunFault, SkipObserver, Strict, StrictOutcome};
 use mvs_model::outcome::Outcome;
 use mvs_model::watched::Watched;
 use std::cell::Cell;
@@ -164,21 +164,6 @@ fn run_as_json<R: Read>(
     run_reported(rt, session, settings, writer, &mut historian, JsonReport)
 }
 
-// Runs a job, and lets a consumer write while explanations are on.
-fn run_switched<R: Read, C: Consumer>(
-    rt: &HostRuntime,
-    session: &mut DeskSession<'_, R>,
-    settings: &Settings<'_>,
-    writer: &mut Watched<Output<'_>>,
-    reasons: &Cell<bool>,
-    consumer: &mut C,
-) -> Result<JobRun, RunFault>
-    requires { (C.knows consumer.old).has consumer.old [] }
-{
-    let mut text = Switched::new(consumer, reasons);
-    run_reported(rt, session, settings, writer, &mut text, TextReport)
-}
-
 // Runs a job from its first line on, with explanations while they are on.
 fn run_job<R: Read>(
     rt: &HostRuntime,
@@ -190,9 +175,8 @@ fn run_job<R: Read>(
     if settings.output == RunOutput::Json {
         return run_as_json(rt, session, settings, writer);
     }
-    let mut explained = Explained::new(rt.alloc());
-    let mut historian = Historian::new(rt.alloc(), &mut explained, TextReport);
-    run_switched(rt, session, settings, writer, reasons, &mut historian)
+    let mut text = Switched::new(rt.alloc(), reasons);
+    run_reported(rt, session, settings, writer, &mut text, TextReport)
 }
 
 // Runs jobs until one ends.

@@ -189,10 +189,10 @@ fn choices(
     alloc: Global,
     matches: &ArgMatches<'_>,
 ) -> Result<Choices, clap::Error> {
-    let path = match matches.get_str("path") {
-        Some(text) => Some(labels(alloc, text)?),
-        None => None,
-    };
+    let path = matches
+        .get_str("path")
+        .map(|text| labels(alloc, text))
+        .transpose()?;
     let schedule = match matches.get_str("schedule") {
         Some("attach") => Schedule::AtAttach,
         Some(_) => Schedule::AtEnd,

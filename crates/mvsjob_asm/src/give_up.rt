@@ -3,7 +3,7 @@
 use assembler_output::ScriptStop;
 use assembler_source::ConversionRefusal;
 use std::alloc::{AllocError, AllocFailed};
-use std::io::ErrorKind;
+use std::io::{self, ErrorKind};
 use thiserror::Error;
 
 /// Why no script is written.
@@ -56,9 +56,10 @@ impl ConversionError {
     }
 }
 
-impl From<ErrorKind> for ConversionError {
-    fn from(kind: ErrorKind) -> ConversionError {
-        match kind {
+/// A failure to read. One to write is a `ScriptStop`.
+impl From<io::Error> for ConversionError {
+    fn from(error: io::Error) -> ConversionError {
+        match error.kind() {
             ErrorKind::NotFound => ConversionError::Missing,
             ErrorKind::PermissionDenied => ConversionError::Forbidden,
             ErrorKind::IsADirectory => ConversionError::Directory,

@@ -24,10 +24,10 @@ fn convert(rt: &HostRuntime, options: &Options<'_>) -> Result<Sum, ConversionErr
         return Err(ConversionError::Memory);
     };
     let sum = write_script(rt.alloc(), &mut writer, &requests, options.form)?;
-    match writer.flush() {
-        Ok(()) => Ok(sum),
-        Err(error) => Err(ConversionError::from(ScriptStop::from(error.kind()))),
-    }
+    writer
+        .flush()
+        .map_err(|error| ScriptStop::from(error.kind()))?;
+    Ok(sum)
 }
 
 // Returns the words of the command line, the program's name first.

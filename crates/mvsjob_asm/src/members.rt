@@ -18,11 +18,11 @@ const ENDINGS: [&str; 6] = ["", ".asm", ".mac", ".cpy", ".copy", ".hlasm"];
 // Returns the bytes that a reader gives.
 fn bytes_of<R: Read + Drop>(rt: &HostRuntime, reader: R) -> Result<Vec<u8>, ConversionError> {
     let mut bytes = Vec::new(rt.alloc());
-    match reader.take(MOST_BYTES).read_to_end(&mut bytes) {
-        Ok(_) if bytes.len() as u64 >= MOST_BYTES => Err(ConversionError::TooLong),
-        Ok(_) => Ok(bytes),
-        Err(error) => Err(ConversionError::from(error.kind())),
+    reader.take(MOST_BYTES).read_to_end(&mut bytes)?;
+    if bytes.len() as u64 >= MOST_BYTES {
+        return Err(ConversionError::TooLong);
     }
+    Ok(bytes)
 }
 
 /// Returns the bytes of a file, or of standard input.
@@ -30,10 +30,7 @@ pub fn source_of(rt: &HostRuntime, name: &str) -> Result<Vec<u8>, ConversionErro
     if name == "-" {
         return bytes_of(rt, rt.stdin());
     }
-    match File::open(rt, name) {
-        Ok(file) => bytes_of(rt, file),
-        Err(error) => Err(ConversionError::from(error.kind())),
-    }
+    bytes_of(rt, File::open(rt, name)?)
 }
 
 // Returns whether a name is one of a member.

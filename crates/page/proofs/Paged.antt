@@ -1,6 +1,6 @@
 -- The items of the entries of a run.
 use Rattle.std.proofs.Common.{◌≡◌, ◌≤◌, ℕ, ◌+◌, length, List, [], ◌∷◌, ◌++◌, take, append-nil, codes, decimal, Option, Some, None, Result, Bool, true, false, IfOk, Ok, Err, inl, inr, refl, sym, ap, ◌∙◌, subst, arith}
-use Rattle.std.specs.Prelude.{◌≢◌}
+use Rattle.std.specs.Prelude.{◌≢◌, ◌⊎◌}
 use Rattle.std.proofs.lemmas.Grind.{flat_map-append}
 use Rattle.std.proofs.lemmas.List.{take-take}
 use Rattle.std.specs.Io.KnownBytes.{Appends}
@@ -23,6 +23,7 @@ use Rattle.mvs_model.specs.Walk.{Serves, is_first}
 use Rattle.mvs_model.proofs.Reading.{one_reading}
 use Rattle.mvs_laws.proofs.Going.{printed_both}
 use Rattle.line_text.specs.Writing.{AppendsFront, WritesAll}
+use Rattle.mvs_job.specs.declared.consumer.End.{End}
 use Rattle.mvs_job.specs.declared.consumer.End.TheVariants as end
 use Rattle.mvs_job.specs.declared.printing.Stop.{Stop}
 use Rattle.mvs_job.specs.declared.printing.Stop.TheVariants as stop
@@ -33,19 +34,21 @@ use Rattle.mvs_job.specs.declared.walk.LineEvent.TheVariants as line_event
 use Rattle.mvs_job.specs.Consuming.{Accepts, AcceptsLast, IsEnd, IsEntry, LeavesText, WritesText, WrittenAfter}
 use Rattle.mvs_job.specs.Exchanging.{Exchanges}
 use Rattle.mvs_job.specs.Explained.{SetsNames, set_by_entries}
-use Rattle.mvs_job.specs.Explaining.{IsExplanationText}
-use Rattle.mvs_job.specs.NamedAddress.{NameOrigins}
 use Rattle.mvs_job.specs.LineEvents.{IsReadIn, WalkValue, closing, ended, events_of_line, full_answer_in}
 use Rattle.mvs_job.specs.Streams.{StopsText}
 use Rattle.mvs_job.specs.Trace.{Closed, Ends, Entry, Executed, Exhausted, Faulty, IsClosed, IsExecuted, IsFaulty, Kind, Traces, events_of}
 use Rattle.mvs_job.proofs.ExplainedLine.{end_set}
 use Rattle.mvs_job.proofs.Tracing.{traces_are_runs}
+use Rattle.area_history.specs.Chronicles.{IsHistory}
+use Rattle.area_history.specs.Histories.{events_at, events_in, history_from, no_history}
+use Rattle.area_history.specs.Ledgers.{granted_at, granted_in}
+use Rattle.area_history.proofs.Recording.{end_history, history_snoc}
 use Rattle.page.specs.declared.pages.PageItems.{PageItems}
 use Rattle.page.specs.Changes.{answer_in, changes_of}
 use Rattle.page.specs.Items.{item_of_event}
 use Rattle.page.specs.Lines.{change_lines}
 use Rattle.page.specs.Markup.{Inside, answer_class, article_tag, class_of, closing_of, escaped, escaped_byte, fault_of, head_of, is_plain, item_of, pre_texts, reply_of, shown_line, tail_of}
-use Rattle.page.specs.Pages.{IsItemOf, IsPage, IsShown, NeedsMemory, ShowsPrinting, StopsPage, WritesItem, WritesPage, WritesShown, knows_items, paged}
+use Rattle.page.specs.Pages.{IsItemOf, IsPage, IsShown, IsWords, NeedsMemory, ShowsPrinting, StopsPage, WritesItem, WritesPage, WritesShown, knows_items, paged}
 use Rattle.page.proofs.Plain.{Shows, both_shown, head_shown, none_shown, note_of_shown, plain_shown, reply_shown, tail_shown}
 
 -- ---- the item of an entry
@@ -55,20 +58,20 @@ module _ (n : ℕ) (line : List ℕ) (w : WalkValue) (e : Entry) where
   one_read said of (inl here) = one_reading.one_line (is_first e.before) line w.read said here of
   one_read said of (inr f) = absurd (one_reading.not_both (is_first e.before) line said f.0 of f.1)
 
-  module _ (set : NameOrigins) (why : List ℕ) where
-    executed_item : (events : List Event) → e.events ≡ events → e.after ≡ w.step → IsReadIn e.before line w.read → ((said : Line) → e.kind ≡ Executed said → IsExplanationText e.before set e.bytes e.events e.after why) → IsExecuted n e.before line e
-        → IsItemOf set e e.kind (item_of n line w.read events w.step why)
-    executed_item events same_events same_after reading whys (said, others, new, of, serves, is) =
+  module _ (history : List Entry) (words : List ℕ) where
+    executed_item : (events : List Event) → e.events ≡ events → e.after ≡ w.step → IsReadIn e.before line w.read → ((said : Line) → e.kind ≡ Executed said → IsWords history e said words) → IsExecuted n e.before line e
+        → IsItemOf history e e.kind (item_of n line w.read events w.step words)
+    executed_item events same_events same_after reading are (said, others, new, of, serves, is) =
         let kind : e.kind ≡ Executed said = ap (λ (e : Entry). e.kind) is in
         let number : n ≡ e.number = sym (ap (λ (e : Entry). e.number) is) in
         let bytes : line ≡ e.bytes = sym (ap (λ (e : Entry). e.bytes) is) in
         let read : w.read ≡ said = one_read said of reading in
         let these : events ≡ e.events = sym same_events in
         let after : w.step ≡ e.after = sym same_after in
-        let same : item_of n line w.read events w.step why ≡ item_of e.number e.bytes said e.events e.after why = λ i. item_of (number i) (bytes i) (read i) (these i) (after i) why in
-        subst (λ k. IsItemOf set e k (item_of n line w.read events w.step why)) (sym kind) (why, whys said kind, same)
+        let same : item_of n line w.read events w.step words ≡ item_of e.number e.bytes said e.events e.after words = λ i. item_of (number i) (bytes i) (read i) (these i) (after i) words in
+        subst (λ k. IsItemOf history e k (item_of n line w.read events w.step words)) (sym kind) (words, are said kind, same)
 
-    fault_item : (events : List Event) → e.events ≡ events → IsFaulty n e.before line e → IsItemOf set e e.kind (fault_of n line events)
+    fault_item : (events : List Event) → e.events ≡ events → IsFaulty n e.before line e → IsItemOf history e e.kind (fault_of n line events)
     fault_item events same_events (fault, of, is) =
         let kind : e.kind ≡ Faulty fault = ap (λ (e : Entry). e.kind) is in
         let number : n ≡ e.number = sym (ap (λ (e : Entry). e.number) is) in
@@ -79,14 +82,14 @@ module _ (n : ℕ) (line : List ℕ) (w : WalkValue) (e : Entry) where
         let head : head_of n (codes "js") line ≡ head_of e.number (codes "js") e.bytes =
         λ i. article_tag (number i) (codes "js") ++ (codes "\n<h2>" ++ (escaped (decimal (number i)) ++ (codes " <code>" ++ (short i ++ codes "</code></h2>\n")))) in
         let same : fault_of n line events ≡ fault_of e.number e.bytes e.events = λ i. head i ++ (reply_of (printing (these i)) ++ notice) in
-        subst (λ k. IsItemOf set e k (fault_of n line events)) (sym kind) same
+        subst (λ k. IsItemOf history e k (fault_of n line events)) (sym kind) same
 
     -- the item of a line may be written for its entry
-    pub may_item : (t : LineEvent) → IsEntry n line w t e → ((said : Line) → e.kind ≡ Executed said → IsExplanationText e.before set e.bytes e.events e.after why) → IsItemOf set e e.kind (item_of_event n line w.read w t why)
-    may_item (line_event.Faulted fault) entry whys = fault_item (events_of_line n w (line_event.Faulted fault)) entry.events entry.of_line
-    may_item line_event.Nothing entry whys = executed_item (events_of_line n w line_event.Nothing) entry.events entry.after entry.read whys entry.of_line
-    may_item (line_event.StepBegan end card) entry whys = executed_item (events_of_line n w (line_event.StepBegan end card)) entry.events entry.after entry.read whys entry.of_line
-    may_item (line_event.Answered t a) entry whys = executed_item (events_of_line n w (line_event.Answered t a)) entry.events entry.after entry.read whys entry.of_line
+    pub may_item : (t : LineEvent) → IsEntry n line w t e → ((said : Line) → e.kind ≡ Executed said → IsWords history e said words) → IsItemOf history e e.kind (item_of_event n line w.read w t words)
+    may_item (line_event.Faulted fault) entry are = fault_item (events_of_line n w (line_event.Faulted fault)) entry.events entry.of_line
+    may_item line_event.Nothing entry are = executed_item (events_of_line n w line_event.Nothing) entry.events entry.after entry.read are entry.of_line
+    may_item (line_event.StepBegan end card) entry are = executed_item (events_of_line n w (line_event.StepBegan end card)) entry.events entry.after entry.read are entry.of_line
+    may_item (line_event.Answered t a) entry are = executed_item (events_of_line n w (line_event.Answered t a)) entry.events entry.after entry.read are entry.of_line
 
   -- ---- the memory that it needs
 
@@ -119,29 +122,59 @@ names_need e (Faulty fault) sets = absurd sets
 names_need e Closed sets = absurd sets
 names_need e (Exhausted said) sets = absurd sets
 
+-- so does one at which something is kept for the history
+grants_need : (e : Entry) (o : Option JobValue) (k : Kind) → (granted_in e o k ≡ [] → ⊥) → NeedsMemory k
+grants_need e None (Executed said) some = absurd (some refl)
+grants_need e (Some job) (Executed said) some = λ none. some (ap (λ l. granted_in e (Some job) (Executed l)) none)
+grants_need e o (Faulty fault) some = tt
+grants_need e None Closed some = absurd (some refl)
+grants_need e (Some job) Closed some = absurd (some refl)
+grants_need e None (Exhausted said) some = absurd (some refl)
+grants_need e (Some job) (Exhausted said) some = absurd (some refl)
+
+changes_need : (e : Entry) (areas : ℕ) (o : Option JobValue) (k : Kind) → (events_in e areas o k ≡ [] → ⊥) → NeedsMemory k
+changes_need e areas None (Executed said) some = absurd (some refl)
+changes_need e areas (Some job) (Executed said) some = λ none. some (ap (λ l. events_in e areas (Some job) (Executed l)) none)
+changes_need e areas o (Faulty fault) some = tt
+changes_need e areas None Closed some = absurd (some refl)
+changes_need e areas (Some job) Closed some = absurd (some refl)
+changes_need e areas None (Exhausted said) some = absurd (some refl)
+changes_need e areas (Some job) (Exhausted said) some = absurd (some refl)
+
+pub history_needs : (e : Entry) → (granted_at e ≢ []) ⊎ ((areas : ℕ) × (events_at e areas ≢ [])) → NeedsMemory e.kind
+history_needs e (inl some) = grants_need e e.before e.kind some
+history_needs e (inr (areas, some)) = changes_need e areas e.before e.kind some
+
 -- ---- what a call does
 
+abbrev pub Knows : PageItems → List Entry → Type 0
+Knows now entries = (now.explained.lines ≡ set_by_entries entries) × IsHistory now.chronicle (history_from no_history entries)
+
+-- the last entry changes nothing of that
+still_known : (now : PageItems) (history : List Entry) (n : ℕ) (e : Entry) (how : End) → IsEnd n how e → Knows now history → Knows now (history ++ e ∷ [])
+still_known now history n e how is known = (known.0 ∙ end_set n how e is history, known.1 ∙ end_history n e how (history_from no_history history) is ∙ sym (history_snoc no_history history e))
+
 module _ (before after : Option (List ℕ)) (first now : PageItems) (history : List Entry) (e : Entry) where
-  pub accepts_item : {X : Type 0} (t : LineEvent) (item : List ℕ) (r : Result X Stop) → WritesItem before after t item r → IsItemOf (set_by_entries history) e e.kind item → (t ≢ line_event.Nothing → NeedsMemory e.kind)
-      → now.explained.lines ≡ set_by_entries (history ++ e ∷ []) → Accepts {S = PageItems} {X = X} paged (knows_items first) before after now history e r
+  pub accepts_item : {X : Type 0} (t : LineEvent) (item : List ℕ) (r : Result X Stop) → WritesItem before after t item r → IsItemOf history e e.kind item → (t ≢ line_event.Nothing → NeedsMemory e.kind)
+      → Knows now (history ++ e ∷ []) → Accepts {S = PageItems} {X = X} paged (knows_items first) before after now history e r
   accepts_item t item (Ok x) wrote may needs known = ((item, may, wrote), known)
   accepts_item t item (Err stop.Write) wrote may needs known = ((item, may, wrote), tt)
   accepts_item t item (Err stop.Memory) (some, kept) may needs known = ((needs some, kept), tt)
 
-  closed_item : (n : ℕ) (o : Option Bool) → IsEnd n (end.Closed o) e → IsItemOf (set_by_entries history) e e.kind (closing_of (closing n o))
-  closed_item n o ((outcome, (events, closes, is)), same) = subst (λ k. IsItemOf (set_by_entries history) e k (closing_of (closing n o))) (sym (ap (λ (e : Entry). e.kind) is)) (ap closing_of (sym same))
+  closed_item : (n : ℕ) (o : Option Bool) → IsEnd n (end.Closed o) e → IsItemOf history e e.kind (closing_of (closing n o))
+  closed_item n o ((outcome, (events, closes, is)), same) = subst (λ k. IsItemOf history e k (closing_of (closing n o))) (sym (ap (λ (e : Entry). e.kind) is)) (ap closing_of (sym same))
 
-  pub accepts_closed : {X : Type 0} (n : ℕ) (o : Option Bool) (r : Result X Failed) → IsEnd n (end.Closed o) e → WritesAll before after r (closing_of (closing n o)) → now.explained.lines ≡ set_by_entries history → AcceptsLast {S = PageItems} {X = X} paged (knows_items first) before after now history e r
-  accepts_closed n o (Ok x) is wrote known = ((closing_of (closing n o), closed_item n o is, wrote), known ∙ end_set n (end.Closed o) e is history)
+  pub accepts_closed : {X : Type 0} (n : ℕ) (o : Option Bool) (r : Result X Failed) → IsEnd n (end.Closed o) e → WritesAll before after r (closing_of (closing n o)) → Knows now history → AcceptsLast {S = PageItems} {X = X} paged (knows_items first) before after now history e r
+  accepts_closed n o (Ok x) is wrote known = ((closing_of (closing n o), closed_item n o is, wrote), still_known now history n e (end.Closed o) is known)
   accepts_closed n o (Err failed) is wrote known = ((closing_of (closing n o), closed_item n o is, wrote), tt)
 
 -- memory was exhausted: nothing is written
 module _ (before : Option (List ℕ)) (first now : PageItems) (history : List Entry) (e : Entry) where
-  none_item : (n : ℕ) (o : Option Bool) → IsEnd n (end.Exhausted o) e → IsItemOf (set_by_entries history) e e.kind []
-  none_item n o ((l, (said, events, of, takes, is)), same) = subst (λ k. IsItemOf (set_by_entries history) e k []) (sym (ap (λ (e : Entry). e.kind) is)) refl
+  none_item : (n : ℕ) (o : Option Bool) → IsEnd n (end.Exhausted o) e → IsItemOf history e e.kind []
+  none_item n o ((l, (said, events, of, takes, is)), same) = subst (λ k. IsItemOf history e k []) (sym (ap (λ (e : Entry). e.kind) is)) refl
 
-  pub accepts_exhausted : {X : Type 0} (n : ℕ) (o : Option Bool) (x : X) → IsEnd n (end.Exhausted o) e → now.explained.lines ≡ set_by_entries history → AcceptsLast {S = PageItems} {X = X} paged (knows_items first) before before now history e (Ok x)
-  accepts_exhausted n o x is known = (([], none_item n o is, Appends-nil before), known ∙ end_set n (end.Exhausted o) e is history)
+  pub accepts_exhausted : {X : Type 0} (n : ℕ) (o : Option Bool) (x : X) → IsEnd n (end.Exhausted o) e → Knows now history → AcceptsLast {S = PageItems} {X = X} paged (knows_items first) before before now history e (Ok x)
+  accepts_exhausted n o x is known = (([], none_item n o is, Appends-nil before), still_known now history n e (end.Exhausted o) is known)
 
 -- ---- a page
 
@@ -226,18 +259,18 @@ closing_shown : (events : List Event) → Shows (closing_of events) (shown_of ev
 closing_shown events = reply_shown (printing events)
 
 -- an entry before the end of a job that ends shows its events
-kind_shown : (set : NameOrigins) (e : Entry) (k : Kind) (text : List ℕ) → ((said : Line) → k ≡ Exhausted said → ⊥) → IsItemOf set e k text → Shows text (shown_of e.events)
-kind_shown set e (Executed said) text some (why, explained, is) = subst (λ t. Shows t (shown_of e.events)) (sym is) (item_shown e.number e.bytes said e.events e.after why)
-kind_shown set e (Faulty fault) text some is = subst (λ t. Shows t (shown_of e.events)) (sym is) (fault_shown e.number e.bytes e.events)
-kind_shown set e Closed text some is = subst (λ t. Shows t (shown_of e.events)) (sym is) (closing_shown e.events)
-kind_shown set e (Exhausted said) text some is = absurd (some said refl)
+kind_shown : (history : List Entry) (e : Entry) (k : Kind) (text : List ℕ) → ((said : Line) → k ≡ Exhausted said → ⊥) → IsItemOf history e k text → Shows text (shown_of e.events)
+kind_shown history e (Executed said) text some (words, are, is) = subst (λ t. Shows t (shown_of e.events)) (sym is) (item_shown e.number e.bytes said e.events e.after words)
+kind_shown history e (Faulty fault) text some is = subst (λ t. Shows t (shown_of e.events)) (sym is) (fault_shown e.number e.bytes e.events)
+kind_shown history e Closed text some is = subst (λ t. Shows t (shown_of e.events)) (sym is) (closing_shown e.events)
+kind_shown history e (Exhausted said) text some is = absurd (some said refl)
 
 module _ (history : List Entry) (e : Entry) (rest : List Entry) (text : List ℕ) (some : (said : Line) → e.kind ≡ Exhausted said → ⊥) where
   entry_shown : WrittenAfter paged history (e ∷ rest) text → ((others : List ℕ) → WrittenAfter paged (history ++ e ∷ []) rest others → Shows others (shown_of (events_of rest))) → Shows text (shown_of (events_of (e ∷ rest)))
   entry_shown (one, others, may, more, is) shows =
       subst (λ t. Shows t (shown_of (events_of (e ∷ rest)))) (sym is)
       (subst (Shows (one ++ others)) (sym (shown_both e.events (events_of rest)))
-      (both_shown one others (shown_of e.events) (shown_of (events_of rest)) (kind_shown (set_by_entries history) e e.kind one some may) (shows others more)))
+      (both_shown one others (shown_of e.events) (shown_of (events_of rest)) (kind_shown history e e.kind one some may) (shows others more)))
 
 none_left : (history : List Entry) (others : List ℕ) → WrittenAfter paged history [] others → Shows others (shown_of (events_of []))
 none_left history others is = subst (λ t. Shows t []) (sym is) (λ rest. refl)

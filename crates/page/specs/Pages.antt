@@ -2,6 +2,7 @@
 use Rattle.std.specs.Prelude.{◌≡◌, ◌≢◌, ◌⊎◌, ℕ, List, [], ◌++◌, Option, Result, Ok, Err, false}
 use Rattle.std.specs.Io.KnownBytes.{Appends, Keeps}
 use Rattle.line_text.specs.Writing.{AppendsFront}
+use Rattle.mvs_model.specs.declared.line.Line.{Line}
 use Rattle.mvs_model.specs.declared.line.Line.TheVariants as line
 use Rattle.mvs_model.specs.declared.outcome.Outcome.{Outcome}
 use Rattle.mvs_model.specs.Answers.{Event}
@@ -15,20 +16,32 @@ use Rattle.mvs_job.specs.declared.walk.LineEvent.{LineEvent}
 use Rattle.mvs_job.specs.declared.walk.LineEvent.TheVariants as line_event
 use Rattle.mvs_job.specs.Consuming.{Known, Piece, WritesText}
 use Rattle.mvs_job.specs.Explained.{set_by_entries}
-use Rattle.mvs_job.specs.Explaining.{IsExplanationText}
-use Rattle.mvs_job.specs.NamedAddress.{NameOrigins}
+use Rattle.mvs_job.specs.Explaining.{IsExplanationText, explanation_text}
+use Rattle.mvs_job.specs.LineEvents.{WalkValue, events_of_line}
 use Rattle.mvs_job.specs.Streams.{StopsText}
 use Rattle.mvs_job.specs.Trace.{Closed, Entry, Executed, Exhausted, Faulty, Kind}
+use Rattle.area_history.specs.Chronicles.{IsHistory}
+use Rattle.area_history.specs.Histories.{Found, FoundAt, findings_of, history_from, no_history, stays_at}
+use Rattle.area_history.specs.HistoryTexts.{findings_text}
 use Rattle.page.specs.declared.pages.PageItems.{PageItems}
 use Rattle.page.specs.Markup.{Inside, closing_of, escaped, fault_of, item_of, pre_texts}
 
--- The text is the item of an entry of this kind, before which these names are set: of a line that was executed, with its explanations;
--- of a line with a fault; and of the end of the job. An entry at which memory is exhausted has none.
-abbrev pub IsItemOf : NameOrigins → Entry → Kind → List ℕ → Type 0
-IsItemOf set e (Executed said) text = (why : List ℕ) × IsExplanationText e.before set e.bytes e.events e.after why × (text ≡ item_of e.number e.bytes said e.events e.after why)
-IsItemOf set e (Faulty fault) text = text ≡ fault_of e.number e.bytes e.events
-IsItemOf set e Closed text = text ≡ closing_of e.events
-IsItemOf set e (Exhausted said) text = text ≡ []
+-- These are the words about a line that was executed, after these entries: its explanations, and what the history of the storage shows
+-- about it.
+pub record IsWords (history : List Entry) (e : Entry) (said : Line) (words : List ℕ) : Type 0 where
+  pub why : List ℕ
+  pub explains : IsExplanationText e.before (set_by_entries history) e.bytes e.events e.after why
+  pub found : Found
+  pub shows : FoundAt (history_from no_history history) e.before (Executed said) found
+  pub are : words ≡ why ++ findings_text (findings_of found (stays_at (history_from no_history history) e))
+
+-- The text is the item of an entry of this kind, after these entries: of a line that was executed, with the words about it; of a line
+-- with a fault; and of the end of the job. An entry at which memory is exhausted has none.
+abbrev pub IsItemOf : List Entry → Entry → Kind → List ℕ → Type 0
+IsItemOf history e (Executed said) text = (words : List ℕ) × IsWords history e said words × (text ≡ item_of e.number e.bytes said e.events e.after words)
+IsItemOf history e (Faulty fault) text = text ≡ fault_of e.number e.bytes e.events
+IsItemOf history e Closed text = text ≡ closing_of e.events
+IsItemOf history e (Exhausted said) text = text ≡ []
 
 -- Memory may be needed for an entry of this kind: the line is answered, or has a fault. A blank line, a comment and the end need none.
 abbrev pub NeedsMemory : Kind → Type 0
@@ -39,7 +52,7 @@ NeedsMemory (Exhausted said) = ⊥
 
 -- what is written for an entry
 abbrev pub paged : Piece
-paged = record { may = λ history e text. IsItemOf (set_by_entries history) e e.kind text; needs = λ e. NeedsMemory e.kind }
+paged = record { may = λ history e text. IsItemOf history e e.kind text; needs = λ e. NeedsMemory e.kind }
 
 -- The text is the page of a run of the script, which stops so: the fixed part, and what is written for its entries; or a front of the
 -- fixed part, if a write fails.
@@ -75,9 +88,16 @@ StopsPage frame consumed script text fault =
 
 -- ---- what calls do
 
--- What is known of a writer of items: it has the names that the entries have set, each with its line.
+-- What is known of a writer of items: it has the names that the entries have set, each with its line, and the history of the storage.
 abbrev pub knows_items : PageItems → Known PageItems
-knows_items first = record { has = λ now entries. now.explained.lines ≡ set_by_entries entries; had = λ now entries. Unit {0} }
+knows_items first = record {
+  has = λ now entries. (now.explained.lines ≡ set_by_entries entries) × IsHistory now.chronicle (history_from no_history entries);
+  had = λ now entries. Unit {0};
+}
+
+-- the words about a line with this number, from what a writer has kept of it
+abbrev pub words_of_line : PageItems → ℕ → WalkValue → LineEvent → List ℕ
+words_of_line items number w t = explanation_text items.explained w.read (events_of_line number w t) w.step ++ findings_text items.chronicle.found
 
 -- The effect of the call for the item of a line with these events, between two moments of a writer: all of it is written, or a front
 -- if a write fails. If memory is exhausted, nothing is; that happens only if the line has events.

@@ -5,10 +5,10 @@ ghost use Rattle.mvs_model.specs.FullAnswers.{ended_with_in, full_answer};
 ghost use Rattle.mvs_model.specs.Numbers.{task_numbers};
 ghost use Rattle.mvs_model.specs.declared.name.Name.{Name as TaskName};
 ghost use Rattle.mvs_model.specs.Reports.{each_below};
-ghost use Rattle.mvs_model.specs.Resolving.{resolved};
 ghost use Rattle.mvs_model.specs.State.{State};
 ghost use Rattle.request_forms.specs.Facts.{listed};
-ghost use Rattle.mvs_job.specs.LineEvents.{IsAvailable, events_of_line};
+ghost use Rattle.mvs_model.specs.declared.line.Statement.TheVariants as says;
+ghost use Rattle.mvs_job.specs.LineEvents.{HasRequest, IsAvailable, KeepsRequest, Resolves, events_of_line};
 ghost use Rattle.page.specs.Changes.{answer_changes, area_change, area_changes, begin_changes, cell_change, changes_of, done_changes, empty_change, fall_changes, free_changes, held_change, part_change, pool_change, request_changes, statement_changes, where_changes};
 
 use crate::change::Change;
@@ -29,25 +29,8 @@ const MOST_CHANGES: usize = 160;
 /// What a line did.
 pub type Changes = ShortList<Change, 0, MOST_CHANGES>;
 
-/// Buffers for the request of a line and for what it did. They are large.
-#[derive(Drop)]
-pub struct ChangeBuffers {
-    pub changes: Changes,
-    request: Request,
-}
-
-impl ChangeBuffers {
-    /// Makes empty buffers.
-    pub fn new() -> ChangeBuffers {
-        ChangeBuffers {
-            changes: no_changes(),
-            request: Request::Return,
-        }
-    }
-}
-
-// Makes an empty list of changes.
-fn no_changes() -> Changes
+/// Makes an empty list of changes.
+pub fn no_changes() -> Changes
     ensures { result ≡ [] }
 {
     Changes::empty(Change::Read {
@@ -252,21 +235,17 @@ fn put_request(changes: &mut Changes, request: &Request)
     }
 }
 
-// Puts the changes of a request as written.
-fn put_named(buffers: &mut ChangeBuffers, written: &SourceRequest, job: &Job)
-    ensures { buffers.new.changes ≡ request_changes (resolved job.now.names written.now) }
+// Puts what a task's request did that was granted. It is given as written, and as the machine was asked, where it sets no name.
+fn put_done(
+    changes: &mut Changes,
+    task: &Name,
+    written: &SourceRequest,
+    request: &Request,
+    job: &Job,
+)
+    ensures { Resolves job.now written.now request.now
+        → changes.new ≡ done_changes task.now written.now job.now }
 {
-    match job.request_of(written, &mut buffers.request) {
-        Some(()) => put_request(&mut buffers.changes, &buffers.request),
-        None => buffers.changes.clear(),
-    }
-}
-
-// Puts what a task's request did that was granted.
-fn put_done(buffers: &mut ChangeBuffers, task: &Name, written: &SourceRequest, job: &Job)
-    ensures { buffers.new.changes ≡ done_changes task.now written.now job.now }
-{
-    let changes = &mut buffers.changes;
     changes.clear();
     match written {
         SourceRequest::Obtain { number, area, .. } => {
@@ -312,7 +291,7 @@ fn put_done(buffers: &mut ChangeBuffers, task: &Name, written: &SourceRequest, j
         | SourceRequest::Abend(_)
         | SourceRequest::Show { .. }
         | SourceRequest::Put { .. }
-        | SourceRequest::Move { .. } => put_named(buffers, written, job),
+        | SourceRequest::Move { .. } => put_request(changes, request),
     }
 }
 
@@ -336,34 +315,35 @@ fn put_return(changes: &mut Changes, task: &Name)
 
 // Puts what a request did that is answered so.
 fn put_answered(
-    buffers: &mut ChangeBuffers,
+    changes: &mut Changes,
     task: &Name,
     written: &SourceRequest,
     answer: &Answer,
     job: &Job,
-    fallen: &[Name],
+    walk: &Walk,
 )
-    requires { length fallen.now ≤ 31 }
     ensures { (st : State)
-        → buffers.new.changes
-        ≡ answer_changes task.now written.now (full_answer st fallen.now task.now answer.now) job.now }
+        → KeepsRequest job.now (says.Request written.now) answer.now walk.now.request
+        → changes.new
+        ≡ answer_changes task.now written.now (full_answer st (ended_with_in walk.now.reply) task.now answer.now)
+        job.now }
 {
     match answer {
-        Answer::Ended => put_return(&mut buffers.changes, task),
-        Answer::Abended(_) => put_abend(&mut buffers.changes, task, fallen),
+        Answer::Ended => put_return(changes, task),
+        Answer::Abended(_) => put_abend(changes, task, fallen(walk)),
         Answer::Rc0
         | Answer::Granted(_)
         | Answer::Cell
         | Answer::Attached
         | Answer::Done
-        | Answer::Data(_) => put_done(buffers, task, written, job),
+        | Answer::Data(_) => put_done(changes, task, written, walk.last_request(), job),
         Answer::NotRun
         | Answer::NoName
         | Answer::At(_)
         | Answer::Rc4
         | Answer::NoCell
         | Answer::Subpools
-        | Answer::Map => buffers.changes.clear(),
+        | Answer::Map => changes.clear(),
     }
 }
 
@@ -398,26 +378,24 @@ fn put_begin(changes: &mut Changes, card: &Card)
 
 // Puts what a statement did that is answered so.
 fn put_statement(
-    buffers: &mut ChangeBuffers,
+    changes: &mut Changes,
     task: &Name,
     statement: &Statement,
     answer: &Answer,
     job: &Job,
-    fallen: &[Name],
+    walk: &Walk,
 )
-    requires { length fallen.now ≤ 31 }
     ensures { (st : State)
-        → buffers.new.changes
-        ≡ statement_changes task.now statement.now (full_answer st fallen.now task.now answer.now)
+        → KeepsRequest job.now statement.now answer.now walk.now.request
+        → changes.new
+        ≡ statement_changes task.now statement.now (full_answer st (ended_with_in walk.now.reply) task.now answer.now)
         job.now }
 {
     match statement {
-        Statement::Request(written) => {
-            put_answered(buffers, task, written, answer, job, fallen);
-        }
-        Statement::Where(name) => put_where(&mut buffers.changes, name, answer, job),
+        Statement::Request(written) => put_answered(changes, task, written, answer, job, walk),
+        Statement::Where(name) => put_where(changes, name, answer, job),
         Statement::Region { .. } | Statement::ReportSubpools | Statement::ReportMap => {
-            buffers.changes.clear();
+            changes.clear();
         }
     }
 }
@@ -442,21 +420,21 @@ fn fallen(walk: &Walk) -> &[Name]
     }
 }
 
-/// Puts the changes of a line with this meaning and these events into the buffers.
-pub fn put_changes(buffers: &mut ChangeBuffers, read: &Line, walk: &Walk, line_event: &LineEvent)
+/// Puts the changes of the last line, which has these events.
+pub fn put_changes(changes: &mut Changes, walk: &Walk, line_event: &LineEvent)
     requires { IsAvailable walk.now line_event.now }
-    ensures { (number : ℕ)
-        → buffers.new.changes
-        ≡ changes_of read.now (events_of_line number walk.now line_event.now) walk.now.step }
+    ensures { (number : ℕ) → HasRequest walk.now line_event.now
+        → changes.new
+        ≡ changes_of walk.now.read (events_of_line number walk.now line_event.now) walk.now.step }
 {
     match line_event {
-        LineEvent::StepBegan { card, .. } => put_begin(&mut buffers.changes, card),
-        LineEvent::Answered { task, answer } => match (read, walk.job()) {
+        LineEvent::StepBegan { card, .. } => put_begin(changes, card),
+        LineEvent::Answered { task, answer } => match (walk.read(), walk.job()) {
             (Line::Statement(_, statement), Some(job)) => {
-                put_statement(buffers, task, statement, answer, job, fallen(walk));
+                put_statement(changes, task, statement, answer, job, walk);
             }
-            (Line::Statement(..), None) | (Line::Nothing, _) => buffers.changes.clear(),
+            (Line::Statement(..), None) | (Line::Nothing, _) => changes.clear(),
         },
-        LineEvent::Nothing | LineEvent::Faulted(_) => buffers.changes.clear(),
+        LineEvent::Nothing | LineEvent::Faulted(_) => changes.clear(),
     }
 }

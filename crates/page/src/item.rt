@@ -1,22 +1,21 @@
 //! The item of a line.
 
-ghost use Rattle.std.specs.Prelude.{◌≡◌, ◌≢◌, ◌++◌, List, ℕ, IfOk, OnOk, codes};
+ghost use Rattle.std.specs.Prelude.{◌≡◌, ◌≢◌, ◌++◌, List, ℕ, OnOk, codes};
 ghost use Rattle.mvs_model.specs.FullAnswers.{full_answer};
 ghost use Rattle.mvs_model.specs.State.{State};
 ghost use Rattle.mvs_model.specs.Texts.{printing};
 ghost use Rattle.mvs_model.specs.declared.name.Name.{Name as TaskName};
-ghost use Rattle.mvs_job.specs.LineEvents.{IsAvailable, events_of_line};
+ghost use Rattle.mvs_job.specs.LineEvents.{HasRequest, IsAvailable, events_of_line};
 ghost use Rattle.page.specs.Lines.{change_lines};
 ghost use Rattle.page.specs.Changes.{changes_of};
 ghost use Rattle.page.specs.Markup.{class_of, answer_class, head_of, reply_of, tail_of};
 ghost use Rattle.page.specs.Items.{item_of_event};
 
 use crate::change::push_lines;
-use crate::changes::{ChangeBuffers, put_changes};
+use crate::changes::{Changes, put_changes};
 use crate::markup::{push_head, push_reply, push_tag, push_tail};
 use mvs_job::{LineEvent, Walk};
 use mvs_model::answer::Answer;
-use mvs_model::line::Line;
 use std::alloc::{AllocError, Global};
 
 /// A line of a script, without its end, and its number.
@@ -26,12 +25,26 @@ pub struct Numbered<'a> {
     pub line: &'a [u8],
 }
 
-/// What a line printed, and its explanation.
+/// What a line printed, its explanations, the text of its changes, and its item. They are kept from line to line, so that the next
+/// line seldom needs more memory.
 #[derive(Drop)]
-pub struct PrintedLine {
-    pub line_event: LineEvent,
+pub struct ItemTexts {
     pub printed: Vec<u8>,
     pub explanation: Vec<u8>,
+    pub changes: Vec<u8>,
+    pub item: Vec<u8>,
+}
+
+impl ItemTexts {
+    /// Makes empty texts. It allocates no memory.
+    pub fn new(alloc: Global) -> ItemTexts {
+        ItemTexts {
+            printed: Vec::new(alloc),
+            explanation: Vec::new(alloc),
+            changes: Vec::new(alloc),
+            item: Vec::new(alloc),
+        }
+    }
 }
 
 // Returns how a statement went that is answered so.
@@ -66,96 +79,79 @@ fn class_of(walk: &Walk, line_event: &LineEvent) -> &'static [u8]
     }
 }
 
-// Returns the lines of change of a line with this meaning and these events.
-fn lines_of_change(
-    alloc: Global,
-    read: &Line,
+// Writes the lines of change of the last line, which has these events, over others.
+fn put_lines_of_change(
+    lines: &mut Vec<u8>,
     walk: &Walk,
     line_event: &LineEvent,
-    buffers: &mut ChangeBuffers,
-) -> Result<Vec<u8>, AllocError>
+    changes: &mut Changes,
+) -> Result<(), AllocError>
     requires { IsAvailable walk.now line_event.now }
-    ensures { IfOk result
-        (λ lines. (number : ℕ)
-        → lines.items
+    ensures { OnOk result ((number : ℕ) → HasRequest walk.now line_event.now
+        → lines.new.items
         ≡ change_lines walk.now.step
-        (changes_of read.now (events_of_line number walk.now line_event.now) walk.now.step)) }
+        (changes_of walk.now.read (events_of_line number walk.now line_event.now) walk.now.step)) }
 {
-    put_changes(buffers, read, walk, line_event);
-    let mut lines = Vec::new(alloc);
-    push_lines(&mut lines, buffers.changes.as_slice(), walk)?;
-    Ok(lines)
+    put_changes(changes, walk, line_event);
+    lines.clear();
+    push_lines(lines, changes.as_slice(), walk)
 }
 
-// Returns the item of a line with a fault.
-fn faulted(alloc: Global, numbered: &Numbered<'_>, printed: &[u8]) -> Result<Vec<u8>, AllocError>
-    ensures { IfOk result
-        (λ item. item.items
+// Writes the item of a line with a fault over another.
+fn put_faulted(
+    item: &mut Vec<u8>,
+    numbered: &Numbered<'_>,
+    printed: &[u8],
+) -> Result<(), AllocError>
+    ensures { OnOk result
+        (item.new.items
         ≡ head_of numbered.now.number (codes "js") numbered.now.line.now ++ (reply_of
         printed.now ++ codes "<p>The job ends here.</p>\n</article>\n")) }
 {
-    let mut item = Vec::new(alloc);
-    push_head(&mut item, numbered.number, b"js", numbered.line)?;
-    push_reply(&mut item, printed)?;
-    push_tag(&mut item, b"<p>The job ends here.</p>\n</article>\n")?;
-    Ok(item)
+    item.clear();
+    push_head(item, numbered.number, b"js", numbered.line)?;
+    push_reply(item, printed)?;
+    push_tag(item, b"<p>The job ends here.</p>\n</article>\n")
 }
 
-// Returns the item of a statement that went so, with these lines of change.
-fn stated(
-    alloc: Global,
-    numbered: &Numbered<'_>,
-    how: &[u8],
-    printed: &[u8],
-    explanation: &[u8],
-    changes: &[u8],
-) -> Result<Vec<u8>, AllocError>
-    ensures { IfOk result
-        (λ item. item.items
+// Writes the item of a statement that went so, with its texts, over another.
+fn put_stated(texts: &mut ItemTexts, numbered: &Numbered<'_>, how: &[u8]) -> Result<(), AllocError>
+    ensures { OnOk result
+        (texts.new.item.items
         ≡ head_of numbered.now.number how.now numbered.now.line.now ++ (reply_of
-        printed.now ++ tail_of explanation.now changes.now)) }
+        texts.old.printed.items ++ tail_of texts.old.explanation.items texts.old.changes.items)) }
 {
-    let mut item = Vec::new(alloc);
-    push_head(&mut item, numbered.number, how, numbered.line)?;
-    push_reply(&mut item, printed)?;
-    push_tail(&mut item, explanation, changes)?;
-    Ok(item)
+    let item = &mut texts.item;
+    item.clear();
+    push_head(item, numbered.number, how, numbered.line)?;
+    push_reply(item, &texts.printed)?;
+    push_tail(item, &texts.explanation, &texts.changes)
 }
 
-/// Makes the item of a line that says this, and was served so: a statement, or a line with a fault. Its request and its
-/// changes are written over those in the buffers.
-pub fn item_of(
-    alloc: Global,
+/// Makes the item of the last line, which has these events: a statement, or a line with a fault. It is made of what the line
+/// printed and of its explanations.
+pub fn put_item(
+    texts: &mut ItemTexts,
     numbered: &Numbered<'_>,
-    read: &Line,
     walk: &Walk,
-    served: &PrintedLine,
-    buffers: &mut ChangeBuffers,
-) -> Result<Vec<u8>, AllocError>
-    requires full_answer { IsAvailable walk.now served.now.line_event }
-    requires answered { served.now.line_event ≢ LineEvent.Nothing }
-    requires printed { served.now.printed.items
-        ≡ printing (events_of_line numbered.now.number walk.now served.now.line_event) }
-    ensures { IfOk result
-        (λ item. item.items
-        ≡ item_of_event numbered.now.number numbered.now.line.now read.now walk.now
-        served.now.line_event served.now.explanation.items) }
+    line_event: &LineEvent,
+    changes: &mut Changes,
+) -> Result<(), AllocError>
+    requires full_answer { IsAvailable walk.now line_event.now }
+    requires answered { line_event.now ≢ LineEvent.Nothing }
+    requires printed { texts.old.printed.items
+        ≡ printing (events_of_line numbered.now.number walk.now line_event.now) }
+    ensures { OnOk result (HasRequest walk.now line_event.now
+        → texts.new.item.items
+        ≡ item_of_event numbered.now.number numbered.now.line.now walk.now.read walk.now
+        line_event.now texts.old.explanation.items) }
 {
-    let how = class_of(walk, &served.line_event);
-    let changes = lines_of_change(alloc, read, walk, &served.line_event, buffers)?;
-    let lines = changes.as_slice();
-    let printed = served.printed.as_slice();
-    let explanation = served.explanation.as_slice();
-    match &served.line_event {
+    match line_event {
         LineEvent::Nothing => unreachable!(),
-        LineEvent::Faulted(_) => faulted(alloc, numbered, printed),
-        LineEvent::StepBegan { .. } | LineEvent::Answered { .. } => stated(
-            alloc,
-            numbered,
-            how,
-            printed,
-            explanation,
-            lines,
-        ),
+        LineEvent::Faulted(_) => put_faulted(&mut texts.item, numbered, &texts.printed),
+        LineEvent::StepBegan { .. } | LineEvent::Answered { .. } => {
+            put_lines_of_change(&mut texts.changes, walk, line_event, changes)?;
+            put_stated(texts, numbered, class_of(walk, line_event))
+        }
     }
 }

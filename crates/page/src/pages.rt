@@ -1,19 +1,21 @@
 //! Writes the page of a script.
 
-ghost use Rattle.std.specs.Prelude.{◌≡◌, ◌≢◌, ◌≤◌, Ok, false, length, true, IfErr, IfOk, OnOk, IsErrOf};
+ghost use Rattle.std.specs.Prelude.{◌≡◌, ◌≢◌, ◌≤◌, [], Ok, ℕ, false, length, true, IfErr, IfOk, OnOk, IsErrOf};
 ghost use Rattle.mvs_model.specs.Numbers.{most_script_bytes};
 ghost use Rattle.mvs_model.specs.Texts.{printing};
 ghost use Rattle.mvs_job.specs.Exchanging.{Exchanges};
-ghost use Rattle.mvs_job.specs.Explaining.{explanation_text};
 ghost use Rattle.mvs_job.specs.Looking.{IsLooking, KeepsExplained};
 ghost use Rattle.mvs_job.specs.NamedAddress.{no_lines};
-ghost use Rattle.mvs_job.specs.LineEvents.{IsAvailable, events_of_line};
+ghost use Rattle.mvs_job.specs.LineEvents.{HasRequest, IsAvailable, events_of_line};
+ghost use Rattle.area_history.specs.Chronicles.{HearsHistory, IsHistory};
+ghost use Rattle.area_history.specs.Histories.{found_in, no_history, nothing_found};
 ghost use Rattle.page.specs.Items.{item_of_event};
-ghost use Rattle.page.specs.Pages.{IsPage, IsShown, StopsPage, WritesItem, WritesPage, WritesShown, knows_items, paged};
+ghost use Rattle.page.specs.Pages.{IsPage, IsShown, StopsPage, WritesItem, WritesPage, WritesShown, knows_items, paged, words_of_line};
 
-use crate::changes::ChangeBuffers;
-use crate::item::{Numbered, PrintedLine, item_of};
+use crate::changes::{Changes, no_changes};
+use crate::item::{ItemTexts, Numbered, put_item};
 use crate::markup::{print_end, print_note};
+use area_history::{Chronicle, ReportFormat, TextReport};
 use line_text::write_all;
 use mvs_job::{
     AddressHints, Consumer, End, Explained, Job, LineEvent, Observer, RunFault, Source, Stop, Walk,
@@ -28,19 +30,23 @@ use mvs_model::want::Placement;
 use mvs_model::watched::{Failed, Watched};
 use std::alloc::{AllocError, Global};
 use std::io::Write;
+use std::mem;
 
-/// Writes an item of the page for each line of a run, and one for its end. It keeps what it has seen of a line, in large buffers, and
-/// which lines have set the names of the step.
+/// Writes an item of the page for each line of a run, and one for its end. It keeps what it has seen of a line, in large buffers, which
+/// lines have set the names of the step, and the history of the step's storage.
 #[derive(Drop)]
 pub struct PageItems {
     alloc: Global,
     explained: Explained,
-    buffers: ChangeBuffers,
+    chronicle: Chronicle,
+    texts: ItemTexts,
+    changes: Changes,
 }
 
 impl Observer for PageItems {
     ghost heard = { λ old job t request refusal left new.
-        KeepsExplained old.explained job t request refusal new.explained };
+        KeepsExplained old.explained job t request refusal new.explained
+        × HearsHistory old.chronicle job t request refusal new.chronicle };
 
     fn refused(
         &mut self,
@@ -51,6 +57,7 @@ impl Observer for PageItems {
         left: &Shortfall,
     ) {
         self.explained.refused(job, task, request, refusal, left);
+        self.chronicle.refused(job, task, request, refusal, left);
     }
 }
 
@@ -59,10 +66,12 @@ impl Consumer for PageItems {
 
     ghost knows = { knows_items };
 
-    ghost sees = { λ s step read. IsLooking step s.explained.lines read s.explained };
+    ghost sees = { λ s step read. IsLooking step s.explained.lines read s.explained
+        × (found_in s.chronicle.found ≡ nothing_found) };
 
     fn look(&mut self, walk: &Walk) {
         self.explained.look_at(walk);
+        self.chronicle.begin_line();
     }
 
     fn entry<W: Write>(
@@ -73,9 +82,9 @@ impl Consumer for PageItems {
         walk: &Walk,
         line_event: &LineEvent,
     ) -> Result<(), Stop> {
-        let Ok(()) = self.explained.keep(line_number, walk, line_event) else {
-            return Err(Stop::Memory);
-        };
+        self.chronicle.settle(walk, line_event);
+        self.explained.keep(line_number, walk, line_event)?;
+        self.chronicle.keep(line_number, walk, line_event)?;
         let numbered = Numbered {
             number: line_number,
             line,
@@ -97,84 +106,106 @@ impl Consumer for PageItems {
     }
 }
 
-// Returns what was written to memory, where no growth was refused.
-fn written(text: Watched<Vec<u8>>) -> Vec<u8>
-    ensures { result ≡ text.inner }
+// Takes the room of a text, for another text.
+fn room_of(text: &mut Vec<u8>, alloc: Global) -> Vec<u8>
+    ensures { result.items ≡ [] }
 {
-    text.into_inner()
+    let mut room = mem::replace(text, Vec::new(alloc));
+    room.clear();
+    room
 }
 
 impl PageItems {
     /// Makes a writer that has seen no line. It allocates no memory.
     pub fn new(alloc: Global) -> PageItems
-        ensures { result.explained.lines ≡ no_lines }
+        ensures names { result.explained.lines ≡ no_lines }
+        ensures history { IsHistory result.chronicle no_history }
     {
         PageItems {
             alloc,
             explained: Explained::new(alloc),
-            buffers: ChangeBuffers::new(),
+            chronicle: Chronicle::new(alloc),
+            texts: ItemTexts::new(alloc),
+            changes: no_changes(),
         }
     }
 
-    // Returns what a line prints, and its explanations.
-    fn printed(
+    // Puts what a line prints.
+    fn put_printed(
         &mut self,
         number: u32,
         walk: &Walk,
         line_event: &LineEvent,
-    ) -> Result<PrintedLine, AllocError>
+    ) -> Result<(), Failed>
         requires { IsAvailable walk.now line_event.now }
-        ensures line_event { IfOk result (λ served. served.line_event ≡ line_event.now) }
-        ensures printed { IfOk result
-            (λ served. served.printed.items ≡ printing (events_of_line number walk.now line_event.now)) }
-        ensures explanation { IfOk result
-            (λ served. served.explanation.items
-            ≡ explanation_text self.old.explained walk.now.read (events_of_line number walk.now line_event.now)
-            walk.now.step) }
-        ensures lines { self.new.explained.lines ≡ self.old.explained.lines }
+        ensures printed { OnOk result
+            (self.new.texts.printed.items ≡ printing (events_of_line number walk.now line_event.now)) }
+        ensures explained { self.new.explained ≡ self.old.explained }
+        ensures chronicle { self.new.chronicle ≡ self.old.chronicle }
     {
-        let mut printed = Watched::new(Vec::new(self.alloc));
-        let Ok(()) = print_line(&mut printed, number, walk, line_event) else {
-            return Err(AllocError);
-        };
-        let mut explanation = Watched::new(Vec::new(self.alloc));
-        let Ok(()) = self
-            .explained
-            .print_explanation(walk, line_event, &mut explanation)
-        else {
-            return Err(AllocError);
-        };
-        Ok(PrintedLine {
-            line_event: *line_event,
-            printed: written(printed),
-            explanation: written(explanation),
-        })
+        let mut printed = Watched::new(room_of(&mut self.texts.printed, self.alloc));
+        print_line(&mut printed, number, walk, line_event)?;
+        self.texts.printed = printed.into_inner();
+        Ok(())
     }
 
-    // Returns the item of a line that is answered or has a fault.
-    fn item(
+    // Puts the explanations of a line, and behind them what the history of the storage shows about it.
+    fn put_explanation(&mut self, walk: &Walk, line_event: &LineEvent) -> Result<(), Failed>
+        requires { IsAvailable walk.now line_event.now }
+        ensures explanation { (number : ℕ) → OnOk result
+            (self.new.texts.explanation.items ≡ words_of_line self.old number walk.now line_event.now) }
+        ensures printed { self.new.texts.printed ≡ self.old.texts.printed }
+        ensures lines { self.new.explained.lines ≡ self.old.explained.lines }
+        ensures chronicle { self.new.chronicle ≡ self.old.chronicle }
+    {
+        let mut words = Watched::new(room_of(&mut self.texts.explanation, self.alloc));
+        self.explained
+            .print_explanation(walk, line_event, &mut words)?;
+        TextReport.print_findings(&mut words, self.chronicle.found())?;
+        self.texts.explanation = words.into_inner();
+        Ok(())
+    }
+
+    // Puts what a line prints, and its explanations.
+    fn put_texts(&mut self, number: u32, walk: &Walk, line_event: &LineEvent) -> Result<(), Failed>
+        requires { IsAvailable walk.now line_event.now }
+        ensures printed { OnOk result
+            (self.new.texts.printed.items ≡ printing (events_of_line number walk.now line_event.now)) }
+        ensures explanation { OnOk result
+            (self.new.texts.explanation.items ≡ words_of_line self.old number walk.now line_event.now) }
+        ensures lines { self.new.explained.lines ≡ self.old.explained.lines }
+        ensures chronicle { self.new.chronicle ≡ self.old.chronicle }
+    {
+        self.put_printed(number, walk, line_event)?;
+        self.put_explanation(walk, line_event)?;
+        Ok(())
+    }
+
+    // Puts the item of a line that is answered or has a fault.
+    fn put_item(
         &mut self,
         numbered: &Numbered<'_>,
         walk: &Walk,
         line_event: &LineEvent,
-    ) -> Result<Vec<u8>, AllocError>
+    ) -> Result<(), AllocError>
         requires full_answer { IsAvailable walk.now line_event.now }
         requires answered { line_event.now ≢ LineEvent.Nothing }
-        ensures item { IfOk result
-            (λ item. item.items
+        ensures item { OnOk result (HasRequest walk.now line_event.now
+            → self.new.texts.item.items
             ≡ item_of_event numbered.now.number numbered.now.line.now walk.now.read walk.now line_event.now
-            (explanation_text self.old.explained walk.now.read (events_of_line numbered.now.number walk.now
-            line_event.now) walk.now.step)) }
+            (words_of_line self.old numbered.now.number walk.now line_event.now)) }
         ensures lines { self.new.explained.lines ≡ self.old.explained.lines }
+        ensures history { self.new.chronicle ≡ self.old.chronicle }
     {
-        let served = self.printed(numbered.number, walk, line_event)?;
-        item_of(
-            self.alloc,
+        let Ok(()) = self.put_texts(numbered.number, walk, line_event) else {
+            return Err(AllocError);
+        };
+        put_item(
+            &mut self.texts,
             numbered,
-            walk.read(),
             walk,
-            &served,
-            &mut self.buffers,
+            line_event,
+            &mut self.changes,
         )
     }
 
@@ -187,27 +218,24 @@ impl PageItems {
         line_event: &LineEvent,
     ) -> Result<(), Stop>
         requires { IsAvailable walk.now line_event.now }
-        ensures item { WritesItem (W.contents writer.old.inner) (W.contents writer.new.inner) line_event.now
+        ensures item { HasRequest walk.now line_event.now
+            → WritesItem (W.contents writer.old.inner) (W.contents writer.new.inner) line_event.now
             (item_of_event numbered.now.number numbered.now.line.now walk.now.read walk.now line_event.now
-            (explanation_text self.old.explained walk.now.read (events_of_line numbered.now.number walk.now
-            line_event.now) walk.now.step)) result }
+            (words_of_line self.old numbered.now.number walk.now line_event.now)) result }
         ensures lines { self.new.explained.lines ≡ self.old.explained.lines }
+        ensures history { self.new.chronicle ≡ self.old.chronicle }
         ensures ok { OnOk result (writer.new.failed ≡ writer.old.failed) }
         ensures write { IsErrOf result Stop.Write → writer.new.failed ≡ true }
     {
         if let LineEvent::Nothing = line_event {
-            return match print_note(writer, numbered.number, numbered.line) {
-                Ok(()) => Ok(()),
-                Err(_) => Err(Stop::Write),
-            };
+            print_note(writer, numbered.number, numbered.line)?;
+            return Ok(());
         }
-        let Ok(item) = self.item(numbered, walk, line_event) else {
+        let Ok(()) = self.put_item(numbered, walk, line_event) else {
             return Err(Stop::Memory);
         };
-        match write_all(writer, &item) {
-            Ok(()) => Ok(()),
-            Err(_) => Err(Stop::Write),
-        }
+        write_all(writer, &self.texts.item)?;
+        Ok(())
     }
 }
 
@@ -231,10 +259,7 @@ pub fn write_page<W: Write>(
     ensures ok { OnOk result (writer.new.failed ≡ writer.old.failed) }
     ensures write { IsErrOf result Stop.Write → writer.new.failed ≡ true }
 {
-    match write_all(writer, frame) {
-        Ok(()) => {}
-        Err(_) => return Err(Stop::Write),
-    }
+    write_all(writer, frame)?;
     let mut items = PageItems::new(alloc);
     run_lines(alloc, script, writer, placement, &mut items)
 }

@@ -74,9 +74,7 @@ pub fn write_script<W: Write>(
             break;
         }
         let line = maker.line();
-        if writeln!(writer, "{line}").is_err() {
-            return Err(RandomFault::Write);
-        }
+        writeln!(writer, "{line}").map_err(|_| RandomFault::Write)?;
     }
     Ok(())
 }

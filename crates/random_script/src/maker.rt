@@ -275,13 +275,11 @@ impl ScriptMaker {
         if !self.session.takes_line() {
             return Ok(false);
         }
-        match self.session.line(self.line.as_bytes()) {
-            Ok(line_event) => {
-                self.hear(&line_event, change);
-                Ok(true)
-            }
-            Err(_) => Err(RandomFault::Memory),
-        }
+        let Ok(line_event) = self.session.line(self.line.as_bytes()) else {
+            return Err(RandomFault::Memory);
+        };
+        self.hear(&line_event, change);
+        Ok(true)
     }
 }
 

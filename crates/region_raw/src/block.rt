@@ -63,16 +63,14 @@ impl Block {
                 alloc,
             });
         }
-        match take_block(&alloc, len) {
-            Some((start, bytes, right)) => Ok(Block {
-                start,
-                bytes,
-                right,
-                len,
-                alloc,
-            }),
-            None => Err(OutOfMemory),
-        }
+        let (start, bytes, right) = take_block(&alloc, len).ok_or(OutOfMemory)?;
+        Ok(Block {
+            start,
+            bytes,
+            right,
+            len,
+            alloc,
+        })
     }
 
     /// Gives each of the `n` blank bytes from `at` on the value `fill`.

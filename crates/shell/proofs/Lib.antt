@@ -1,2 +1,3 @@
+mod Giving
 pub mod Lines
 pub mod Reading

@@ -1,5 +1,6 @@
 -- Lines with their ends.
-use Rattle.std.proofs.Common.{◌≡◌, ◌≤◌, ◌<◌, ◌+◌, ℕ, zero, suc, List, [], ◌∷◌, ◌++◌, append_assoc, length, length-append, take, get_or, arith, refl, sym, ap, ◌∙◌, subst}
+use Rattle.std.proofs.Common.{◌≡◌, ◌≤◌, ◌<◌, ◌+◌, ℕ, zero, suc, List, [], ◌∷◌, ◌++◌, append_assoc, length, length-append, take, get_or, arith, refl, sym, ap, ◌∙◌, subst, Result, Ok, Err}
+use Rattle.std.specs.Prelude.{IsErrAnd, MatchResult}
 use Rattle.std.proofs.lemmas.List.{take_more}
 use Rattle.std.specs.List.{AllByRecursion}
 use Rattle.mvs_model.specs.Lines.{IsUnended, ended_text}
@@ -74,3 +75,8 @@ module _ (lines : List (List ℕ)) (i : ℕ) (line text : List ℕ) (here : line
   pub written_line : (before mid after : List ℕ) → before ≡ ended_text (take i lines) → mid ≡ before ++ text → after ≡ mid ++ 10 ∷ [] → after ≡ ended_text (take (i + 1) lines)
   written_line before mid after is more end =
       end ∙ ap (λ x. x ++ 10 ∷ []) (more ∙ ap (λ x. x ++ text) is ∙ ap (λ x. ended_text (take i lines) ++ x) same) ∙ append_assoc (ended_text (take i lines)) line (10 ∷ []) ∙ sym (ended_last (take i lines) line) ∙ sym (ap ended_text taken_line)
+
+-- a call returned this value, if `map_err` returned it
+pub mapped_ok : {T E D : Type 0} (r : Result T E) (s : Result T D) (Q : E → D → Type 0) (x : T) → MatchResult r (λ y. s ≡ Ok y) (λ e. IsErrAnd s (Q e)) → s ≡ Ok x → r ≡ Ok x
+mapped_ok (Ok y) s Q x same is = ap (λ z. Ok z) (let e : Ok y ≡ Ok x = sym same ∙ is in cc)
+mapped_ok (Err e) s Q x never is = absurd (subst (λ z. IsErrAnd z (Q e)) is never)

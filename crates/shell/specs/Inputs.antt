@@ -12,6 +12,11 @@ pub record InputValue (R : Type 0) : Type 0 where
   pub count : ℕ
   pub ended : Bool
 
+-- A reader, and the bytes that were read of it and not given yet.
+pub record AheadValue (R : Type 0) : Type 0 where
+  pub inner : R
+  pub ahead : List ℕ
+
 -- The bytes of a line were read: with the byte that ends it, or up to the end of the reader.
 abbrev pub ReadsLine : Option (List ℕ) → Option (List ℕ) → Bool → List ℕ → Type 0
 ReadsLine unread left false line = Consumes unread left (line ++ 10 ∷ [])

@@ -106,10 +106,9 @@ fn without_dot(word: &[u8]) -> &[u8] {
 /// Returns the command that may be meant by a word that begins with a dot.
 pub fn near_keyword(alloc: Global, word: &[u8]) -> Option<DotCommand> {
     let known = keyword_named(word).or(other_keyword(without_dot(word)));
-    match known.or(begun_keyword(word)) {
-        Some(keyword) => Some(keyword),
-        None => similar_keyword(alloc, word),
-    }
+    known
+        .or(begun_keyword(word))
+        .or_else(|| similar_keyword(alloc, word))
 }
 
 /// Returns the operation that may be meant by a word.

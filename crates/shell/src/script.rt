@@ -128,13 +128,9 @@ impl SessionScript {
         ensures ok { OnOk result (self.new ≡ self.old ++ line.now ∷ []) }
         ensures err { OnErr result (self.new ≡ self.old) }
     {
-        match self.lines.push(copied(line)) {
-            Ok(()) => {
-                self.bytes += line.len() + 1;
-                Ok(())
-            }
-            Err(_) => Err(OutOfMemory),
-        }
+        self.lines.push(copied(line)).map_err(|_| OutOfMemory)?;
+        self.bytes += line.len() + 1;
+        Ok(())
     }
 
     /// Removes the last lines; all, if there are fewer.

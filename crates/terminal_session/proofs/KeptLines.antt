@@ -50,18 +50,3 @@ module _ (lines : List (List ℕ)) (line : List ℕ) where
 
   pub each_kept : (l : Line) → LineOf (are_blank lines) line l → AllByRecursion IsUnended lines → AllByRecursion IsUnended (lines ++ line ∷ [])
   each_kept l is each = each_last lines line each (accepted_line (are_blank lines) line l is).1
-
-kept_at : (b : Bool) (kept : Bool) → kept ≡ not b → kept ≡ true → b ≡ false
-kept_at true kept e h = absurd (let f : false ≡ true = sym e ∙ h in cc)
-kept_at false kept e h = refl
-
-skipped_at : (b : Bool) (kept : Bool) → kept ≡ not b → kept ≡ false → b ≡ true
-skipped_at true kept e h = refl
-skipped_at false kept e h = absurd (let f : true ≡ false = sym e ∙ h in cc)
-
-module _ (lines : List (List ℕ)) (line : List ℕ) (kept : Bool) (e : kept ≡ not (is_faulty (are_blank lines) line)) where
-  pub kept_so : kept ≡ true → with_line lines line ≡ lines ++ line ∷ []
-  kept_so h = ap (λ f. if f then lines else lines ++ line ∷ []) (kept_at (is_faulty (are_blank lines) line) kept e h)
-
-  pub skipped_so : kept ≡ false → with_line lines line ≡ lines
-  skipped_so h = ap (λ f. if f then lines else lines ++ line ∷ []) (skipped_at (is_faulty (are_blank lines) line) kept e h)

@@ -20,7 +20,7 @@ use Rattle.shell.specs.declared.edit.ScriptEdit.TheVariants as edit
 use Rattle.terminal_session.specs.declared.session.JobStop.{JobStop}
 use Rattle.terminal_session.specs.declared.session.JobStop.TheVariants as stopped
 use Rattle.terminal_session.specs.declared.session.Step.{Step}
-use Rattle.terminal_session.specs.declared.session.Step.TheVariants.{Again, Faulted, Next, Quit}
+use Rattle.terminal_session.specs.declared.session.Step.TheVariants.{Again, Next, Quit}
 use Rattle.terminal_session.specs.Sessions.{Fails, HasFault, IsOver, IsQuit, IsEdit, IsTyped, IsTypedFirst, IsUnderWay, Makes, MakesAll, RunsLines, Stops, StopsAt, EditsLines, text_of}
 use Rattle.terminal_session.specs.Steps.{Accepted, EndsJob, Obeys, Steps}
 use Rattle.terminal_session.proofs.Playing.{lines_run, run_cut, run_done, run_kept}
@@ -96,14 +96,11 @@ module _ (piece : Piece) {S : Type 0} (knows : Known S) (cleans : Bool) (unread 
         obeyed sure new Quit (edits, quit) =
             let so : IsQuit cleans l = subst (λ t. (is_command t ≡ true) × (edit_of t ≡ edit.Quit)) is (sure, quit) in
             (stays new (subst (λ t. EditsLines t mid new) quit edits) (makes_edit cleans mid text l is new sure edits), inr (inl (job.typed, l, refl, so)))
-        obeyed sure new Faulted h = absurd h
 
         pub accepted : is_command text ≡ false → (written : Option (List ℕ)) (new : List (List ℕ)) (w' : WalkValue) (s' : S) (result : Result Step RunFault) → Accepted piece knows before written count mid text new w' s' result
             → Steps piece knows cleans unread further before written ended count lines new w' s' result
         accepted never written new w' s' (Ok Next) (made, each, ran) =
             record { typed = job.typed ++ l ∷ []; read = typed; makes = makes_next cleans lines job.typed mid l new job.makes (makes_line cleans mid text l is new never made); each = each; run = ran }
-        accepted never written new w' s' (Ok Faulted) (made, fault, leaves) =
-            (job.typed ++ l ∷ [], typed, makes_next cleans lines job.typed mid l new job.makes (makes_line cleans mid text l is new never made), inr (inr fault), leaves)
         accepted never written new w' s' (Ok Again) h = absurd h
         accepted never written new w' s' (Ok Quit) h = absurd h
         accepted never written new w' s' (Err fault) (last, inl same, stops) = (job.typed, last, rest_at ended read, subst (MakesAll cleans lines job.typed) (sym same) job.makes, stops)

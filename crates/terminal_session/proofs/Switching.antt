@@ -1,4 +1,4 @@
--- A consumer whose explanations are switched.
+-- A printer whose explanations are switched.
 use Rattle.std.proofs.Common.{◌≡◌, ◌++◌, ℕ, ap, append_assoc, inl, inr, List, [], append-nil, Option, refl, sym, ◌∙◌}
 use Rattle.mvs_model.specs.Job.{JobValue}
 use Rattle.mvs_model.specs.Texts.{printing}
@@ -6,27 +6,35 @@ use Rattle.mvs_job.specs.declared.walk.LineEvent.{LineEvent}
 use Rattle.mvs_job.specs.Explained.{explained, set_by_entries}
 use Rattle.mvs_job.specs.Explaining.{NoLineIsStarred}
 use Rattle.mvs_job.specs.LineEvents.{WalkValue}
+use Rattle.mvs_job.specs.Looking.{KeepsExplained}
 use Rattle.mvs_job.specs.Observing.{Hearing, ObservesLine}
 use Rattle.mvs_job.specs.Trace.{Entry}
+use Rattle.mvs_job.proofs.AfterLines.{keeps}
 use Rattle.mvs_job.proofs.Hearing.{line_part}
 use Rattle.mvs_job.proofs.Starred.{IsLeftOut, entry_out, none_left_out, out_both, printed_then, starred_are}
+use Rattle.area_history.specs.Chronicles.{HearsHistory}
 use Rattle.area_history.specs.Histories.{findings_of, history_from, no_history, stays_at, with_history}
 use Rattle.area_history.specs.HistoryTexts.{findings_text}
 use Rattle.area_history.specs.LeakTexts.{report_text}
 use Rattle.area_history.specs.Ledgers.{leaks_at}
 use Rattle.area_history.specs.Reporting.{with_leaks}
 use Rattle.area_history.proofs.Printings.{entry_left, findings_out}
+use Rattle.area_history.proofs.Recording.{hears}
 use Rattle.terminal_session.specs.declared.switched.Switched.{Switched}
 use Rattle.terminal_session.specs.Switching.{SwitchedArePrintings, SwitchedLeaksArePrintings, switched_history}
 
 -- ---- what it keeps of a refusal
 
-module _ {C : Type 0} (heard : Hearing C) where
-  abbrev pub passed : Hearing (Switched C)
-  passed old job t request refusal left new = heard old.consumer.now job t request refusal left new.consumer.now
+abbrev heard : Hearing Switched
+heard old job t request refusal left new = KeepsExplained old.explained job t request refusal new.explained × HearsHistory old.chronicle job t request refusal new.chronicle
 
-  pub consumer_sees : (mid self : Switched C) (step : Option JobValue) (bytes : List ℕ) (t : LineEvent) (w : WalkValue) → ObservesLine passed mid step bytes t w self → ObservesLine heard mid.consumer.now step bytes t w self.consumer.now
-  consumer_sees mid self step bytes t w h = line_part mid self (λ s. s.consumer.now) passed heard (λ job t request refusal left k. k) step bytes t w h
+-- what its explanations hear
+pub explained_sees : (mid self : Switched) (step : Option JobValue) (bytes : List ℕ) (t : LineEvent) (w : WalkValue) → ObservesLine heard mid step bytes t w self → ObservesLine keeps mid.explained step bytes t w self.explained
+explained_sees mid self step bytes t w h = line_part mid self (λ s. s.explained) heard keeps (λ job t request refusal left k. k.0) step bytes t w h
+
+-- what its history hears
+pub chronicle_sees : (mid self : Switched) (step : Option JobValue) (bytes : List ℕ) (t : LineEvent) (w : WalkValue) → ObservesLine heard mid step bytes t w self → ObservesLine hears mid.chronicle step bytes t w self.chronicle
+chronicle_sees mid self step bytes t w h = line_part mid self (λ s. s.chronicle) heard hears (λ job t request refusal left k. k.1) step bytes t w h
 
 -- ---- what is written is the printing, and lines that begin with an asterisk
 

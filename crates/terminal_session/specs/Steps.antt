@@ -1,14 +1,13 @@
 -- What one typed line does to a job.
-use Rattle.std.specs.Prelude.{◌≡◌, ◌≢◌, ◌⊎◌, ◌+◌, ◌<◌, ◌≤◌, ℕ, Bool, true, false, List, [], Option, Some, None, Result, Ok, Err, IfErr, IfOk}
+use Rattle.std.specs.Prelude.{◌≡◌, ◌≢◌, ◌⊎◌, ◌+◌, ◌<◌, ◌≤◌, ℕ, nat_lt, if◌then◌else◌, Bool, true, false, List, [], Option, Some, None, Result, Ok, Err, IfErr, IfOk}
 use Rattle.std.specs.List.{AllByRecursion}
 use Rattle.std.specs.Io.KnownBytes.{Consumes}
-use Rattle.mvs_model.specs.declared.outcome.Outcome.TheVariants.{ScriptFault}
-use Rattle.mvs_model.specs.Lines.{IsUnended, ended_text}
+use Rattle.mvs_model.specs.Lines.{IsUnended}
 use Rattle.mvs_model.specs.Numbers.{most_script_bytes}
 use Rattle.mvs_job.specs.declared.run.RunFault.{RunFault}
 use Rattle.mvs_job.specs.declared.run.RunFault.TheVariants.{Memory, Read, ReadTooLong, Write}
 use Rattle.mvs_job.specs.declared.printing.Stop.{Stop}
-use Rattle.mvs_job.specs.Consuming.{HasRun, Known, Leaves, Piece, RunsLast}
+use Rattle.mvs_job.specs.Consuming.{HasRun, Known, Piece, RunsLast}
 use Rattle.mvs_job.specs.LineEvents.{WalkValue}
 use Rattle.mvs_job.specs.Streams.{fault_of}
 use Rattle.shell.specs.Inputs.{InputValue, ReadsLine}
@@ -17,16 +16,20 @@ use Rattle.shell.specs.declared.edit.ScriptEdit.TheVariants as edit
 use Rattle.terminal_session.specs.declared.session.JobStop.{JobStop}
 use Rattle.terminal_session.specs.declared.session.JobStop.TheVariants as stopped
 use Rattle.terminal_session.specs.declared.session.Step.{Step}
-use Rattle.terminal_session.specs.declared.session.Step.TheVariants.{Again, Faulted, Next, Quit}
-use Rattle.terminal_session.specs.Sessions.{Fails, HasFault, IsOver, IsUnderWay, SessionValue, Stops, StopsAt, EditsLines, text_of, with_line}
+use Rattle.terminal_session.specs.declared.session.Step.TheVariants.{Again, Next, Quit}
+use Rattle.terminal_session.specs.Sessions.{Fails, IsOver, IsUnderWay, SessionValue, Stops, StopsAt, EditsLines, text_of, with_line}
 
--- What a read of a line finds: its text, or that there is none; or it fails.
-abbrev pub Awaits : {R : Type 0} → Bool → Option (List ℕ) → Option (List ℕ) → InputValue R → InputValue R → Result (Option (List ℕ)) RunFault → Type 0
-Awaits cleans unread left old new (Ok (Some text)) =
+-- why a line could not be read, after this number of bytes was read
+abbrev pub read_fault : ℕ → RunFault
+read_fault count = if nat_lt most_script_bytes count then ReadTooLong else Read
+
+-- What a read of a line finds: it has this text, or there is none; or it fails.
+abbrev pub Awaits : {R : Type 0} → Bool → Option (List ℕ) → Option (List ℕ) → InputValue R → InputValue R → List ℕ → Result Bool RunFault → Type 0
+Awaits cleans unread left old new text (Ok true) =
     (line : List ℕ) × IsUnended line × (text ≡ text_of cleans line) × (old.ended ≡ false) × ReadsLine unread left new.ended line
     × (old.count < new.count) × (new.count ≤ most_script_bytes + 1)
-Awaits cleans unread left old new (Ok None) = (new.ended ≡ true) × Consumes unread left []
-Awaits cleans unread left old new (Err fault) =
+Awaits cleans unread left old new text (Ok false) = (new.ended ≡ true) × Consumes unread left []
+Awaits cleans unread left old new text (Err fault) =
     ((part : List ℕ) × Consumes unread left part × (old.ended ≡ true → part ≡ [])) × ((fault ≡ Read) ⊎ ((fault ≡ ReadTooLong) × (most_script_bytes < new.count)))
 
 -- What a command does to the lines of the job.
@@ -34,13 +37,15 @@ abbrev pub Obeys : ScriptEdit → List (List ℕ) → List (List ℕ) → Step �
 Obeys t lines new Next = EditsLines t lines new × (new ≡ lines)
 Obeys t lines new Again = EditsLines t lines new × (t ≢ edit.Stays)
 Obeys t lines new Quit = EditsLines t lines new × (t ≡ edit.Quit)
-Obeys t lines new Faulted = ⊥
+
+-- how the call goes on that runs a line without a fault
+abbrev pub continued : Result (Unit {0}) Stop → Result Bool Stop
+continued (Ok x) = Ok true
+continued (Err why) = Err why
 
 -- What a line does that is no command, where these lines of the job are executed.
 abbrev pub Accepted : {S : Type 0} → Piece → Known S → Option (List ℕ) → Option (List ℕ) → ℕ → List (List ℕ) → List ℕ → List (List ℕ) → WalkValue → S → Result Step RunFault → Type 0
 Accepted piece knows before after count lines line new w s (Ok Next) = (new ≡ with_line lines line) × AllByRecursion IsUnended new × HasRun piece knows before after new w s
-Accepted piece knows before after count lines line new w s (Ok Faulted) =
-    (new ≡ with_line lines line) × HasFault new × Leaves piece knows before after (ended_text new) s (Ok ScriptFault)
 Accepted piece knows before after count lines line new w s (Ok Again) = ⊥
 Accepted piece knows before after count lines line new w s (Ok Quit) = ⊥
 Accepted piece knows before after count lines line new w s (Err fault) =
@@ -55,8 +60,6 @@ abbrev pub Steps : {S : Type 0} → Piece → Known S → Bool → Option (List 
 Steps piece knows cleans unread left before after ended count lines new w s (Ok Next) = IsUnderWay piece knows cleans unread left before after ended lines new w s
 Steps piece knows cleans unread left before after ended count lines new w s (Ok Quit) =
     (job : IsUnderWay piece knows cleans unread left before after ended lines new w s) × IsOver cleans ended job.typed new
-Steps piece knows cleans unread left before after ended count lines new w s (Ok Faulted) =
-    Stops piece knows cleans unread left before after ended lines new s (stopped.Ended ScriptFault)
 Steps piece knows cleans unread left before after ended count lines new w s (Ok Again) = Stops piece knows cleans unread left before after ended lines new s stopped.Again
 Steps piece knows cleans unread left before after ended count lines new w s (Err fault) = Fails piece knows cleans unread left before after count lines s fault
 

@@ -41,11 +41,7 @@ pub fn banner(alloc: Global) -> Result<String, AllocError> {
 
 // Returns the text of a code.
 fn code_text(alloc: Global, name: &[u8]) -> Result<String, AllocError> {
-    let found = match str::from_utf8(name) {
-        Ok(text) => code(text),
-        Err(_) => None,
-    };
-    match found {
+    match str::from_utf8(name).ok().and_then(code) {
         Some(text) => String::from_str(alloc, text),
         None => format!(in alloc;
             "no text about {}: expected a code that a run prints, such as S878\n",
@@ -64,9 +60,7 @@ fn rule_text(alloc: Global, number: u32) -> Result<String, AllocError> {
 
 // Returns the text of the areas that were not released so far.
 fn leak_text(alloc: Global, view: &View<'_>) -> Result<String, AllocError> {
-    let Ok(report) = leak_report(alloc, view.script, view.placement) else {
-        return Err(AllocError);
-    };
+    let report = leak_report(alloc, view.script, view.placement).map_err(|_| AllocError)?;
     match str::from_utf8(&report) {
         Ok("") | Err(_) => String::from_str(alloc, NO_LEAK),
         Ok(text) => String::from_str(alloc, text),
@@ -87,9 +81,7 @@ fn step_text(
     if let Command::Leaks = command {
         return leak_text(alloc, view);
     }
-    let Ok(origins) = Origins::of(alloc, view.script, view.placement) else {
-        return Err(AllocError);
-    };
+    let origins = Origins::of(alloc, view.script, view.placement).map_err(|_| AllocError)?;
     let origins = &origins;
     match command {
         Command::Tasks => format!(in alloc; "{}", TaskTree { job, origins }),

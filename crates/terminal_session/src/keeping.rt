@@ -1,11 +1,9 @@
-//! Lines that are kept for a job, if they have no fault.
+//! Lines that are kept for a job.
 
-ghost use Rattle.std.specs.Prelude.{◌≡◌, ◌⊎◌, ◌+◌, ◌≤◌, [], IfErr, IfOk, length, not, true};
-ghost use Rattle.std.specs.List.{AllByRecursion};
+ghost use Rattle.std.specs.Prelude.{◌≡◌, ◌⊎◌, ◌+◌, ◌≤◌, ◌++◌, ◌∷◌, [], IfErr, IfOk, OnOk, length};
 ghost use Rattle.mvs_model.specs.Lines.{IsUnended, ended_text, lines_of};
 ghost use Rattle.mvs_model.specs.Numbers.{most_script_bytes};
-ghost use Rattle.shell.specs.Scripts.{are_blank};
-ghost use Rattle.terminal_session.specs.Sessions.{is_faulty, with_line, with_lines};
+ghost use Rattle.terminal_session.specs.Sessions.{with_line, with_lines};
 
 use crate::session::Host;
 use job_script::read_line;
@@ -14,32 +12,36 @@ use mvs_model::line::Line;
 use shell::SessionScript;
 use std::alloc::Global;
 
-/// Keeps a line as the last one of a script, or reports its fault. Returns whether it was kept.
-pub fn keep<H: Host>(
-    script: &mut SessionScript,
-    read: &mut Line,
-    host: &mut H,
-    line: &[u8],
-) -> Result<bool, RunFault>
-    ensures kept { IfOk result (λ kept. (script.new ≡ with_line script.old line.now)
-        × (kept ≡ not (is_faulty (are_blank script.old) line.now))) }
-    ensures few { IfOk result (λ kept. kept ≡ true → length script.old ≤ most_script_bytes) }
-    ensures each { AllByRecursion IsUnended script.old → AllByRecursion IsUnended script.new }
+/// Keeps a line that has no fault as the last one of a script.
+pub fn append(script: &mut SessionScript, line: &[u8]) -> Result<(), RunFault>
+    requires short { length line.now ≤ 256 }
+    requires unended { IsUnended line.now }
+    ensures kept { OnOk result (script.new ≡ script.old ++ line.now ∷ []) }
+    ensures few { OnOk result (length script.old ≤ most_script_bytes) }
     ensures unkept { IfErr result (λ fault. (script.new ≡ script.old)
         × ((fault ≡ RunFault.Memory) ⊎ ((fault ≡ RunFault.ReadTooLong)
         × (most_script_bytes ≤ length (ended_text script.old) + 256)))) }
 {
-    if let Err(fault) = read_line(line, script.is_blank(), read) {
-        host.on_fault(next_number(script), line, fault);
-        return Ok(false);
-    }
     if !script.has_room(line) {
         return Err(RunFault::ReadTooLong);
     }
-    match script.push(line) {
-        Ok(()) => Ok(true),
-        Err(_) => Err(RunFault::Memory),
+    script.push(line).map_err(|_| RunFault::Memory)
+}
+
+// Keeps a line as the last one of a script, or reports its fault.
+fn keep<H: Host>(
+    script: &mut SessionScript,
+    read: &mut Line,
+    host: &mut H,
+    line: &[u8],
+) -> Result<(), RunFault>
+    ensures { OnOk result (script.new ≡ with_line script.old line.now) }
+{
+    if let Err(fault) = read_line(line, script.is_blank(), read) {
+        host.on_fault(next_number(script), line, fault);
+        return Ok(());
     }
+    append(script, line)
 }
 
 /// Returns the number of the line after the last of a script.
@@ -52,21 +54,19 @@ pub fn next_number(script: &SessionScript) -> u32
 /// Returns the lines of a text that have no fault, and reports the others.
 pub fn script_of<H: Host>(
     alloc: Global,
-    read: &mut Line,
     host: &mut H,
     text: &[u8],
 ) -> Result<SessionScript, RunFault>
     ensures { IfOk result (λ script. script ≡ with_lines [] (lines_of text.now)) }
 {
     let mut script = SessionScript::new(alloc);
+    let mut read = Line::Nothing;
     let mut at = 0;
     'lines: while at < text.len() {
         let rest = &text[at..];
         let len = line_end(rest);
-        match keep(&mut script, read, host, &rest[..len]) {
-            Ok(_) => at += len + 1,
-            Err(fault) => return Err(fault),
-        }
+        keep(&mut script, &mut read, host, &rest[..len])?;
+        at += len + 1;
     }
     Ok(script)
 }

@@ -36,8 +36,8 @@ pub fn leak_report(
     run_end(&walk, &mut text, &mut reporter)?;
     let text = text.into_inner();
     let mut report = Vec::new(alloc);
-    match report.extend_from_slice(after_first_line(&text)) {
-        Ok(()) => Ok(report),
-        Err(_) => Err(Stop::Memory),
-    }
+    report
+        .extend_from_slice(after_first_line(&text))
+        .map_err(|_| Stop::Memory)?;
+    Ok(report)
 }

@@ -10,6 +10,7 @@ mod names;
 mod origins;
 mod picture;
 mod replay;
+mod running;
 mod session;
 mod switched;
 mod tasks;

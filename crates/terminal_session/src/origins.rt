@@ -1,6 +1,6 @@
 //! Where the tasks and the names of a step come from, by the lines of the job.
 
-use job_script::{names_set, read_line};
+use job_script::names_set;
 use mvs_job::{LineEvent, Session};
 use mvs_model::answer::Answer;
 use mvs_model::error::OutOfMemory;
@@ -58,19 +58,19 @@ impl Origins {
                 return Ok(origins);
             }
             let number = session.walk().number();
-            match session.line(line.bytes()) {
-                Ok(event) => origins.keep(number, line.bytes(), &event)?,
-                Err(_) => return Err(OutOfMemory),
-            }
+            let Ok(event) = session.line(line.bytes()) else {
+                return Err(OutOfMemory);
+            };
+            origins.keep(number, session.walk().read(), &event)?;
         }
         Ok(origins)
     }
 
-    // Keeps what a line made.
-    fn keep(&mut self, number: u32, line: &[u8], event: &LineEvent) -> Result<(), OutOfMemory> {
+    // Keeps what a line made that says this.
+    fn keep(&mut self, number: u32, read: &Line, event: &LineEvent) -> Result<(), OutOfMemory> {
         match event {
             LineEvent::StepBegan { card, .. } => self.begin(card.name()),
-            LineEvent::Answered { task, answer } => self.keep_answer(number, line, *task, answer),
+            LineEvent::Answered { task, answer } => self.keep_answer(number, read, *task, answer),
             LineEvent::Nothing | LineEvent::Faulted(_) => Ok(()),
         }
     }
@@ -88,15 +88,11 @@ impl Origins {
     fn keep_answer(
         &mut self,
         number: u32,
-        line: &[u8],
+        read: &Line,
         task: Name,
         answer: &Answer,
     ) -> Result<(), OutOfMemory> {
-        let mut read = Line::Nothing;
-        let Ok(()) = read_line(line, false, &mut read) else {
-            return Ok(());
-        };
-        let Line::Statement(_, Statement::Request(request)) = &read else {
+        let Line::Statement(_, Statement::Request(request)) = read else {
             return Ok(());
         };
         if let (SourceRequest::Attach { name, .. }, Answer::Attached) = (request, answer) {

@@ -5,23 +5,12 @@ ghost use Rattle.std.specs.List.{AllByRecursion};
 ghost use Rattle.mvs_model.specs.Lines.{IsUnended};
 ghost use Rattle.mvs_model.specs.Numbers.{most_script_bytes};
 ghost use Rattle.mvs_job.specs.LineEvents.{new_walk};
-ghost use Rattle.mvs_job.specs.Streams.{fault_of};
 ghost use Rattle.terminal_session.specs.Sessions.{Replays};
 
 use job_script::LineBuffer;
-use mvs_job::{Consumer, RunFault, Stop, Walk, run_entry};
+use mvs_job::{Consumer, Stop, Walk, run_entry};
 use mvs_model::watched::Watched;
 use std::io::Write;
-
-/// Returns why a job stops whose line stops.
-pub fn fault_of(stop: Stop) -> RunFault
-    ensures { result ≡ fault_of stop }
-{
-    match stop {
-        Stop::Write => RunFault::Write,
-        Stop::Memory => RunFault::Memory,
-    }
-}
 
 /// Runs lines from the first one of a job on. Returns whether the job continues.
 pub fn replay<W: Write, C: Consumer>(
@@ -40,10 +29,9 @@ pub fn replay<W: Write, C: Consumer>(
     ensures write { IsErrOf result Stop.Write → writer.new.failed ≡ true }
 {
     for line in lines {
-        match run_entry(walk, line.bytes(), &[], writer, consumer) {
-            Ok(true) => {}
-            Ok(false) => return Ok(false),
-            Err(stop) => return Err(stop),
+        let continues = run_entry(walk, line.bytes(), &[], writer, consumer)?;
+        if !continues {
+            return Ok(false);
         }
     }
     Ok(true)

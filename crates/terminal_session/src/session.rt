@@ -1,18 +1,19 @@
 //! A session: the lines that are typed are run as they come, in a job that can be run again without the last of them.
 
 ghost use Rattle.std.specs.Prelude.{◌≡◌, ◌≢◌, ◌<◌, ◌≤◌, ◌+◌, ◌⊎◌, [], List, Option, Ok, ℕ, false, true, IfErr, IfOk, IsErrOf, OnOk, length};
-ghost use Rattle.std.specs.Io.KnownBytes.{Consumes, IsAtEnd};
+ghost use Rattle.std.specs.Io.KnownBytes.{Consumes, IsAtEnd, Keeps};
 ghost use Rattle.mvs_model.specs.Numbers.{most_script_bytes};
 ghost use Rattle.shell.specs.Edits.{edit_of};
 ghost use Rattle.terminal_session.specs.Sessions.{Fails, IsUnderWay, Stops, without_keys};
-ghost use Rattle.terminal_session.specs.Steps.{Accepts, Awaits, EndsJob, FailsFrom, Obeys, StepsFrom, StopsFrom};
+ghost use Rattle.terminal_session.specs.Steps.{Accepts, Awaits, EndsJob, FailsFrom, Obeys, StepsFrom, StopsFrom, read_fault};
 
 use crate::answers::View;
-use crate::keeping::{keep, next_number, script_of};
-use crate::replay::{fault_of, replay};
+use crate::keeping::{append, next_number, script_of};
+use crate::replay::replay;
+use crate::running::run_parsed;
 use job_script::LineBuffer;
-use mvs_job::{Consumer, RunFault, Walk, run_end, run_entry};
-use mvs_model::line::{Fault, Line};
+use mvs_job::{Consumer, RunFault, Walk, run_end};
+use mvs_model::line::Fault;
 use mvs_model::outcome::Outcome;
 use mvs_model::want::Placement;
 use mvs_model::watched::Watched;
@@ -65,8 +66,6 @@ pub enum JobStop {
 enum Step {
     /// The next line is awaited.
     Next,
-    /// The job ends with a fault.
-    Faulted,
     /// The lines of the job have changed.
     Again,
     /// There are no more lines.
@@ -83,7 +82,6 @@ pub struct TerminalSession<R, H> {
     placement: Placement,
     /// Whether sequences of keys and control bytes are removed from lines.
     cleans: bool,
-    read: Line,
 }
 
 impl<R, H> Model for TerminalSession<R, H> {
@@ -116,7 +114,6 @@ impl<R, H> TerminalSession<R, H> {
             script: SessionScript::new(alloc),
             placement,
             cleans,
-            read: Line::Nothing,
         }
     }
 
@@ -149,33 +146,51 @@ fn end_job<W: Write, C: Consumer>(
     ensures write { IsErrOf result RunFault.Write → writer.new.failed ≡ true }
     ensures read { ¬ IsErrOf result RunFault.Read }
 {
-    match run_end(walk, writer, consumer) {
-        Ok(outcome) => Ok(JobStop::Ended(outcome)),
-        Err(stop) => Err(fault_of(stop)),
-    }
+    let outcome = run_end(walk, writer, consumer)?;
+    Ok(JobStop::Ended(outcome))
+}
+
+// Passes on what was written before a read that may wait.
+fn pass_on<W: Write>(writer: &mut Watched<W>) -> Result<(), RunFault>
+    ensures bytes { Keeps (W.contents writer.old.inner) (W.contents writer.new.inner) }
+    ensures ok { OnOk result (writer.new.failed ≡ writer.old.failed) }
+    ensures err { IfErr result (λ fault. (fault ≡ RunFault.Write) × (writer.new.failed ≡ true)) }
+{
+    writer.flush().map_err(|_| RunFault::Write)
 }
 
 impl<R: Read, H: Host> TerminalSession<R, H> {
-    // Returns the text of a typed line, and reports the sequence of a key in it.
-    fn text_of(&mut self, line: LineBuffer) -> LineBuffer
-        ensures text { result ≡ without_keys self.old.cleans line }
+    // Removes the sequences of keys from a typed line, and reports that.
+    fn clean_line(&mut self, line: &mut LineBuffer)
+        ensures text { line.new ≡ without_keys self.old.cleans line.old }
         ensures same { (self.new.input ≡ self.old.input) × (self.new.script ≡ self.old.script)
             × (self.new.cleans ≡ self.old.cleans) }
     {
-        if !self.cleans || line.bytes().len() == 256 {
-            return line;
+        if !self.cleans || line.bytes().len() >= 256 {
+            return;
         }
         let mut text = LineBuffer::new();
         if clean(line.bytes(), &mut text) {
             self.host.on_key();
         }
-        text
+        *line = text;
     }
 
-    // Reads a line. Returns its text, or None if there is none.
-    fn await_line(&mut self) -> Result<Option<LineBuffer>, RunFault>
+    // Returns why a line could not be read.
+    fn read_fault(&self) -> RunFault
+        ensures { result ≡ read_fault self.now.input.count }
+    {
+        if self.input.is_long() {
+            RunFault::ReadTooLong
+        } else {
+            RunFault::Read
+        }
+    }
+
+    // Reads a line, and writes its text over `line`. Returns false if there is none.
+    fn await_line(&mut self, line: &mut LineBuffer) -> Result<bool, RunFault>
         ensures awaits { Awaits self.old.cleans (R.remaining self.old.input.inner.inner)
-            (R.remaining self.new.input.inner.inner) self.old.input self.new.input result }
+            (R.remaining self.new.input.inner.inner) self.old.input self.new.input line.new result }
         ensures at_end { (self.old.input.ended ≡ true
             → IsAtEnd (R.remaining self.old.input.inner.inner))
             → self.new.input.ended ≡ true → IsAtEnd (R.remaining self.new.input.inner.inner) }
@@ -184,19 +199,17 @@ impl<R: Read, H: Host> TerminalSession<R, H> {
         ensures read { IsErrOf result RunFault.Read → self.new.input.inner.failed ≡ true }
     {
         self.host.on_prompt(next_number(&self.script));
-        let mut line = LineBuffer::new();
-        match self.input.read_line(&mut line) {
-            Ok(true) => Ok(Some(self.text_of(line))),
-            Ok(false) => {
-                self.host.on_end();
-                Ok(None)
-            }
-            Err(_) if self.input.is_long() => Err(RunFault::ReadTooLong),
-            Err(_) => Err(RunFault::Read),
+        let read = self.input.read_line(line);
+        let has_line = read.map_err(|_| self.read_fault())?;
+        if has_line {
+            self.clean_line(line);
+        } else {
+            self.host.on_end();
         }
+        Ok(has_line)
     }
 
-    // Runs a line, and keeps it; or reports its fault.
+    // Keeps a line and runs it, or reports its fault.
     fn accept<W: Write, C: Consumer>(
         &mut self,
         walk: &mut Walk,
@@ -214,16 +227,13 @@ impl<R: Read, H: Host> TerminalSession<R, H> {
         ensures write { IsErrOf result RunFault.Write → writer.new.failed ≡ true }
         ensures read { ¬ IsErrOf result RunFault.Read }
     {
-        match keep(&mut self.script, &mut self.read, &mut self.host, line) {
-            Ok(true) => {}
-            Ok(false) => return Ok(Step::Next),
-            Err(fault) => return Err(fault),
+        if let Err(fault) = walk.parse(line) {
+            self.host.on_fault(next_number(&self.script), line, fault);
+            return Ok(Step::Next);
         }
-        match run_entry(walk, line, &[], writer, consumer) {
-            Ok(true) => Ok(Step::Next),
-            Ok(false) => Ok(Step::Faulted),
-            Err(stop) => Err(fault_of(stop)),
-        }
+        append(&mut self.script, line)?;
+        run_parsed(walk, line, writer, consumer)?;
+        Ok(Step::Next)
     }
 
     // Replaces the lines of the job by those of the file that a command names, if it can be read.
@@ -237,7 +247,7 @@ impl<R: Read, H: Host> TerminalSession<R, H> {
         let Some(text) = self.host.open(self.alloc, name) else {
             return Step::Next;
         };
-        match script_of(self.alloc, &mut self.read, &mut self.host, &text) {
+        match script_of(self.alloc, &mut self.host, &text) {
             Ok(script) => {
                 self.script = script;
                 Step::Again
@@ -285,10 +295,11 @@ impl<R: Read, H: Host> TerminalSession<R, H> {
         }
     }
 
-    // Runs the next line, or does what it asks for.
+    // Reads the next line into `line`, and runs it, or does what it asks for.
     fn step<W: Write, C: Consumer>(
         &mut self,
         walk: &mut Walk,
+        line: &mut LineBuffer,
         writer: &mut Watched<W>,
         consumer: &mut C,
     ) -> Result<Step, RunFault>
@@ -307,14 +318,11 @@ impl<R: Read, H: Host> TerminalSession<R, H> {
         ensures read { IsErrOf result RunFault.Read → self.new.input.inner.failed ≡ true }
         ensures write { IsErrOf result RunFault.Write → writer.new.failed ≡ true }
     {
-        if writer.flush().is_err() {
-            return Err(RunFault::Write);
+        pass_on(writer)?;
+        let has_line = self.await_line(line)?;
+        if !has_line {
+            return Ok(Step::Quit);
         }
-        let line = match self.await_line() {
-            Ok(Some(line)) => line,
-            Ok(None) => return Ok(Step::Quit),
-            Err(fault) => return Err(fault),
-        };
         if is_command(line.bytes()) {
             Ok(self.obey(walk, line.bytes()))
         } else {
@@ -355,16 +363,15 @@ impl<R: Read, H: Host> TerminalSession<R, H> {
         ensures read { IsErrOf result RunFault.Read → self.new.input.inner.failed ≡ true }
         ensures write { IsErrOf result RunFault.Write → writer.new.failed ≡ true }
     {
+        let mut line = LineBuffer::new();
         'typed: loop {
-            match self.step(walk, writer, consumer) {
-                Ok(Step::Next) => {}
-                Ok(Step::Faulted) => return Ok(JobStop::Ended(Outcome::ScriptFault)),
-                Ok(Step::Again) => {
+            match self.step(walk, &mut line, writer, consumer)? {
+                Step::Next => {}
+                Step::Again => {
                     self.report_restart();
                     return Ok(JobStop::Again);
                 }
-                Ok(Step::Quit) => return end_job(walk, writer, consumer),
-                Err(fault) => return Err(fault),
+                Step::Quit => return end_job(walk, writer, consumer),
             }
         }
     }
@@ -398,10 +405,10 @@ impl<R: Read, H: Host> TerminalSession<R, H> {
     {
         let mut walk = Walk::new(self.alloc, self.placement);
         let former = self.script.lines();
-        match replay(&mut walk, former, writer, consumer) {
-            Ok(true) => self.run_typed(&mut walk, writer, consumer),
-            Ok(false) => Ok(JobStop::Ended(Outcome::ScriptFault)),
-            Err(stop) => Err(fault_of(stop)),
+        let continues = replay(&mut walk, former, writer, consumer)?;
+        if !continues {
+            return Ok(JobStop::Ended(Outcome::ScriptFault));
         }
+        self.run_typed(&mut walk, writer, consumer)
     }
 }

@@ -5,4 +5,4 @@ use Rattle.judge.proofs.settle.Goals as goal
 
 pub returns-in-Excluded-clause-agrees : goal.returns-in-Excluded-clause-agrees
 returns-in-Excluded-clause-agrees c =
-    (none_found c.args.script.now c.args.output.now c.args.judgement.text.items c.args.judgement.outcome c.requires.run (subst (IsRuling c.args.script.now c.args.output.now) c.in-Excluded.is c.in-Ok.ensures)).2
+    (none_found c.args.script.now c.args.output.now c.args.judgement.text.items c.args.judgement.outcome c.requires.run (subst (IsRuling c.args.script.now c.args.output.now) c.in-Excluded.is c.requires.ruling)).2

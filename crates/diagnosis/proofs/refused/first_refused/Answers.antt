@@ -33,9 +33,9 @@ pub operands-preserved : goal.operands-preserved
 operands-preserved c =
     let on = c.operands.invariant.on in
     let operand = c.next_operand.result.0.now in
-    let next = c.in-Some.next.now in
-    let rest : parts_within 0 (field_in c.operands.rest.now) ≡ operand ∷ parts_within 0 (field_in next) = rw c.in-Some.is at c.next_operand.ensures.parts in
-    let cut : c.operands.rest.now ≡ operand ++ 44 ∷ next = rw c.in-Some.is at c.next_operand.ensures.cut in
+    let next = c.in_ok-rest.rest.now in
+    let rest : parts_within 0 (field_in c.operands.rest.now) ≡ operand ∷ parts_within 0 (field_in next) = rw c.in_ok-rest.was at c.next_operand.ensures.parts in
+    let cut : c.operands.rest.now ≡ operand ++ 44 ∷ next = rw c.in_ok-rest.was at c.next_operand.ensures.cut in
     let long : length c.operands.rest.now ≡ length operand + (length next + 1) = ap length cut ∙ length-append operand (44 ∷ next) ∙ ap (λ n. length operand + n) (omega arith) in
     let taken = c.in_default.ensures on.left on.given in
     let place : c.operands.at + (length operand + 1) ≡ _ = ap (λ n. n + (length operand + 1)) c.operands.invariant.place ∙ sym (before_more on.left operand) in

@@ -17,7 +17,7 @@ lines-init c = record {
 
 pub lines-preserved : goal.lines-preserved
 lines-preserved c =
-    let r = rules_next c.args.script.now c.args.output.now _ _ _ c.lines.at c.lines.invariant.follows.0 (c.line_end-end.result + 1) c.lines.walk c.compare_line.new.walk (take_rest c.args.script.now c.lines.at) c.lines.invariant.follows.1 c.line_end-end.ensures.lines c.lines.invariant.follows.2 c.in-Agrees.len (subst (IsVerdict c.lines.walk _ _ c.compare_line.new.walk) c.in-Agrees.is c.in_ok-verdict.ensures.verdict) in
+    let r = rules_next c.args.script.now c.args.output.now _ _ _ c.lines.at c.lines.invariant.follows.0 (c.line_end-end.result + 1) c.lines.walk c.compare_line.new.walk (take_rest c.args.script.now c.lines.at) c.lines.invariant.follows.1 c.line_end-end.ensures.lines c.lines.invariant.follows.2 c.lines.invariant.number c.lines-test.true c.requires.short c.in-Agrees.len (subst (IsVerdict c.lines.walk _ _ c.compare_line.new.walk) c.in-Agrees.is c.in_ok-verdict.ensures.verdict) in
     record {
       follows = (c.lines.invariant.follows.0 + c.in-Agrees.len, c.text_after-left.ensures ∙ ap (drop c.in-Agrees.len) c.lines.invariant.follows.1 ∙ drop-drop c.in-Agrees.len c.lines.invariant.follows.0 c.args.output.now, r.0);
       within = let e = c.line_end-end.ensures.within in omega (arith, e, c.lines-test.true);

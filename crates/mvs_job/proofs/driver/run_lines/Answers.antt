@@ -1,5 +1,6 @@
 use Rattle.std.proofs.Common.{refl, ap, arith, ◌≡◌, ◌∙◌, drop}
 use Rattle.std.proofs.lemmas.List.{take_rest}
+use Rattle.std.proofs.lemmas.Result.{err_from_is_err_and}
 use Rattle.mvs_job.proofs.LineEnd.{none_left}
 use Rattle.mvs_job.proofs.Looping.{at_end, at_fault, at_next, at_start, at_stop}
 use Rattle.mvs_job.proofs.driver.run_lines.Goals as goal
@@ -14,19 +15,20 @@ lines-init g c = record {
 
 pub lines-preserved : goal.lines-preserved
 lines-preserved g c = record {
-  at = at_next g.C.Consumer.piece (g.C.Consumer.knows c.args.consumer.now) _ c.args.script.now _ _ _ c.lines.at c.line_end-len.result c.lines.walk c.run_entry.new.walk _ _ (take_rest c.args.script.now c.lines.at) c.line_end-len.ensures.lines c.lines.invariant.at c.in-Ok-true.ensures.number _ c.in-Ok-true.field-0-test (c.in-Ok-true.ensures.ran c.args.consumer.now);
+  at = at_next g.C.Consumer.piece (g.C.Consumer.knows c.args.consumer.now) _ c.args.script.now _ _ _ c.lines.at c.line_end-len.result c.lines.walk c.run_entry.new.walk _ _ (take_rest c.args.script.now c.lines.at) c.line_end-len.ensures.lines c.lines.invariant.at c.in_ok-continues.ensures.number _ c.if-not-continues.false (c.in_ok-continues.ensures.ran c.args.consumer.now);
   within = let e = c.line_end-len.ensures.within in omega (arith, e, c.lines-test.true);
-  number = omega (arith, c.in-Ok-true.ensures.number, c.lines.invariant.number);
-  same = c.in-Ok-true.ensures.ok ∙ c.lines.invariant.same;
+  number = omega (arith, c.in_ok-continues.ensures.number, c.lines.invariant.number);
+  same = c.in_ok-continues.ensures.ok ∙ c.lines.invariant.same;
 }
 
-pub returns-in-Ok-false-clause-written : goal.returns-in-Ok-false-clause-written
-returns-in-Ok-false-clause-written g c =
-    at_fault g.C.Consumer.piece (g.C.Consumer.knows c.args.consumer.now) _ c.args.script.now _ _ _ c.lines.at c.line_end-len.result c.lines.walk c.run_entry.new.walk _ _ (take_rest c.args.script.now c.lines.at) c.line_end-len.ensures.lines c.lines.invariant.at _ c.in-Ok-false.field-0-test (c.in-Ok-false.ensures.ran c.args.consumer.now)
+pub returns-then-not-continues-clause-written : goal.returns-then-not-continues-clause-written
+returns-then-not-continues-clause-written g c =
+    at_fault g.C.Consumer.piece (g.C.Consumer.knows c.args.consumer.now) _ c.args.script.now _ _ _ c.lines.at c.line_end-len.result c.lines.walk c.run_entry.new.walk _ _ (take_rest c.args.script.now c.lines.at) c.line_end-len.ensures.lines c.lines.invariant.at _ c.if-not-continues.true (c.in_ok-continues.ensures.ran c.args.consumer.now)
 
-pub returns-in-Err-clause-written : goal.returns-in-Err-clause-written
-returns-in-Err-clause-written g c =
-    at_stop g.C.Consumer.piece (g.C.Consumer.knows c.args.consumer.now) _ c.args.script.now _ _ _ c.lines.at c.line_end-len.result c.lines.walk c.run_entry.new.walk c.lines.consumer c.run_entry.new.consumer (take_rest c.args.script.now c.lines.at) c.line_end-len.ensures.lines c.lines.invariant.at c.in-Err.stop (c.in-Err.ensures.ran c.args.consumer.now)
+pub returns-in_err-continues-clause-written : goal.returns-in_err-continues-clause-written
+returns-in_err-continues-clause-written g c =
+    let p = err_from_is_err_and c.from_residual.result c.from_residual.ensures.1 in
+    rw (p.1, p.2) (at_stop g.C.Consumer.piece (g.C.Consumer.knows c.args.consumer.now) _ c.args.script.now _ _ _ c.lines.at c.line_end-len.result c.lines.walk c.run_entry.new.walk c.lines.consumer c.run_entry.new.consumer (take_rest c.args.script.now c.lines.at) c.line_end-len.ensures.lines c.lines.invariant.at c.in_err-continues.field-0.0 (c.in_err-continues.ensures.ran c.args.consumer.now))
 
 pub returns-clause-written : goal.returns-clause-written
 returns-clause-written g c =

@@ -6,9 +6,9 @@ use Rattle.std.proofs.lemmas.List.Sorted.{IsPermutation-insert}
 use Rattle.mvs_model.specs.declared.name.Name.{Name}
 use Rattle.mvs_job.proofs.name_order.put_in_order.Goals as goal
 
-pub returns-in-Ok-clause-ok : goal.returns-in-Ok-clause-ok
-returns-in-Ok-clause-ok c =
+pub returns-clause-ok : goal.returns-clause-ok
+returns-clause-ok c =
     let old : List (Name × ℕ) = c.args.order.now.items in
     let one : Name × ℕ = (c.args.name, c.args.number) in
-    let is = c.insert.ensures.items ∙ ap (λ r. cond (is_ok r) (insert old c.count_up_to-at.result one) old) c.in-Ok.is in
+    let is = c.insert.ensures.items ∙ ap (λ b. cond b (insert old c.count_up_to-at.result one) old) (sym c.map_err.ensures.variant ∙ ap is_ok c.in_ok-map_err.was) in
     subst (IsPermutation (one ∷ old)) (sym is) (IsPermutation-insert old c.count_up_to-at.result one)

@@ -1,6 +1,6 @@
 use Rattle.std.proofs.Common.{◌≡◌, ◌∙◌, ap, codes}
 use Rattle.clap.specs.Words.{app_of, with_rule}
-use Rattle.mvsjob.specs.CommandLine.{AreParsers, Parsers, answers_app, checking_app, command, judging_app, random_app, rule_app, output_app, second_app, value_rule}
+use Rattle.mvsjob.specs.CommandLine.{AreParsers, Parsers, answers_app, checking_app, command, judging_app, random_app, rule_app, output_app, schedules_app, second_app, value_rule}
 use Rattle.mvsjob.proofs.Assigning.{if_ok}
 use Rattle.mvsjob.proofs.command_line.command.Goals as goal
 
@@ -20,8 +20,9 @@ returns c =
     let code = c.in_ok-coded.ensures in
     let coded = code.2 ∙ ap (λ a. with_rule a (value_rule (codes "code") code.0)) colored in
     let ruled = c.in_ok-ruled.ensures ∙ ap rule_app coded in
-    if_ok c.with_second.result _ (λ new. (ps : Parsers) × AreParsers ps × (app_of new ≡ command ps)) c.with_second.ensures (λ new made. (
+    let seconded = c.in_ok-seconded.ensures ∙ ap second_app ruled in
+    if_ok c.with_schedules.result _ (λ new. (ps : Parsers) × AreParsers ps × (app_of new ≡ command ps)) c.with_schedules.ensures (λ new made. (
       record { place = placed.0; format = formatted.0; profile = profiled.0; color = color.0; code = code.0 },
       record { place = placed.1; format = formatted.1; profile = profiled.1; color = color.1; code = code.1 },
-      made ∙ ap second_app ruled,
+      made ∙ ap schedules_app seconded,
     ))

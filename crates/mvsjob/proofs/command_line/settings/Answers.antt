@@ -49,5 +49,9 @@ returns-clause-ok c =
         color = rw (← found (codes "color")) c.color.ensures;
         format = rw (← found (codes "format")) c.format.ensures;
         hidden = rw (← found (codes "hide")) c.is_set-5.ensures;
+        schedule = rw (← found (codes "schedule")) c.get_str-2.ensures;
+        second_schedule = rw (← found (codes "with-schedule")) c.get_str-3.ensures;
+        most = rw (← found (codes "most")) c.most_schedules.ensures;
+        ignores = rw (← found (codes "ignore-addresses")) c.is_set-6.ensures;
       },
     )

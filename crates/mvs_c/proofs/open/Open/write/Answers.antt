@@ -9,4 +9,4 @@ use Rattle.mvs_c.proofs.open.Open.write.Goals as goal
 pub invariant_of-self-else-written : goal.invariant_of-self-else-written
 invariant_of-self-else-written c =
     let w = c.self.inside.session.walk in
-    subst (λ (walk : WalkValue). LastIsAvailable walk c.self.inside.last) (sym (unwritten w.step w.number w.read w.reply c.args.place c.args.bytes.now c.write-written.new.self.walk (subst (λ written. WritesOf w c.args.place c.args.bytes.now written c.write-written.new.self.walk) c.if-written.false c.write-written.ensures.written))) c.self.invariant
+    subst (λ (walk : WalkValue). LastIsAvailable walk c.self.inside.last) (sym (unwritten w.step w.number w.read w.request w.reply c.args.place c.args.bytes.now c.write-written.new.self.walk (subst (λ written. WritesOf w c.args.place c.args.bytes.now written c.write-written.new.self.walk) c.if-written.false c.write-written.ensures.written))) c.self.invariant

@@ -1,27 +1,31 @@
-use Rattle.std.proofs.Common.{arith, length, ap, Err}
+use Rattle.std.proofs.Common.{arith, length, ap, refl, Err}
+use Rattle.std.proofs.lemmas.Result.{err_from_is_err_and}
 use Rattle.mvs_job.proofs.Feeding.{read_failed, read_end, read_end_stopped, read_on, read_fault, read_stopped}
 use Rattle.mvs_job.proofs.stream.Stream.pump.Goals as goal
 
-pub returns-in-Err-clause-pump : goal.returns-in-Err-clause-pump
-returns-in-Err-clause-pump g c = λ first unread start count u.
-    read_failed g.C.Consumer.piece (g.C.Consumer.knows first) _ _ _ _ _ _ _ _ _ _ u c.in-Err.ensures.unwritten (length c.args.chunk.now) c.in-Err.fault (λ e. c.in-Err.ensures.not_memory (ap (λ x. Err x) e)) (λ e. c.in-Err.ensures.not_long (ap (λ x. Err x) e)) c.in-Err.ensures.bytes
+pub returns-in_err-count-clause-pump : goal.returns-in_err-count-clause-pump
+returns-in_err-count-clause-pump g c =
+    let p = err_from_is_err_and c.from_residual.result c.from_residual.ensures.1 in
+    rw (p.1, p.2) (λ first unread start count u. read_failed g.C.Consumer.piece (g.C.Consumer.knows first) _ _ _ _ _ _ _ _ _ _ u c.in_err-count.ensures.unwritten (length c.args.chunk.now) c.in_err-count.field-0.0 (λ e. c.in_err-count.ensures.not_memory (ap (λ x. Err x) e)) (λ e. c.in_err-count.ensures.not_long (ap (λ x. Err x) e)) c.in_err-count.ensures.bytes)
 
-pub returns-in-Ok-finish-clause-pump : goal.returns-in-Ok-finish-clause-pump
-returns-in-Ok-finish-clause-pump g c = λ first unread start count u.
-    read_end g.C.Consumer.piece (g.C.Consumer.knows first) _ _ _ _ _ _ _ _ _ _ u c.in-Ok.ensures.unwritten _ _ c.in-Ok.count _ c.read.new.chunk (omega arith) c.if-count-eq0.true (c.in-Ok.ensures.end c.if-count-eq0.true (omega (arith, c.in-Ok.ensures.room))) c.in-Ok.ensures.bytes c.in-Ok-finish.outcome (c.in-Ok-finish.ensures.bytes first)
+pub returns-then-count-eq0-clause-pump : goal.returns-then-count-eq0-clause-pump
+returns-then-count-eq0-clause-pump g c = λ first unread start count u.
+    read_end g.C.Consumer.piece (g.C.Consumer.knows first) _ _ _ _ _ _ _ _ _ _ u c.in_ok-count.ensures.unwritten _ _ c.in_ok-count.count _ c.read.new.chunk (omega arith) c.if-count-eq0.true (c.in_ok-count.ensures.end c.if-count-eq0.true (omega (arith, c.in_ok-count.ensures.room))) c.in_ok-count.ensures.bytes c.in_ok-finish.field-0 (c.in_ok-finish.ensures.bytes first)
 
-pub returns-in-Err-finish-clause-pump : goal.returns-in-Err-finish-clause-pump
-returns-in-Err-finish-clause-pump g c = λ first unread start count u.
-    read_end_stopped g.C.Consumer.piece (g.C.Consumer.knows first) _ _ _ _ _ _ _ _ _ _ u c.in-Ok.ensures.unwritten _ _ c.in-Ok.count _ c.read.new.chunk (omega arith) c.if-count-eq0.true (c.in-Ok.ensures.end c.if-count-eq0.true (omega (arith, c.in-Ok.ensures.room))) c.in-Ok.ensures.bytes c.in-Err-finish.stop _ c.fault_of.ensures (c.in-Err-finish.ensures.bytes first)
+pub returns-in_err-finish-clause-pump : goal.returns-in_err-finish-clause-pump
+returns-in_err-finish-clause-pump g c =
+    let p = err_from_is_err_and c.from_residual-in_err-finish.result c.from_residual-in_err-finish.ensures.1 in
+    rw (p.1, p.2) (λ first unread start count u. read_end_stopped g.C.Consumer.piece (g.C.Consumer.knows first) _ _ _ _ _ _ _ _ _ _ u c.in_ok-count.ensures.unwritten _ _ c.in_ok-count.count _ c.read.new.chunk (omega arith) c.if-count-eq0.true (c.in_ok-count.ensures.end c.if-count-eq0.true (omega (arith, c.in_ok-count.ensures.room))) c.in_ok-count.ensures.bytes c.in_err-finish.field-0.0 _ refl (c.in_err-finish.ensures.bytes first))
 
-pub returns-in-Ok-true-clause-pump : goal.returns-in-Ok-true-clause-pump
-returns-in-Ok-true-clause-pump g c = λ first unread start count u.
-    read_on g.C.Consumer.piece (g.C.Consumer.knows first) _ _ _ _ _ _ _ _ _ _ u c.in-Ok.ensures.unwritten _ (length c.args.chunk.now) c.in-Ok.count _ _ _ c.read.new.chunk c.in-Ok.ensures.bytes c.in-Ok.ensures.bound (omega (arith, c.in-Ok.ensures.room)) c.in-Ok-true.ensures.room _ c.in-Ok-true.field-0-test (c.in-Ok-true.ensures.bytes first)
+pub returns-clause-pump : goal.returns-clause-pump
+returns-clause-pump g c = λ first unread start count u.
+    read_on g.C.Consumer.piece (g.C.Consumer.knows first) _ _ _ _ _ _ _ _ _ _ u c.in_ok-count.ensures.unwritten _ (length c.args.chunk.now) c.in_ok-count.count _ _ _ c.read.new.chunk c.in_ok-count.ensures.bytes c.in_ok-count.ensures.bound (omega (arith, c.in_ok-count.ensures.room)) c.in_ok-continues.ensures.room _ c.if-not-continues.false (c.in_ok-continues.ensures.bytes first)
 
-pub returns-in-Ok-false-clause-pump : goal.returns-in-Ok-false-clause-pump
-returns-in-Ok-false-clause-pump g c = λ first unread start count u.
-    read_fault g.C.Consumer.piece (g.C.Consumer.knows first) _ _ _ _ _ _ _ _ _ _ u c.in-Ok.ensures.unwritten _ (length c.args.chunk.now) c.in-Ok.count c.feed_all.new.self.walk c.feed_all.new.self.line _ c.read.new.chunk c.in-Ok.ensures.bytes c.in-Ok.ensures.bound (omega (arith, c.in-Ok.ensures.room)) _ c.in-Ok-false.field-0-test (c.in-Ok-false.ensures.bytes first)
+pub returns-then-not-continues-clause-pump : goal.returns-then-not-continues-clause-pump
+returns-then-not-continues-clause-pump g c = λ first unread start count u.
+    read_fault g.C.Consumer.piece (g.C.Consumer.knows first) _ _ _ _ _ _ _ _ _ _ u c.in_ok-count.ensures.unwritten _ (length c.args.chunk.now) c.in_ok-count.count c.feed_all.new.self.walk c.feed_all.new.self.line _ c.read.new.chunk c.in_ok-count.ensures.bytes c.in_ok-count.ensures.bound (omega (arith, c.in_ok-count.ensures.room)) _ c.if-not-continues.true (c.in_ok-continues.ensures.bytes first)
 
-pub returns-in-Err-feed_all-clause-pump : goal.returns-in-Err-feed_all-clause-pump
-returns-in-Err-feed_all-clause-pump g c = λ first unread start count u.
-    read_stopped g.C.Consumer.piece (g.C.Consumer.knows first) _ _ _ _ _ _ _ _ _ _ u c.in-Ok.ensures.unwritten _ (length c.args.chunk.now) c.in-Ok.count c.feed_all.new.self.walk c.feed_all.new.self.line _ c.read.new.chunk c.in-Ok.ensures.bytes c.in-Ok.ensures.bound (omega (arith, c.in-Ok.ensures.room)) c.in-Err-feed_all.stop _ c.fault_of-in-Err-feed_all.ensures (c.in-Err-feed_all.ensures.bytes first)
+pub returns-in_err-continues-clause-pump : goal.returns-in_err-continues-clause-pump
+returns-in_err-continues-clause-pump g c =
+    let p = err_from_is_err_and c.from_residual-in_err-continues.result c.from_residual-in_err-continues.ensures.1 in
+    rw (p.1, p.2) (λ first unread start count u. read_stopped g.C.Consumer.piece (g.C.Consumer.knows first) _ _ _ _ _ _ _ _ _ _ u c.in_ok-count.ensures.unwritten _ (length c.args.chunk.now) c.in_ok-count.count c.feed_all.new.self.walk c.feed_all.new.self.line _ c.read.new.chunk c.in_ok-count.ensures.bytes c.in_ok-count.ensures.bound (omega (arith, c.in_ok-count.ensures.room)) c.in_err-continues.field-0.0 _ refl (c.in_err-continues.ensures.bytes first))

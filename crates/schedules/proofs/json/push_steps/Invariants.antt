@@ -1,0 +1,9 @@
+use Rattle.std.proofs.Common.{◌≡◌, ◌≤◌, ◌++◌, drop}
+use Rattle.schedules.specs.JsonReports.{json_from}
+use Rattle.schedules.proofs.json.push_steps.Given as goal
+
+abbrev pub invariant-loop-line : goal.invariant-loop-line
+invariant-loop-line l = record {
+  few : l.begun ≤ l.line-index;
+  rest : l.report.items ++ json_from l.steps l.begun (drop l.line-index l.lines) ≡ l.initial.report.items ++ json_from l.steps 0 l.lines;
+}

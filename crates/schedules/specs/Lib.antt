@@ -1,0 +1,16 @@
+pub mod Answered
+pub mod Counting
+pub mod Filling
+pub mod InOrder
+pub mod JsonReports
+pub mod Next
+pub mod Orders
+pub mod Outcomes
+pub mod Refusals
+pub mod Reports
+pub mod Schedules
+pub mod Scripts
+pub mod Searched
+pub mod Searching
+pub mod Tallies
+pub mod Texts
