@@ -245,11 +245,12 @@ impl<A: Answers> Server<A> {
             (sent_of turn) (exit_of turn) self.new) }
     {
         let mut scratch = Scratch::new(self.alloc);
-        match Value::parse(self.alloc, text, &mut scratch) {
-            Ok(value) => self.message(&value, arrived),
-            Err(json::Error::Invalid) => self.refuse(ErrorCode::ParseError),
-            Err(_) => Err(AllocError),
+        let parsed = Value::parse(self.alloc, text, &mut scratch);
+        if let Err(json::Error::Invalid) = parsed {
+            return self.refuse(ErrorCode::ParseError);
         }
+        let value = parsed.map_err(|_| AllocError)?;
+        self.message(&value, arrived)
     }
 
     // Returns what a server does for the content of a message.

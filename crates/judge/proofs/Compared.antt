@@ -23,6 +23,8 @@ use Rattle.mvs_model.specs.View.{IsBounded}
 use Rattle.judge.proofs.Reported.{report_cut, report_undigited}
 use Rattle.judge.proofs.Opened.{Found, opened, shown}
 use Rattle.judge.proofs.Mapped.{map_cut}
+use Rattle.judge.proofs.Shaped.{unlike}
+use Rattle.judge.specs.Shapes.{AreUnlike}
 use Rattle.judge.specs.Excluding.{BeginsWord, IsPast, ShowsSome}
 use Rattle.judge.specs.Reporting.{undigited}
 use Rattle.judge.specs.Outline.{AreAlike, BeginsOneOf, BeginsOpen, head, is_settled, openings, request_settled, way}
@@ -132,6 +134,13 @@ module _ (one other : JobValue) (t : Name) (s : Statement) (x y : Answer) (a b :
       let n = (does_found other t y b number s followed some (both_open f) e).0 in
       let both = one_text one.state.owners number t (shown s) x y u v m (subst (λ o. Measured o t (shown s) y) (sym like.owners) n) g in
       (alike_law one other t s x y a b like d e both.0, both.1)
+
+  -- the same answer in another shape
+  pub unlike_alike : (number : ℕ) (v front text : List ℕ) → is_followed s ≡ true → ShowsSome s → is_settled s x ≡ false → answer_text number t x ≡ head number t ++ front → answer_text number t y ++ v ≡ head number t ++ text → AreUnlike front text → ⊥
+  unlike_alike number v front text followed some f g h differs =
+      let m = (does_found one t x a number s followed some f d).0 in
+      let n = (does_found other t y b number s followed some (both_open f) e).0 in
+      unlike one.state.owners number t (shown s) x y m (subst (λ o. Measured o t (shown s) y) (sym like.owners) n) v front text g h differs
 
   pub begins_alike : (number : ℕ) (v : List ℕ) → ShowsSome s → is_settled s x ≡ false → BeginsOpen number t s (answer_text number t y ++ v)
   begins_alike number v some f = does_begins other t y b number s some (both_open f) e v

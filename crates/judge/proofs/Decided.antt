@@ -42,7 +42,7 @@ use Rattle.mvs_model.proofs.Tests.{false_true}
 use Rattle.mvs_job.specs.LineEvents.{ServesAsUnder, WalkValue, closing, events_of_line, new_walk}
 use Rattle.mvs_job.proofs.Serving.{serves_unconditionally}
 use Rattle.judge.specs.Judging.{GrantsAreShownBefore, GrantIsShown, IsNoPrinting, IsOpen, IsOpenAt, IsQuestion, leaves_open}
-use Rattle.judge.specs.Deciding.{Decides, DecidesBefore, DecidesFirst, InBounds, IsFoundFirst, LeavesFirst, IsClosed, IsFollowed, IsGrant, IsServed, MayPrint, PrintsEnd, HasReached, end_at, no_bytes}
+use Rattle.judge.specs.Deciding.{Decides, DecidesBefore, DecidesFirst, InBounds, IsFoundFirst, LeavesFirst, IsClosed, IsFollowed, IsGrant, IsSameJob, IsServed, MayPrint, PrintsEnd, HasReached, end_at, no_bytes}
 use Rattle.judge.proofs.Settled.{serves_same}
 use Rattle.judge.proofs.Areas.{Apart, asked, located}
 
@@ -541,10 +541,13 @@ module _ (script output rest left text : List ℕ) (at done taken : ℕ) (w w' :
     follows_no_more false false false ends d =
         (stands_fault script (take done output) text rest taken w w' d.0 d.1 stood d.2, none false d)
 
-  pub follows_open : w' ≡ w → IsOpen w.number w.step (lines_of rest) left → at ≤ length script → w.number ≤ at + 2 → IsFollowed script output w' at (take done output ++ []) true None w.number
-  follows_open same is within number =
-      subst (λ w'. IsFollowed script output w' at (take done output ++ []) true None w.number) (sym same)
-      ((opens_here is, [], opened_none is), (f.1.0, f.1.1, append-nil (take done output) ∙ f.1.2), within, number)
+  pub follows_open : IsSameJob w w' → IsOpen w.number w.step (lines_of rest) left → at ≤ length script → w.number ≤ at + 2 → IsFollowed script output w' at (take done output ++ []) true None w.number
+  follows_open same is within number = (
+    (opens_here is, [], opened_none is),
+    (f.1.0, subst (λ n. Reaches (lines_of script) f.1.0 n w'.step (lines_of (drop at script))) (sym same.0) (subst (λ step. Reaches (lines_of script) f.1.0 w.number step (lines_of (drop at script))) (sym same.1) f.1.1), append-nil (take done output) ∙ f.1.2),
+    within,
+    (let e = same.0 in omega (arith, e, number)),
+  )
 
 -- after the last line
 pub follows_to_end : (script output : List ℕ) (at done : ℕ) (w : WalkValue) (last : List ℕ) (outcome : Outcome) (passes : Bool) → length script ≤ at → Follows script output at done w → PrintsEnd w last outcome → Tests passes (drop done output ≡ last)

@@ -39,8 +39,9 @@ use Rattle.judge.proofs.Mapped.{Starts, starts_past, starts_word, walk_starts}
 use Rattle.judge.specs.Excluding.{Alike, BeginsWord, EndsMap, IsBegunLine, IsPast, IsUndecidedAt, IsVerdict, LineShowsSome, ShowsSome, answer_in, is_certain, is_shown}
 use Rattle.judge.specs.Reporting.{DiffersInReport, undigited}
 use Rattle.judge.specs.declared.exclusion.LineVerdict.TheVariants as verdict
-use Rattle.judge.specs.Outline.{AreAlike, BeginsOpen, is_settled}
-use Rattle.judge.proofs.Compared.{begins_alike, is_followed, map_alike, report_alike, report_same, settled_alike, shown_alike}
+use Rattle.judge.specs.Outline.{AreAlike, BeginsOpen, head, is_settled}
+use Rattle.judge.specs.Shapes.{AreUnlikeAfter, DiffersInShape}
+use Rattle.judge.proofs.Compared.{begins_alike, is_followed, map_alike, report_alike, report_same, settled_alike, shown_alike, unlike_alike}
 use Rattle.judge.proofs.Decided.{HasEvent, Serving, fault_served, line_served, may_serve, one_leads, event_cases}
 
 -- ---- a job is like itself
@@ -184,6 +185,11 @@ module _ (number : ℕ) (one other : JobValue) (t : Name) (s : Statement) (event
   step_begins : ((n : ℕ) (a : Answer) → events ≡ AnswerTo n t a ∷ [] → is_settled s a ≡ false) → ShowsSome s → (v : List ℕ) → BeginsOpen number t s (printing more ++ v)
   step_begins f some v = subst (BeginsOpen number t s) (sym (printed_other v)) (begins_alike one other t s x.0 y.0 x.1 y.1 like x.2 y.2 number v some (f number x.0 x.3))
 
+  step_unlike : ((n : ℕ) (a : Answer) → events ≡ AnswerTo n t a ∷ [] → is_settled s a ≡ false) → is_followed s ≡ true → ShowsSome s → (v printed text : List ℕ) → printed ≡ printing events → AreUnlikeAfter (head number t) printed text → text ≡ printing more ++ v → ⊥
+  step_unlike f followed some v printed text is (front, after, first, second, differs) e =
+      unlike_alike one other t s x.0 y.0 x.1 y.1 like x.2 y.2 number v front after followed some (f number x.0 x.3)
+      (sym (append-nil (answer_text number t x.0)) ∙ sym (printed_one []) ∙ append-nil (printing events) ∙ sym is ∙ first) (sym (printed_other v) ∙ sym e ∙ second) differs
+
 ending_alike : (one other : Option JobValue) → Alike one other → ending machine one ≡ ending machine other
 ending_alike None None like = refl
 ending_alike None (Some b) like = absurd like
@@ -256,6 +262,19 @@ module _ (number : ℕ) (events more : List Event) (new mid : Option JobValue) w
   report_lines old other (line.Statement t statement.ReportMap) bounds like x y f printed text is differs v e = absurd differs
   report_lines old other (line.Statement t (statement.Region below above fill residence)) bounds like x y f printed text is differs v e = absurd differs
   report_lines old other line.Nothing bounds like x y f printed text is differs v e = absurd differs
+
+  -- the same answer in another shape
+  pub shape_lines : (old other : Option JobValue) (said : Line) → Alike old other → Serves machine number old said events new → Serves machine number other said more mid → OpenIn said events → LineShowsSome said → (printed text : List ℕ) → printed ≡ printing events → DiffersInShape number said printed text → (v : List ℕ) → text ≡ printing more ++ v → ⊥
+  shape_lines (Some one) (Some other) (line.Statement t (statement.Request k)) like x y f some printed text is differs v e = step_unlike number one other t (statement.Request k) events more new mid like x y f refl some v printed text is differs e
+  shape_lines (Some one) (Some other) (line.Statement t (statement.Where name)) like x y f some printed text is differs v e = step_unlike number one other t (statement.Where name) events more new mid like x y f refl some v printed text is differs e
+  shape_lines None other (line.Statement t (statement.Request k)) like x y f some printed text is differs v e = absurd x
+  shape_lines None other (line.Statement t (statement.Where name)) like x y f some printed text is differs v e = absurd x
+  shape_lines (Some one) None (line.Statement t (statement.Request k)) like x y f some printed text is differs v e = absurd y
+  shape_lines (Some one) None (line.Statement t (statement.Where name)) like x y f some printed text is differs v e = absurd y
+  shape_lines old other (line.Statement t statement.ReportSubpools) like x y f some printed text is differs v e = absurd differs
+  shape_lines old other (line.Statement t statement.ReportMap) like x y f some printed text is differs v e = absurd differs
+  shape_lines old other (line.Statement t (statement.Region below above fill residence)) like x y f some printed text is differs v e = absurd differs
+  shape_lines old other line.Nothing like x y f some printed text is differs v e = absurd differs
 
   pub begins_lines : (old other : Option JobValue) (said : Line) → Alike old other → Serves machine number old said events new → Serves machine number other said more mid → OpenIn said events → LineShowsSome said → (v : List ℕ) → BeginsLine number said (printing more ++ v)
   begins_lines (Some one) (Some other) (line.Statement t (statement.Request k)) like x y f some v = step_begins number one other t (statement.Request k) events more new mid like x y f some v
@@ -344,6 +363,11 @@ module _ (P : Condition) (w w' : WalkValue) (l : List ℕ) (tl : LineEvent) (is 
   report_verdict bounds f left differs = λ step more outcome like may.
       let y = theirs step more left outcome like may in
       report_lines w.number (events_of_line w.number w' tl) y.1 w'.step y.0 w.step step said bounds like mine y.3 f printed left same differs y.2 y.4
+
+  pub shape_verdict : OpenIn said (events_of_line w.number w' tl) → (left : List ℕ) → DiffersInShape w.number said printed left → IsVerdict w l left w' verdict.Excluded
+  shape_verdict f left differs = λ step more outcome like may.
+      let y = theirs step more left outcome like may in
+      shape_lines w.number (events_of_line w.number w' tl) y.1 w'.step y.0 w.step step said like mine y.3 f some printed left same differs y.2 y.4
 
   pub open_verdict : OpenIn said (events_of_line w.number w' tl) → (left : List ℕ) (b : Bool) → IsBegunLine w.number said left b → IsVerdict w l left w' (if b then verdict.Undecided else verdict.Excluded)
   open_verdict f left true begun = undecided w.number w.step w'.step l said (events_of_line w.number w' tl) left said_is mine f (begun_line said begun) where

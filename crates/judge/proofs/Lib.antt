@@ -8,11 +8,14 @@ mod Settled
 mod Areas
 mod SettledBy
 mod Mapped
+mod Shaped
+mod Masking
 mod Compared
 mod Lists
 mod Decided
 mod ListLines
 mod Asked
+mod Parsed
 mod Rest
 mod Found
 mod Answering

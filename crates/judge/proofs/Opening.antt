@@ -12,6 +12,7 @@ use Rattle.mvs_model.specs.Texts.{answer_text, code_text, data_lines, hex, glyph
 use Rattle.mvs_model.proofs.OneOwners.{one_fallen}
 use Rattle.mvs_model.proofs.OneSteps.{tail_of}
 use Rattle.judge.specs.Outline.{abend_opening, head, way, Way, Stays, Falls, Goes}
+use Rattle.judge.specs.Shapes.{Sign, AtSign, SystemSign, UserSign, Rc0Sign, GrantedSign, Rc4Sign, CellSign, NoCellSign, DoneSign, DataSign, NoSign, byte_at, sign_in}
 
 -- ---- what stands after the task
 
@@ -21,7 +22,7 @@ line_head number t x = parts (decimal number) (trimmed t) where
   parts d s = search (append_assoc)
 
 -- the tasks that ended with one
-abbrev fallen_lines : ℕ → Name → List Name → List ℕ
+abbrev pub fallen_lines : ℕ → Name → List Name → List ℕ
 fallen_lines number t fallen = flat_map (λ x. reply_line number x (codes "ENDED WITH " ++ trimmed t)) fallen
 
 -- the answers that places decide, with the length of their data
@@ -64,11 +65,11 @@ module _ (number : ℕ) (t : Name) where
   pub rest_done : Rest number t Done (codes "OK\n")
   rest_done = record { more = []; is = line_head number t (codes "OK") }
 
+  pub abend_is : (code : Code) (fallen : List Name) → answer_text number t (Abended code fallen) ≡ head number t ++ (abend_opening code ++ fallen_lines number t fallen)
+  abend_is code fallen = ap (λ x. x ++ fallen_lines number t fallen) (line_head number t (codes "ABEND " ++ code_text code)) ∙ append_assoc (head number t) (abend_opening code) (fallen_lines number t fallen)
+
   pub rest_abend : (code : Code) (fallen : List Name) → Rest number t (Abended code fallen) (abend_opening code)
-  rest_abend code fallen = record {
-    more = fallen_lines number t fallen;
-    is = ap (λ x. x ++ fallen_lines number t fallen) (line_head number t (codes "ABEND " ++ code_text code)) ∙ append_assoc (head number t) (abend_opening code) (fallen_lines number t fallen);
-  }
+  rest_abend code fallen = record { more = fallen_lines number t fallen; is = abend_is code fallen }
 
   some_lines : (n : ℕ) → 0 < n → (m : ℕ) × (line_count n ≡ suc m)
   some_lines n some = at (line_count n) (let e : 0 < line_count n = omega arith in e) where
@@ -91,19 +92,6 @@ module _ (number : ℕ) (t : Name) where
 
 -- ---- which answer a text begins with
 
-pub data Sign : Type 0 where
-  AtSign : Sign
-  SystemSign : Sign
-  UserSign : Sign
-  Rc0Sign : Sign
-  GrantedSign : Sign
-  Rc4Sign : Sign
-  CellSign : Sign
-  NoCellSign : Sign
-  DoneSign : Sign
-  DataSign : Sign
-  NoSign : Sign
-
 abbrev pub sign : Answer → Sign
 sign (At a) = AtSign
 sign (Abended (System n) fallen) = SystemSign
@@ -116,20 +104,6 @@ sign NoCell = NoCellSign
 sign Done = DoneSign
 sign (Data bytes) = DataSign
 sign _ = NoSign
-
-abbrev pub byte_at : List ℕ → ℕ → ℕ
-byte_at [] k = 0
-byte_at (x ∷ xs) k = if k == 0 then x else byte_at xs (k - 1)
-
--- by the first bytes of what stands after the task
-abbrev pub sign_in : List ℕ → Sign
-sign_in text =
-    if byte_at text 0 == 65 then (if byte_at text 1 == 84 then AtSign else (if byte_at text 6 == 83 then SystemSign else UserSign))
-    else (if byte_at text 0 == 82 then (if byte_at text 3 == 52 then Rc4Sign else (if byte_at text 4 == 10 then Rc0Sign else GrantedSign))
-    else (if byte_at text 0 == 67 then CellSign
-    else (if byte_at text 0 == 78 then NoCellSign
-    else (if byte_at text 0 == 79 then DoneSign
-    else DataSign))))
 
 abbrev pub way_of : Sign → Way
 way_of Rc4Sign = Stays
@@ -159,7 +133,7 @@ module _ (o : Owners) (number : ℕ) (t : Name) (n : ℕ) where
   signed_by : (x : Answer) (front : List ℕ) → Rest number t x front → ((more : List ℕ) → sign_in (front ++ more) ≡ sign x) → Signed x
   signed_by x front r f = (front ++ r.more, r.is, λ more. ap sign_in (append_assoc front r.more more) ∙ f (r.more ++ more))
 
-  signed : (x : Answer) → Measured o t n x → Signed x
+  pub signed : (x : Answer) → Measured o t n x → Signed x
   signed (At a) m = signed_by _ _ (rest_at number t a) (λ more. refl)
   signed Rc0 m = signed_by _ _ (rest_rc0 number t) (λ more. refl)
   signed (Granted k) m = signed_by _ _ (rest_granted number t k) (λ more. refl)
@@ -225,7 +199,7 @@ data_long number t (suc k) offset b z e =
     ∙ sym (length-append (reply_line number t (front ++ flat_map (hex 2) (take line_bytes z))) (data_lines number t k (offset + line_bytes) (drop line_bytes z)))
 
 -- an answer of each sign
-abbrev sample : List Name → List ℕ → Sign → Answer
+abbrev pub sample : List Name → List ℕ → Sign → Answer
 sample fallen bytes AtSign = At 0
 sample fallen bytes SystemSign = Abended (System 0) fallen
 sample fallen bytes UserSign = Abended (User 0) fallen
@@ -239,7 +213,7 @@ sample fallen bytes DataSign = Data bytes
 sample fallen bytes NoSign = NotRun
 
 -- an answer has these tasks and so many bytes, where it has some
-abbrev Fit : List Name → List ℕ → Answer → Type 0
+abbrev pub Fit : List Name → List ℕ → Answer → Type 0
 Fit fallen bytes (Abended code f) = f ≡ fallen
 Fit fallen bytes (Data b) = length b ≡ length bytes
 Fit fallen bytes _ = Unit {0}
@@ -260,15 +234,15 @@ module _ (o : Owners) (number : ℕ) (t : Name) (n : ℕ) where
       ap (λ g. length (answer_text number t (Abended (User c) g))) f ∙ back_long _ _ (fallen_lines number t fallen) (line_long number t _ _ (front_long (codes "ABEND U") (last_digits 10 4 c) (last_digits 10 4 0) (digits_alike 10 4 c 0)))
   long_is fallen bytes _ m f = absurd m
 
-  abbrev tasks_of : Answer → List Name
+  abbrev pub tasks_of : Answer → List Name
   tasks_of (Abended code fallen) = fallen
   tasks_of _ = []
 
-  abbrev bytes_of : Answer → List ℕ
+  abbrev pub bytes_of : Answer → List ℕ
   bytes_of (Data bytes) = bytes
   bytes_of _ = []
 
-  fit_self : (x : Answer) → Measured o t n x → Fit (tasks_of x) (bytes_of x) x
+  pub fit_self : (x : Answer) → Measured o t n x → Fit (tasks_of x) (bytes_of x) x
   fit_self (Abended code fallen) m = refl
   fit_self (Data bytes) m = refl
   fit_self (At a) m = tt
@@ -281,7 +255,7 @@ module _ (o : Owners) (number : ℕ) (t : Name) (n : ℕ) where
   fit_self _ m = absurd m
 
   -- one that ended the same tasks, or has as many bytes
-  abend_fit : (x : Answer) (c : Code) (g : List Name) → Measured o t n x → AreDescendants o t g → sign x ≡ sign (Abended c g) → g ≡ tasks_of x
+  pub abend_fit : (x : Answer) (c : Code) (g : List Name) → Measured o t n x → AreDescendants o t g → sign x ≡ sign (Abended c g) → g ≡ tasks_of x
   abend_fit (Abended d f) c g m k e = one_fallen o t g f k m
   abend_fit (At a) (System c) g m k e = absurd cc
   abend_fit (At a) (User c) g m k e = absurd cc
@@ -314,7 +288,7 @@ module _ (o : Owners) (number : ℕ) (t : Name) (n : ℕ) where
   data_fit Done b m l e = absurd cc
   data_fit _ b m l e = absurd m
 
-  fit_other : (x y : Answer) → Measured o t n x → Measured o t n y → sign x ≡ sign y → Fit (tasks_of x) (bytes_of x) y
+  pub fit_other : (x y : Answer) → Measured o t n x → Measured o t n y → sign x ≡ sign y → Fit (tasks_of x) (bytes_of x) y
   fit_other x (Abended c g) m k e = abend_fit x c g m k e
   fit_other x (Data b) m k e = data_fit x b m k.0 e
   fit_other x (At a) m k e = tt

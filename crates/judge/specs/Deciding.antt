@@ -1,6 +1,8 @@
 -- What the first lines of a script decide of a text that a run may print from there on.
-use Rattle.std.specs.Prelude.{◌≡◌, ◌≤◌, ◌<◌, ◌^◌, ℕ, ◌+◌, Bool, true, false, List, [], ◌∷◌, ◌++◌, drop, length, Option, Some, None}
+use Rattle.std.specs.Prelude.{◌≡◌, ◌≤◌, ◌<◌, ◌^◌, ℕ, ◌+◌, Bool, true, false, List, [], ◌∷◌, ◌++◌, drop, length, take, Option, Some, None, Result}
 use Rattle.mvs_model.specs.declared.line.Line.{Line}
+use Rattle.mvs_model.specs.declared.line.Fault.{Fault}
+use Rattle.job_script.specs.LineMeaning.{filled}
 use Rattle.mvs_model.specs.declared.name.Name.{Name}
 use Rattle.mvs_model.specs.declared.outcome.Outcome.{Outcome}
 use Rattle.mvs_model.specs.declared.outcome.Outcome.TheVariants.{ScriptFault}
@@ -9,7 +11,7 @@ use Rattle.mvs_model.specs.Answers.{Answer, At, Event, Granted, Rc0}
 use Rattle.mvs_laws.specs.Going.{Holds, Reaches}
 use Rattle.mvs_model.specs.Job.{JobValue}
 use Rattle.mvs_model.specs.Lines.{lines_of}
-use Rattle.mvs_model.specs.Reading.{LineOf}
+use Rattle.mvs_model.specs.Reading.{IsReading, LineOf}
 use Rattle.mvs_model.specs.Runs.{machine, IsPrinting}
 use Rattle.mvs_model.specs.Texts.{printing, reply_line, one_line_text}
 use Rattle.mvs_model.specs.View.{IsBounded}
@@ -94,6 +96,14 @@ abbrev pub OpensList : ℕ → Name → List ℕ → Bool → Bool → Type 0
 OpensList number task text true b = b ≡ false
 OpensList number task text false b = (b ≡ true → BeginsAnswered number task text) × (BeginsAnswered number task text → b ≡ true)
 
+-- The job has parsed a line so, and that has returned this.
+abbrev pub IsParsed : WalkValue → Result (Unit {0}) Fault → List ℕ → Type 0
+IsParsed w parsed bytes = IsReading (is_first w.step) bytes (filled w.read parsed)
+
+-- Two jobs are in the same step, and come to the same line.
+abbrev pub IsSameJob : WalkValue → WalkValue → Type 0
+IsSameJob old new = (new.number ≡ old.number) × (new.step ≡ old.step)
+
 -- Some lines are served, and this is printed of them: all of them, or one with a fault, which ends the job.
 abbrev pub IsServed : List (List ℕ) → WalkValue → List ℕ → Bool → WalkValue → Type 0
 IsServed served old text true new = (events : List Event) × Leads machine old.number old.step served events new.step × (new.number ≡ old.number + length served) × (text ≡ printing events)
@@ -107,6 +117,12 @@ Decides served left old text false true new = left ≡ text
 Decides served left old text true true new =
     (left ≡ text ++ drop (length text) left)
     × ((more : List (List ℕ)) (outcome : Outcome) → MayPrint old.number old.step (served ++ more) left outcome → MayPrint new.number new.step more (drop (length text) left) outcome)
+
+-- Both for a line and the question after it, which ends there in the text after the line, and shows what the line is granted.
+abbrev pub IsFoundShown : List ℕ → List ℕ → List ℕ → WalkValue → ℕ → List ℕ → Bool → Bool → WalkValue → Type 0
+IsFoundShown bytes rest left old end text continues passes new =
+    (lines_of rest ≡ take end rest ∷ lines_of (drop (end + 1) rest)) × IsServed (bytes ∷ take end rest ∷ []) old text continues new
+    × Decides (bytes ∷ take end rest ∷ []) left old text continues passes new × ((more : List (List ℕ)) → GrantsAreShownBefore (bytes ∷ take end rest ∷ []) more)
 
 -- What is decided if some lines come after them.
 abbrev pub DecidesBefore : List (List ℕ) → List (List ℕ) → List ℕ → WalkValue → List ℕ → Bool → Bool → WalkValue → Type 0

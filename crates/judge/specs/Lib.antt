@@ -3,3 +3,4 @@ pub mod Deciding
 pub mod Outline
 pub mod Excluding
 pub mod Reporting
+pub mod Shapes

@@ -5,22 +5,24 @@ ghost use Rattle.std.specs.List.{AllByRecursion};
 ghost use Rattle.mvs_model.specs.Texts.{answer_text, hex, printing, reply_line, one_line_text};
 ghost use Rattle.mvs_model.specs.Answers.{At};
 ghost use Rattle.mvs_job.specs.LineEvents.{ServesAsUnder, events_of_line};
+ghost use Rattle.mvs_model.specs.Walk.{is_first};
+ghost use Rattle.job_script.specs.LineMeaning.{filled};
 ghost use Rattle.request_forms.specs.Taking.{Takes};
 ghost use Rattle.mvs_model.specs.FullAnswers.{has_long_data, full_answer};
-ghost use Rattle.mvs_model.specs.Lines.{lines_of};
+ghost use Rattle.mvs_model.specs.Lines.{IsLine, lines_of};
 ghost use Rattle.mvs_model.specs.State.{State};
 ghost use Rattle.mvs_model.specs.declared.name.Name.{Name as TaskName};
-ghost use Rattle.judge.specs.Deciding.{Decides, DecidesBefore, InBounds, IsClosed, IsFoundFirst, IsGrant, IsList, IsServed, ReadsEach, at_text, no_bytes};
+ghost use Rattle.judge.specs.Deciding.{Decides, DecidesBefore, InBounds, IsParsed, IsSameJob, IsClosed, IsFoundFirst, IsFoundShown, IsGrant, IsList, IsServed, ReadsEach, at_text, no_bytes};
 ghost use Rattle.judge.specs.Judging.{AskEach, BeginsAnswered, IsOpen, IsQuestion};
 
-use crate::kinds::{GrantKind, GrantQuestion, asks_each, next_kind, question_end};
+use crate::kinds::{GrantKind, GrantQuestion, asks_each, parsed_kind, question_end};
 use crate::list_answers::opens_list;
 use job_script::digits::{are_hex_digits, hex_number};
 use job_script::print_short_answer;
-use mvs_job::{LineEvent, Walk, line_end, print_line};
+use mvs_job::{LineEvent, Unobserved, Walk, line_end, print_line};
 use mvs_model::answer::Answer;
 use mvs_model::error::OutOfMemory;
-use mvs_model::line::Names;
+use mvs_model::line::{Fault, Names};
 use mvs_model::name::Name;
 use mvs_model::place::Addr;
 use mvs_model::watched::Watched;
@@ -69,6 +71,34 @@ pub(crate) struct Printed {
     pub(crate) text: Vec<u8>,
 }
 
+// Executes the line that was parsed last, and appends what it prints. Parsing has returned this.
+fn print_parsed(
+    walk: &mut Walk,
+    parsed: Result<(), Fault>,
+    hints: &[Addr],
+    text: Vec<u8>,
+) -> Result<Printed, OutOfMemory>
+    requires number { walk.old.number + 1 < 2 ^ 32 }
+    requires in_range { IsLine (is_first walk.old.step) (filled walk.old.read parsed) }
+    ensures served { (line : List ℕ) → IsParsed walk.old parsed line → IfOk result
+        (λ p. ServesAsUnder (Takes hints.now) walk.old line p.line_event walk.new) }
+    ensures printed { IfOk result
+        (λ p. p.text.items
+        ≡ text.items ++ printing (events_of_line walk.old.number walk.new p.line_event)) }
+    ensures number { walk.new.number ≡ walk.old.number + 1 }
+{
+    let line_number = walk.number();
+    let Ok(line_event) = walk.execute(parsed, hints, &mut Unobserved) else {
+        return Err(OutOfMemory);
+    };
+    let mut writer = Watched::new(text);
+    print_line(&mut writer, line_number, walk, &line_event).map_err(|_| OutOfMemory)?;
+    Ok(Printed {
+        line_event,
+        text: writer.into_inner(),
+    })
+}
+
 // Executes a line, and appends what it prints.
 pub(crate) fn print_next(
     walk: &mut Walk,
@@ -96,6 +126,14 @@ pub(crate) fn print_next(
     })
 }
 
+// Returns a text without its bytes, for which it keeps the memory.
+pub(crate) fn emptied(mut text: Vec<u8>) -> Vec<u8>
+    ensures { result.items ≡ [] }
+{
+    text.clear();
+    text
+}
+
 // Returns whether a text begins so.
 pub(crate) fn begins(text: &[u8], front: &[u8]) -> bool
     ensures yes { result ≡ true → text.now ≡ front.now ++ drop (length front.now) text.now }
@@ -105,24 +143,26 @@ pub(crate) fn begins(text: &[u8], front: &[u8]) -> bool
     text.starts_with(front)
 }
 
-// Decides at a line that can be granted no place.
+// Decides at the line that was parsed last, which can be granted no place. The text is empty.
 fn decide_line(
-    alloc: Global,
     walk: &mut Walk,
-    line: &[u8],
+    parsed: Result<(), Fault>,
     left: &[u8],
+    empty: Vec<u8>,
 ) -> Result<ServedLines, OutOfMemory>
     requires number { walk.old.number + 1 < 2 ^ 32 }
-    requires closed { IsClosed walk.old.step line.now }
-    ensures served { IfOk result
-        (λ s. IsServed (line.now ∷ []) walk.old s.text.items s.continues walk.new) }
-    ensures decided { IfOk result
-        (λ s. Decides (line.now ∷ []) left.now walk.old s.text.items s.continues s.passes
-        walk.new) }
+    requires in_range { IsLine (is_first walk.old.step) (filled walk.old.read parsed) }
+    requires empty { empty.items ≡ [] }
+    ensures served { (line : List ℕ) → IsParsed walk.old parsed line → IfOk result
+        (λ s. IsServed (line ∷ []) walk.old s.text.items s.continues walk.new) }
+    ensures decided { (line : List ℕ) → IsParsed walk.old parsed line → IsClosed walk.old.step line
+        → IfOk result
+        (λ s. Decides (line ∷ []) left.now walk.old s.text.items s.continues s.passes walk.new) }
     ensures number { walk.new.number ≡ walk.old.number + 1 }
-    ensures bounds { IfOk result (λ s. InBounds walk.old.step → InBounds walk.new.step) }
+    ensures bounds { (line : List ℕ) → IsParsed walk.old parsed line → IfOk result
+        (λ s. InBounds walk.old.step → InBounds walk.new.step) }
 {
-    let printed = print_next(walk, line, &[], Vec::new(alloc))?;
+    let printed = print_parsed(walk, parsed, &[], empty)?;
     let text = printed.text;
     if let LineEvent::Faulted(_) = printed.line_event {
         let passes = left == text.as_slice();
@@ -170,21 +210,25 @@ fn no_bytes(variable: bool) -> Answer
 }
 
 // Returns how many bytes are printed of a granted request for an area, whose line has this number, and of a question for it, up to the end.
+// The text is empty, and comes back so.
 fn answered_len(
-    alloc: Global,
     line_number: u32,
     asked: &GrantQuestion,
-) -> Result<usize, OutOfMemory>
-    requires { line_number + 1 < 2 ^ 32 }
-    ensures { IfOk result (λ n. n
-        ≡ length (answer_text line_number asked.now.task (no_bytes asked.now.variable))
+    empty: Vec<u8>,
+) -> Result<(usize, Vec<u8>), OutOfMemory>
+    requires number { line_number + 1 < 2 ^ 32 }
+    requires empty { empty.items ≡ [] }
+    ensures len { IfOk result
+        (λ n. n.0 ≡ length (answer_text line_number asked.now.task (no_bytes asked.now.variable))
         + length (reply_line (line_number + 1) asked.now.task (one_line_text (At 0)))) }
+    ensures emptied { IfOk result (λ n. n.1.items ≡ []) }
 {
     let granted = no_bytes(asked.variable);
-    let text = print_answer(Vec::new(alloc), line_number, &asked.task, &granted)?;
+    let text = print_answer(empty, line_number, &asked.task, &granted)?;
     let at = Answer::At(Addr::new(0));
     let both = print_answer(text, line_number + 1, &asked.task, &at)?;
-    Ok(both.as_slice().len())
+    let len = both.as_slice().len();
+    Ok((len, emptied(both)))
 }
 
 // Returns the address of eight digits after a prefix; 0 if there are none.
@@ -207,33 +251,35 @@ fn address_after(text: &[u8], front: usize) -> Addr
     Addr::new(number as u32)
 }
 
-// Decides at a grant with a question after it. The area is placed at the address in the output for the question, if the machine
-// allows that.
+// Decides at the line that was parsed last, a grant, with a question after it. The area is placed at the address in the output for the
+// question, if the machine allows that. The text is empty.
 fn decide_pair(
-    alloc: Global,
     walk: &mut Walk,
-    line: &[u8],
+    parsed: Result<(), Fault>,
     question: &[u8],
     left: &[u8],
     asked: &GrantQuestion,
+    empty: Vec<u8>,
 ) -> Result<ServedLines, OutOfMemory>
     requires number { walk.old.number + 2 < 2 ^ 32 }
+    requires in_range { IsLine (is_first walk.old.step) (filled walk.old.read parsed) }
     requires bounds { InBounds walk.old.step }
-    requires grant { IsGrant walk.old.step line.now asked.now.task asked.now.area
-        asked.now.variable }
     requires question { IsQuestion question.now asked.now.task asked.now.area }
-    ensures served { IfOk result
-        (λ s. IsServed (line.now ∷ question.now ∷ []) walk.old s.text.items s.continues
-        walk.new) }
-    ensures decided { IfOk result
-        (λ s. Decides (line.now ∷ question.now ∷ []) left.now walk.old s.text.items s.continues
+    requires empty { empty.items ≡ [] }
+    ensures served { (line : List ℕ) → IsParsed walk.old parsed line
+        → IsGrant walk.old.step line asked.now.task asked.now.area asked.now.variable → IfOk result
+        (λ s. IsServed (line ∷ question.now ∷ []) walk.old s.text.items s.continues walk.new) }
+    ensures decided { (line : List ℕ) → IsParsed walk.old parsed line
+        → IsGrant walk.old.step line asked.now.task asked.now.area asked.now.variable → IfOk result
+        (λ s. Decides (line ∷ question.now ∷ []) left.now walk.old s.text.items s.continues
         s.passes walk.new) }
     ensures number { IfOk result (λ s. walk.new.number ≡ walk.old.number + 2) }
-    ensures bounds { IfOk result (λ s. InBounds walk.new.step) }
+    ensures bounds { (line : List ℕ) → IsParsed walk.old parsed line → IfOk result
+        (λ s. InBounds walk.new.step) }
 {
-    let len = answered_len(alloc, walk.number(), asked)?;
+    let (len, emptied) = answered_len(walk.number(), asked, empty)?;
     let addr = address_after(left, len - 9);
-    let granted = print_next(walk, line, &[addr], Vec::new(alloc))?;
+    let granted = print_parsed(walk, parsed, &[addr], emptied)?;
     let answered = print_next(walk, question, &[], granted.text)?;
     let passes = begins(left, answered.text.as_slice());
     Ok(ServedLines {
@@ -243,43 +289,36 @@ fn decide_pair(
     })
 }
 
-// Decides at the first two lines of a script, where the first, which ends there, is a grant; nothing where the second is no question
-// for it.
+// Decides at the line that was parsed last, a grant, and the first line of the rest of the script, which is the question for it. Returns None
+// if it is none. The text is empty.
 fn decide_shown(
-    alloc: Global,
     walk: &mut Walk,
-    script: &[u8],
-    end: usize,
+    parsed: Result<(), Fault>,
+    rest: &[u8],
     left: &[u8],
     asked: &GrantQuestion,
-) -> Result<Option<DecidedLines>, OutOfMemory>
+    empty: Vec<u8>,
+) -> Result<Option<(usize, ServedLines)>, OutOfMemory>
     requires number { walk.old.number + 2 < 2 ^ 32 }
+    requires in_range { IsLine (is_first walk.old.step) (filled walk.old.read parsed) }
     requires bounds { InBounds walk.old.step }
-    requires within { end ≤ length script.now }
-    requires lines { lines_of script.now
-        ≡ take end script.now ∷ lines_of (drop (end + 1) script.now) }
-    requires grant { IsGrant walk.old.step (take end script.now) asked.now.task asked.now.area
-        asked.now.variable }
-    ensures decided { IfOk result
+    requires empty { empty.items ≡ [] }
+    ensures decided { (line : List ℕ) → IsParsed walk.old parsed line
+        → IsGrant walk.old.step line asked.now.task asked.now.area asked.now.variable → IfOk result
         (λ o. MatchOption o ((walk.new ≡ walk.old)
-        × IsOpen walk.old.number walk.old.step (lines_of script.now) left.now)
-        (λ d. IsFoundFirst script.now left.now walk.old d.taken d.served.text.items
-        d.served.continues d.served.passes d.is_open walk.new)) }
+        × IsOpen walk.old.number walk.old.step (line ∷ lines_of rest.now) left.now)
+        (λ d. IsFoundShown line rest.now left.now walk.old d.0 d.1.text.items d.1.continues
+        d.1.passes walk.new)) }
     ensures taken { IfOk result (λ o. IfSome o
-        (λ d. (0 < d.taken) × (d.taken ≤ length script.now + 1)
-        × (walk.new.number ≤ walk.old.number + d.taken))) }
-    ensures bounds { IfOk result (λ o. InBounds walk.new.step) }
+        (λ d. (d.0 ≤ length rest.now) × (walk.new.number ≡ walk.old.number + 2))) }
+    ensures bounds { (line : List ℕ) → IsParsed walk.old parsed line → IfOk result
+        (λ o. InBounds walk.new.step) }
 {
-    let rest = text_after(script, end + 1);
-    let Some(second) = question_end(rest, asked) else {
+    let Some(end) = question_end(rest, asked) else {
         return Ok(None);
     };
-    let served = decide_pair(alloc, walk, &script[..end], &rest[..second], left, asked)?;
-    Ok(Some(DecidedLines {
-        taken: end + 1 + (second + 1),
-        served,
-        is_open: false,
-    }))
+    let served = decide_pair(walk, parsed, &rest[..end], left, asked, empty)?;
+    Ok(Some((end, served)))
 }
 
 // Returns how many bytes are printed of a list that is granted, whose line has this number.
@@ -456,18 +495,21 @@ fn decide_areas(
     }))
 }
 
-/// Decides at the first line of a script, or at the first two. Returns None if the first is open.
+/// Decides at the first line of a script, or at the first two. Returns None if the first is open. The text is empty: its memory is used for
+/// what is printed.
 pub fn decide(
     alloc: Global,
     walk: &mut Walk,
     script: &[u8],
     left: &[u8],
+    empty: Vec<u8>,
 ) -> Result<Option<DecidedLines>, OutOfMemory>
     requires some { 0 < length script.now }
     requires number { walk.old.number + 18 < 2 ^ 32 }
     requires bounds { InBounds walk.old.step }
+    requires empty { empty.items ≡ [] }
     ensures decided { IfOk result
-        (λ o. MatchOption o ((walk.new ≡ walk.old)
+        (λ o. MatchOption o (IsSameJob walk.old walk.new
         × IsOpen walk.old.number walk.old.step (lines_of script.now) left.now)
         (λ d. IsFoundFirst script.now left.now walk.old d.taken d.served.text.items
         d.served.continues d.served.passes d.is_open walk.new)) }
@@ -478,17 +520,27 @@ pub fn decide(
 {
     let end = line_end(script);
     let line = &script[..end];
-    match next_kind(walk, line) {
+    let parsed = walk.parse(line);
+    match parsed_kind(walk, &parsed) {
         GrantKind::Area(task, area, variable) => {
             let asked = GrantQuestion {
                 task,
                 area,
                 variable,
             };
-            decide_shown(alloc, walk, script, end, left, &asked)
+            let rest = text_after(script, end + 1);
+            let Some((second, served)) = decide_shown(walk, parsed, rest, left, &asked, empty)?
+            else {
+                return Ok(None);
+            };
+            Ok(Some(DecidedLines {
+                taken: end + 1 + (second + 1),
+                served,
+                is_open: false,
+            }))
         }
         GrantKind::Closed => {
-            let served = decide_line(alloc, walk, line, left)?;
+            let served = decide_line(walk, parsed, left, empty)?;
             Ok(Some(DecidedLines {
                 taken: end + 1,
                 served,

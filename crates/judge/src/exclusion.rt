@@ -17,6 +17,7 @@ use crate::kinds::is_first;
 use crate::maps::ends_map;
 use crate::openings::{Continued, begins_open};
 use crate::reports::differs_in_report;
+use crate::shapes::differs_in_shape;
 use job_script::read_line;
 use mvs_job::{AddressHints, LineEvent, Walk, line_end};
 use mvs_model::error::OutOfMemory;
@@ -167,6 +168,10 @@ fn compare_read(
     }
     let is_other = differs_in_report(read, printed.text.as_slice(), left);
     if is_other {
+        return Ok(LineVerdict::Excluded);
+    }
+    let is_unlike = differs_in_shape(alloc, line_number, read, printed.text.as_slice(), left)?;
+    if is_unlike {
         return Ok(LineVerdict::Excluded);
     }
     let is_possible = begins_line(alloc, line_number, read, left)?;

@@ -5,7 +5,7 @@ ghost use Rattle.mvs_model.specs.Numbers.{most_script_bytes};
 ghost use Rattle.mvs_job.specs.LineEvents.{new_walk};
 ghost use Rattle.judge.specs.Deciding.{IsFollowed, PrintsEnd, end_at};
 
-use crate::deciding::{DecidedLines, ServedLines, decide};
+use crate::deciding::{DecidedLines, ServedLines, decide, emptied};
 use mvs_job::{Walk, print_closing};
 use mvs_model::error::OutOfMemory;
 use mvs_model::outcome::Outcome;
@@ -98,9 +98,10 @@ pub fn follow(
 {
     let mut at = 0;
     let mut done = 0;
+    let mut empty = Vec::new(alloc);
     'lines: while at < script.len() {
         let line_number = walk.number();
-        let Some(decided) = decide(alloc, walk, &script[at..], &output[done..])? else {
+        let Some(decided) = decide(alloc, walk, &script[at..], &output[done..], empty)? else {
             return Ok(Followed {
                 at,
                 text: joined(alloc, &output[..done], &[])?,
@@ -118,6 +119,7 @@ pub fn follow(
         }
         at += taken;
         done += served.text.as_slice().len();
+        empty = emptied(served.text);
     }
     let (outcome, last) = print_end(alloc, walk)?;
     Ok(Followed {

@@ -21,10 +21,11 @@ struct ListMember {
     place: usize,
 }
 
-// The place of a member.
+// The place of a member, and how many places were shown before.
 #[derive(Clone, Copy, Debug, PartialEq, Eq, PartialOrd, Ord)]
 struct CellPlace {
     member: ListMember,
+    earlier: usize,
     addr: u32,
 }
 
@@ -107,9 +108,13 @@ impl Hearing {
         let Some(member) = self.names.get(name).copied() else {
             return Ok(());
         };
-        self.places
-            .push(CellPlace { member, addr })
-            .map_err(|_| OutOfMemory)
+        let earlier = self.places.len();
+        let place = CellPlace {
+            member,
+            earlier,
+            addr,
+        };
+        self.places.push(place).map_err(|_| OutOfMemory)
     }
 
     // Records a statement and its printed answer.

@@ -1,15 +1,15 @@
 //! What the lines of a script can be granted, and which WHERE statements show it.
 
-ghost use Rattle.std.specs.Prelude.{◌≡◌, ◌≢◌, ◌≤◌, ◌↔◌, ◌+◌, ◌∷◌, IsTrue, length, drop, take, true, MatchOption};
+ghost use Rattle.std.specs.Prelude.{◌≡◌, ◌≢◌, ◌≤◌, ◌↔◌, ◌+◌, ◌∷◌, List, ℕ, IsTrue, length, drop, take, true, MatchOption};
 ghost use Rattle.std.specs.List.{AllByRecursion};
 ghost use Rattle.mvs_model.specs.Lines.{lines_of};
 ghost use Rattle.mvs_model.specs.Walk.{is_first};
-ghost use Rattle.judge.specs.Deciding.{HasNoQuestion, IsKind, IsKindOf};
+ghost use Rattle.judge.specs.Deciding.{HasNoQuestion, IsKind, IsKindOf, IsParsed};
 ghost use Rattle.judge.specs.Judging.{AreApart, AskEach, IsQuestion, may_grant};
 
 use job_script::read_line;
 use mvs_job::{Walk, line_end};
-use mvs_model::line::{Line, Names, SourceRequest, Statement};
+use mvs_model::line::{Fault, Line, Names, SourceRequest, Statement};
 use mvs_model::name::Name;
 
 /// What a line can be granted.
@@ -109,13 +109,12 @@ pub(crate) fn is_first(walk: &Walk) -> bool
     walk.job().is_none()
 }
 
-/// Returns the kind of the next line of a job.
-pub fn next_kind(walk: &Walk, line: &[u8]) -> GrantKind
-    ensures { IsKind walk.now.step line.now result }
+/// Returns the kind of the line that a job has parsed last. Parsing has returned this.
+pub fn parsed_kind(walk: &Walk, parsed: &Result<(), Fault>) -> GrantKind
+    ensures { (line : List ℕ) → IsParsed walk.now parsed.now line → IsKind walk.now.step line result }
 {
-    let mut read = Line::Nothing;
-    match read_line(line, is_first(walk), &mut read) {
-        Ok(()) => kind_of(&read),
+    match parsed {
+        Ok(()) => kind_of(walk.read()),
         Err(_) => GrantKind::Closed,
     }
 }

@@ -24,6 +24,7 @@ mod parts;
 mod reports;
 mod resting;
 mod search;
+mod shapes;
 mod trials;
 
 use crate::exclusion::{Ruling, rule};
@@ -268,7 +269,9 @@ fn settle_by_search(
         }
     }
 }
-// Settles a judgement that is open by searches: first for places of one line after the other, and then of several at once.
+
+// Settles a judgement that is open by searches: first for places of one line after the other, and then of several at once, if the first ones
+// ended before their bound.
 fn settle_by_searches(
     alloc: Global,
     script: &[u8],
@@ -315,6 +318,9 @@ fn settle_by_searches(
     let Finding::Undecided(_) = by_high.finding else {
         return Ok(by_high);
     };
+    if by_high.has_stopped {
+        return Ok(by_high);
+    }
     let low_shaken = SearchPlan {
         shakes: true,
         ..low

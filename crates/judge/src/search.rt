@@ -68,7 +68,7 @@ struct Dice {
 }
 
 // The places of the next run, by their numbers in the lists of places, and those of the best run so far. Then what may be changed in that, the
-// likeliest first, and how much of it was tried.
+// likeliest first, and how much of it was tried; and how many lines before the first difference have several places.
 #[derive(Drop)]
 struct PlaceSearch {
     trials: Trials,
@@ -77,6 +77,7 @@ struct PlaceSearch {
     best: Option<Agreement>,
     changes: Vec<PlaceChange>,
     at: usize,
+    movable: usize,
     dice: Dice,
 }
 
@@ -148,6 +149,7 @@ impl PlaceSearch {
             best: None,
             changes: Vec::new(alloc),
             at: 0,
+            movable: 0,
             dice: Dice { state: 1 },
         })
     }
@@ -185,6 +187,17 @@ impl PlaceSearch {
         Ok(())
     }
 
+    // Returns how many lines up to this one have several places.
+    fn count_movable(&self, last: u32) -> usize {
+        let mut count = 0usize;
+        for trial in &self.trials.tried {
+            if trial.line <= last && trial.count() > 1 {
+                count = count.saturating_add(1);
+            }
+        }
+        count
+    }
+
     // Keeps a run that agrees further than those before. Next the places of the lines before the difference are tried, the last line first, and
     // before all those that are where the output shows something else.
     fn keep(&mut self, found: Agreement) -> Result<(), OutOfMemory> {
@@ -192,6 +205,7 @@ impl PlaceSearch {
         self.best = Some(found);
         self.changes.clear();
         self.at = 0;
+        self.movable = self.count_movable(found.line_number);
         let count = self.choices.len();
         for number in 0..count.saturating_mul(2) {
             let line = count
@@ -225,7 +239,7 @@ impl PlaceSearch {
             self.at = self.at.saturating_add(1);
             return Ok(true);
         }
-        if shakes && self.choices.len() > 1 {
+        if shakes && self.movable > 1 {
             self.shake();
             return Ok(true);
         }

@@ -20,9 +20,9 @@ fn convert(rt: &HostRuntime, options: &Options<'_>) -> Result<Sum, ConversionErr
     let source = source_of(rt, options.file)?;
     let members = members_of(rt, &options.folders, &source)?;
     let requests = find_requests(rt.alloc(), &source, &members, &options.choices)?;
-    let Ok(mut writer) = BufWriter::new(rt.alloc(), io::writer(rt)) else {
-        return Err(ConversionError::Memory);
-    };
+    let mut writer = BufWriter::new(rt.alloc(), io::writer(rt)).map_err(
+        |_| ConversionError::Memory,
+    )?;
     let sum = write_script(rt.alloc(), &mut writer, &requests, options.form)?;
     writer
         .flush()
@@ -33,9 +33,7 @@ fn convert(rt: &HostRuntime, options: &Options<'_>) -> Result<Sum, ConversionErr
 // Returns the words of the command line, the program's name first.
 fn words(rt: &HostRuntime) -> Result<Vec<String>, ConversionError> {
     let mut words = Vec::new(rt.alloc());
-    let Ok(args) = env::args(rt) else {
-        return Err(ConversionError::Read);
-    };
+    let args = env::args(rt).map_err(|_| ConversionError::Read)?;
     for word in args {
         words.push(word).map_err(|_| ConversionError::Memory)?;
     }

@@ -3,8 +3,9 @@ use Rattle.mvs_model.specs.Texts.{printing}
 use Rattle.mvs_job.specs.LineEvents.{events_of_line}
 use Rattle.judge.specs.Excluding.{EndsMap, IsBegunLine, IsVerdict}
 use Rattle.judge.specs.Reporting.{DiffersInReport}
+use Rattle.judge.specs.Shapes.{DiffersInShape}
 use Rattle.judge.proofs.Decided.{in_bounds}
-use Rattle.judge.proofs.Excluding.{both_true, certain_verdict, open_in, map_verdict, open_verdict, report_verdict, settled_in, shown_verdict}
+use Rattle.judge.proofs.Excluding.{both_true, certain_verdict, open_in, map_verdict, open_verdict, report_verdict, settled_in, shape_verdict, shown_verdict}
 use Rattle.judge.proofs.exclusion.compare_read.Goals as goal
 
 pub returns-then-is_certain : goal.returns-then-is_certain
@@ -52,6 +53,17 @@ returns-then-is_other c =
     record {
       verdict = report_verdict _ c.args.walk.now c.print_next.new.walk c.args.line.now c.in_ok-printed.printed.line_event c.in_ok-printed.ensures.served c.in_ok-printed.printed.text.items same c.args.read.now c.requires.read c.is_shown-is_shown.ensures.some c.print_next.ensures.number c.requires.bounds (open_in _ c.args.walk.now c.print_next.new.walk c.args.line.now c.in_ok-printed.printed.line_event c.in_ok-printed.ensures.served c.in_ok-printed.printed.text.items same c.args.read.now c.requires.read c.is_shown-is_shown.ensures.some c.print_next.ensures.number c.is_certain.result c.is_certain.ensures c.if-is_certain.false) c.args.left.now
           (subst (λ x. DiffersInReport c.args.read.now x c.args.left.now) c.as_slice-2.ensures.value (c.differs_in_report-is_other.ensures c.if-is_other.true));
+      number = c.print_next.ensures.number;
+      bounds = in_bounds _ c.args.walk.now c.print_next.new.walk c.args.line.now c.in_ok-printed.printed.line_event c.in_ok-printed.ensures.served c.requires.bounds;
+    }
+
+pub returns-then-is_unlike : goal.returns-then-is_unlike
+returns-then-is_unlike c =
+    let same = c.in_ok-printed.ensures.printed ∙ ap (λ x. x ++ printing (events_of_line c.args.walk.now.number c.print_next.new.walk c.in_ok-printed.printed.line_event)) c.new.ensures.items in
+    record {
+      verdict = shape_verdict _ c.args.walk.now c.print_next.new.walk c.args.line.now c.in_ok-printed.printed.line_event c.in_ok-printed.ensures.served c.in_ok-printed.printed.text.items same c.args.read.now c.requires.read c.is_shown-is_shown.ensures.some c.print_next.ensures.number (open_in _ c.args.walk.now c.print_next.new.walk c.args.line.now c.in_ok-printed.printed.line_event c.in_ok-printed.ensures.served c.in_ok-printed.printed.text.items same c.args.read.now c.requires.read c.is_shown-is_shown.ensures.some c.print_next.ensures.number c.is_certain.result c.is_certain.ensures c.if-is_certain.false) c.args.left.now
+          (subst (λ n. DiffersInShape n c.args.read.now c.in_ok-printed.printed.text.items c.args.left.now) c.number-line_number.ensures
+          (subst (λ x. DiffersInShape c.number-line_number.result c.args.read.now x c.args.left.now) c.as_slice-3.ensures.value (c.in_ok-is_unlike.ensures c.if-is_unlike.true)));
       number = c.print_next.ensures.number;
       bounds = in_bounds _ c.args.walk.now c.print_next.new.walk c.args.line.now c.in_ok-printed.printed.line_event c.in_ok-printed.ensures.served c.requires.bounds;
     }

@@ -12,6 +12,7 @@ lines-init c = record {
   done = omega arith;
   number = let e : c.args.walk.now.number ≡ 1 = ap (λ w. w.number) c.requires.first in omega (arith, e);
   bounds = subst (λ w. InBounds w.step) (sym c.requires.first) tt;
+  empty = c.new-empty.ensures.items;
 }
 
 pub returns-in_default : goal.returns-in_default
@@ -46,6 +47,7 @@ lines-preserved c =
       done = let t = f.1 in omega (arith, t, len, c.lines.invariant.done);
       number = let t = n.2 in omega (arith, t, c.lines.invariant.number);
       bounds = c.in_ok-decided.ensures.bounds;
+      empty = c.emptied-empty.ensures;
     }
 
 pub returns : goal.returns

@@ -1,4 +1,4 @@
-use Rattle.std.proofs.Common.{◌+◌, ◌-◌, ◌≤◌, length}
+use Rattle.std.proofs.Common.{◌+◌, ◌-◌, ◌≤◌, ◌≡◌, [], length}
 use Rattle.judge.specs.Deciding.{InBounds}
 use Rattle.judge.proofs.Decided.{Follows}
 use Rattle.judge.proofs.following.follow.Given as goal
@@ -10,6 +10,7 @@ invariant-lines l = record {
   done : l.done ≤ length l.output;
   number : l.walk.number ≤ l.at + 1;
   bounds : InBounds l.walk.step;
+  empty : l.empty.items ≡ [];
 }
 
 abbrev pub decreases-lines : goal.decreases-lines
