@@ -213,8 +213,18 @@ def planted_wrong_bodies(folder):
     status, printed = called(folder / "tools/wrong_bodies")
     for name, (_, said) in PLANTED.items():
         yield f"planted {name}", status == 1 and said in printed
+    for name in PLANTED:
+        (folder / "crates/boundary_loc" / name).unlink()
+    env = os.environ | {"XDG_CACHE_HOME": str(folder / "cache")}
+    own = [path for path in (folder / "crates/boundary_loc").glob("*/*") if path.suffix in (".edit", ".control") and path.parent.name != "must-fail"]
+    tries = lambda *words: called(folder / "tools/wrong_bodies", *words, "boundary_loc", env=env)[1].count("as an earlier run found")  # noqa: E731
+    yield "nothing was tried earlier", tries() == 0
+    yield "what was tried earlier", tries() == len(own) > 1
+    yield "what was tried earlier is tried anew", tries("--anew") == 0
+    own[0].write_text(own[0].read_text() + "# another text\n")
+    yield "a change with another text is tried", tries() == len(own) - 1
     (folder / LIB).write_text((folder / LIB).read_text().replace(*WRONG_CODE))
-    status, printed = called(folder / "tools/wrong_bodies", "boundary_loc")
+    status, printed = called(folder / "tools/wrong_bodies", "boundary_loc", env=env)
     yield "wrong bodies of a crate that is not proved", status == 1 and ": not tried: what it is in is not proved as it is" in printed
 
 
