@@ -193,16 +193,14 @@ pub(crate) fn write_line<'a, W: Write>(
     match line_event {
         LineEvent::Nothing => Ok(()),
         LineEvent::StepBegan { ended, card } => {
-            let Ok(lines) = region_lines(alloc, line, *ended, card) else {
-                return Err(Stop::Memory);
-            };
+            let lines = region_lines(alloc, line, *ended, card).map_err(|_| Stop::Memory)?;
             write_text(writer, &lines)
         }
         LineEvent::Answered { task, answer } => {
             let ended = ended_tasks(walk, line_event);
-            let Ok(text) = answer_line(alloc, line, walk, task, answer, &ended) else {
-                return Err(Stop::Memory);
-            };
+            let text = answer_line(alloc, line, walk, task, answer, &ended).map_err(
+                |_| Stop::Memory,
+            )?;
             write_text(writer, &text)
         }
         LineEvent::Faulted(fault) => write_text(

@@ -1,6 +1,6 @@
 -- The items of the entries of a run.
 use Rattle.std.proofs.Common.{◌≡◌, ◌≤◌, ℕ, ◌+◌, length, List, [], ◌∷◌, ◌++◌, take, append-nil, codes, decimal, Option, Some, None, Result, Bool, true, false, IfOk, Ok, Err, inl, inr, refl, sym, ap, ◌∙◌, subst, arith}
-use Rattle.std.specs.Prelude.{◌≢◌, ◌⊎◌}
+use Rattle.std.specs.Prelude.{◌≢◌, ◌⊎◌, IsErrAnd, MatchResult}
 use Rattle.std.proofs.lemmas.Grind.{flat_map-append}
 use Rattle.std.proofs.lemmas.List.{take-take}
 use Rattle.std.specs.Io.KnownBytes.{Appends}
@@ -201,6 +201,11 @@ module _ (unread left before mid after : Option (List ℕ)) (frame : List ℕ) (
 pub page_unread : (unread before after : Option (List ℕ)) (frame : List ℕ) → AppendsFront before after frame → Exchanges unread unread before after (λ consumed script text. StopsPage frame consumed script text Write)
 page_unread None before after frame (front, rest, is, a) = ([], [], front, tt, tt, a, inr (refl, refl, (rest, is)))
 page_unread (Some xs) before after frame (front, rest, is, a) = ([], xs, front, refl, refl, a, inr (refl, refl, (rest, is)))
+
+-- a write has failed, if `map_err` made an error of it
+pub write_failed : {X E D : Type 0} (before after : Option (List ℕ)) (text : List ℕ) (r : Result X E) (s : Result X D) (Q : E → D → Type 0) (d : D) → MatchResult r (λ y. s ≡ Ok y) (λ e. IsErrAnd s (Q e)) → s ≡ Err d → WritesAll before after r text → AppendsFront before after text
+write_failed before after text (Ok y) s Q d same is w = absurd (let e : Ok y ≡ Err d = sym same ∙ is in cc)
+write_failed before after text (Err e) s Q d made is w = w
 
 -- ---- what a reader sees
 

@@ -197,9 +197,8 @@ impl PageItems {
         ensures lines { self.new.explained.lines ≡ self.old.explained.lines }
         ensures history { self.new.chronicle ≡ self.old.chronicle }
     {
-        let Ok(()) = self.put_texts(numbered.number, walk, line_event) else {
-            return Err(AllocError);
-        };
+        self.put_texts(numbered.number, walk, line_event)
+            .map_err(|_| AllocError)?;
         put_item(
             &mut self.texts,
             numbered,
@@ -231,9 +230,8 @@ impl PageItems {
             print_note(writer, numbered.number, numbered.line)?;
             return Ok(());
         }
-        let Ok(()) = self.put_item(numbered, walk, line_event) else {
-            return Err(Stop::Memory);
-        };
+        self.put_item(numbered, walk, line_event)
+            .map_err(|_| Stop::Memory)?;
         write_all(writer, &self.texts.item)?;
         Ok(())
     }
@@ -298,10 +296,7 @@ pub fn write_page_from<S: Source, W: Write>(
     ensures read { IsErrOf result RunFault.Read → S.failed reader.new ≡ true }
     ensures write { IsErrOf result RunFault.Write → writer.new.failed ≡ true }
 {
-    match write_all(writer, frame) {
-        Ok(()) => {}
-        Err(_) => return Err(RunFault::Write),
-    }
+    write_all(writer, frame).map_err(|_| RunFault::Write)?;
     let hints = AddressHints::nothing(alloc);
     let mut items = PageItems::new(alloc);
     run_source(alloc, reader, writer, placement, hints, &mut items)

@@ -1,11 +1,6 @@
 -- Results whose errors `map_err` changed.
-use Rattle.std.proofs.Common.{◌≡◌, ◌∙◌, Result, Ok, Err, ap, refl, subst, sym}
+use Rattle.std.proofs.Common.{◌≡◌, Result, Ok, Err, refl, subst, sym}
 use Rattle.std.specs.Prelude.{IsErrAnd, MatchResult, OnOk}
-
--- a call returned this value, if `map_err` returned it
-pub mapped_ok : {T E D : Type 0} (r : Result T E) (s : Result T D) (Q : E → D → Type 0) (x : T) → MatchResult r (λ y. s ≡ Ok y) (λ e. IsErrAnd s (Q e)) → s ≡ Ok x → r ≡ Ok x
-mapped_ok (Ok y) s Q x same is = ap (λ z. Ok z) (let e : Ok y ≡ Ok x = sym same ∙ is in cc)
-mapped_ok (Err e) s Q x never is = absurd (subst (λ z. IsErrAnd z (Q e)) is never)
 
 -- what follows if `map_err` returned a value
 pub mapped_on : {T E D P : Type 0} (r : Result T E) (s : Result T D) (Q : E → D → Type 0) → MatchResult r (λ y. s ≡ Ok y) (λ e. IsErrAnd s (Q e)) → ((x : T) → r ≡ Ok x → P) → OnOk s P

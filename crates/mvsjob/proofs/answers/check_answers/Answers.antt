@@ -7,7 +7,7 @@ use Rattle.expected_answers.specs.Reports.{counts_of, report_of}
 use Rattle.mvs_model.specs.Runs.{IsPrinting}
 use Rattle.mvsjob.specs.Checking.{IsReported, checked_ending, line_of}
 use Rattle.mvsjob.specs.ModeResult.{IsFaultOf}
-use Rattle.schedules.proofs.Mapped.{mapped_ok}
+use Rattle.job_script.proofs.Named.{mapped_ok}
 use Rattle.mvsjob.proofs.answers.check_answers.Goals as goal
 
 pub returns : goal.returns

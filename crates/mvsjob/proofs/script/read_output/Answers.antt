@@ -1,5 +1,5 @@
 use Rattle.std.proofs.Common.{◌<◌, length, arith}
-use Rattle.schedules.proofs.Mapped.{mapped_ok}
+use Rattle.job_script.proofs.Named.{mapped_ok}
 use Rattle.mvsjob.proofs.Taking.{all_of}
 use Rattle.mvsjob.proofs.script.read_output.Goals as goal
 

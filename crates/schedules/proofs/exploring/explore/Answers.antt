@@ -2,7 +2,7 @@ use Rattle.std.proofs.Common.{◌≡◌, ◌+◌, ◌-◌, ◌<◌, ◌≤◌, �
 use Rattle.std.specs.Prelude.{IfSome, slice_get}
 use Rattle.std.proofs.lemmas.List.{length-drop}
 use Rattle.schedules.specs.Scripts.{AreSteps}
-use Rattle.schedules.proofs.Mapped.{mapped_ok}
+use Rattle.job_script.proofs.Named.{mapped_ok}
 use Rattle.schedules.proofs.Statements.{some_at_place, steps_all, steps_next, tail_is}
 use Rattle.schedules.proofs.exploring.explore.Goals as goal
 

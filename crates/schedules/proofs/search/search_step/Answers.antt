@@ -1,6 +1,6 @@
 use Rattle.std.proofs.Common.{◌≡◌, ◌∙◌, ap, arith, length}
 use Rattle.std.proofs.lemmas.List.FromFn.{length-range_with_len}
-use Rattle.schedules.proofs.Mapped.{mapped_ok}
+use Rattle.job_script.proofs.Named.{mapped_ok}
 use Rattle.schedules.proofs.search.search_step.Goals as goal
 
 pub invariant_of-start : goal.invariant_of-start
