@@ -1,6 +1,7 @@
 -- What is found of an output, by how far it was followed and what was printed.
-use Rattle.std.proofs.Common.{Decides as Tests, ◌≡◌, ◌≤◌, ◌+◌, ◌++◌, ◌∙◌, ap, append_assoc, ℕ, Bool, true, false, List, drop, length, Option, Some, None, refl, subst}
-use Rattle.std.specs.Prelude.{◌↔◌, not}
+use Rattle.std.proofs.Common.{Decides as Tests, ◌≡◌, ◌≤◌, ◌+◌, ◌++◌, ◌∙◌, ap, append_assoc, ℕ, Bool, true, false, List, drop, length, take, Option, Some, None, refl, subst, sym}
+use Rattle.std.specs.Prelude.{◌↔◌, IfSome, not}
+use Rattle.std.proofs.Math.Seq.{take-append_seam}
 use Rattle.mvs_model.specs.declared.outcome.Outcome.{Outcome}
 use Rattle.mvs_model.specs.Runs.{IsPrinting}
 use Rattle.mvs_model.specs.Texts.{printing}
@@ -41,3 +42,10 @@ followed_ended script output w at text passes ended number outcome e f = subst (
 
 pub followed_on : (script output : List ℕ) (w : WalkValue) (at : ℕ) (text : List ℕ) (passes : Bool) (ended : Option Outcome) (number : ℕ) → ended ≡ None → IsFollowed script output w at text passes ended number → HasParted script output text number passes × HasReached script text w (drop at script) × (at ≤ length script) × (w.number ≤ at + 2)
 followed_on script output w at text passes ended number e f = subst (λ ended. IsFollowed script output w at text passes ended number) e f
+
+-- Where a run has printed what an output begins with, and prints the rest of it from there on, it prints the output.
+pub printed_along : (script output text rest : List ℕ) (w : WalkValue) (at : ℕ) (passes : Bool) (ended found : Option Outcome) (number : ℕ) (outcome : Outcome) → ended ≡ None → IsFollowed script output w at text passes ended number → output ≡ text ++ rest → (HasReached script (take (length text) output) w (drop at script) → IfSome found (IsPrinting script output)) → found ≡ Some outcome → IsPrinting script output outcome
+printed_along script output text rest w at passes ended found number outcome e f front along is =
+    let on = followed_on script output w at text passes ended number e f in
+    subst (λ found. IfSome found (IsPrinting script output)) is
+    (along (subst (λ t. HasReached script t w (drop at script)) (sym (ap (take (length text)) front ∙ take-append_seam text rest)) on.1))

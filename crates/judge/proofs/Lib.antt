@@ -16,6 +16,7 @@ mod Decided
 mod ListLines
 mod Asked
 mod Parsed
+mod PrintedLines
 mod Rest
 mod Found
 mod Answering

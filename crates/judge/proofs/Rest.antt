@@ -1,6 +1,5 @@
 -- The rest of a script is run, a line at a time.
-use Rattle.std.proofs.Common.{append_assoc, ◌≡◌, ℕ, ◌+◌, ◌≤◌, List, [], ◌∷◌, ◌++◌, length, take, drop, Option, Some, Bool, true, false, Result, Ok, Err, inl, refl, sym, ap, ◌∙◌, subst}
-use Rattle.std.specs.Prelude.{IsErrAnd, MatchResult}
+use Rattle.std.proofs.Common.{append_assoc, ◌≡◌, ℕ, ◌+◌, ◌≤◌, List, [], ◌∷◌, ◌++◌, length, take, drop, Option, Some, Bool, true, false, Ok, inl, refl, sym, ap, ◌∙◌, subst}
 use Rattle.std.proofs.lemmas.List.{drop_all, drop-drop}
 use Rattle.std.specs.Io.KnownBytes.{Appends}
 use Rattle.mvs_model.specs.declared.outcome.Outcome.{Outcome}
@@ -53,8 +52,3 @@ rest_end whole script text text' at w ended outcome all s closes appended = (
   reaches_then (lines_of whole) outcome s.0 (closing w.number ended) w.number w.step [] (subst (λ left. Reaches (lines_of whole) s.0 w.number w.step left) (ap lines_of (drop_all at script all)) s.1) closes,
   both text text' (printing s.0) (printing (closing w.number ended)) s.2 appended ∙ sym (printed_both s.0 (closing w.number ended)),
 )
-
--- a call returned this value, if `map_err` returned it
-pub mapped_ok : {T E D : Type 0} (r : Result T E) (s : Result T D) (Q : E → D → Type 0) (x : T) → MatchResult r (λ y. s ≡ Ok y) (λ e. IsErrAnd s (Q e)) → s ≡ Ok x → r ≡ Ok x
-mapped_ok (Ok y) s Q x same is = ap (λ z. Ok z) (let e : Ok y ≡ Ok x = sym same ∙ is in cc)
-mapped_ok (Err e) s Q x never is = absurd (subst (λ z. IsErrAnd z (Q e)) is never)

@@ -1,7 +1,7 @@
 //! Judges an output: whether it is the printing of a run of a script.
 #![tactic(auto)]
 
-ghost use Rattle.std.specs.Prelude.{◌≡◌, ◌<◌, ◌≤◌, ◌↔◌, ℕ, IfErr, IfOk, IsErrOf, false, length, true};
+ghost use Rattle.std.specs.Prelude.{◌≡◌, ◌≢◌, ◌<◌, ◌≤◌, ◌↔◌, ℕ, IfErr, IfOk, IfSome, IsErrOf, false, length, true};
 ghost use Rattle.mvs_model.specs.Numbers.{most_script_bytes};
 ghost use Rattle.mvs_model.specs.Lines.{lines_of};
 ghost use Rattle.mvs_model.specs.Runs.{IsPrinting};
@@ -9,11 +9,13 @@ ghost use Rattle.judge.specs.Deciding.{finding_of};
 ghost use Rattle.judge.specs.Excluding.{IsRuling, PartsAt};
 ghost use Rattle.judge.specs.Judging.{GrantsAreShown, IsFound, IsListAt};
 
+mod along;
 mod answers;
 mod certain;
 mod deciding;
 mod exclusion;
 mod following;
+mod foresight;
 mod hearing;
 mod kinds;
 pub mod laws;
@@ -27,6 +29,8 @@ mod search;
 mod shapes;
 mod trials;
 
+use crate::along::run_along;
+use crate::deciding::begins;
 use crate::exclusion::{Ruling, rule};
 use crate::following::follow;
 use crate::hearing::hear;
@@ -139,6 +143,47 @@ fn judge_run(
         finding: finding_of(!followed.passes, agrees, line_number),
         has_stopped: false,
     })
+}
+
+// Judges an output with one run of the script, which uses the addresses in the lines of the output that come next. Returns None if that run
+// does not decide it.
+fn judge_along(
+    alloc: Global,
+    script: &[u8],
+    output: &[u8],
+) -> Result<Option<Judgement>, OutOfMemory>
+    requires { length script.now ≤ most_script_bytes }
+    ensures found { IfOk result (λ o. IfSome o
+        (λ j. IsFound script.now output.now j.text.items j.outcome j.finding)) }
+    ensures decided { IfOk result (λ o. IfSome o (λ j. (n : ℕ) → j.finding ≢ Finding.Undecided n)) }
+    ensures run { IfOk result (λ o. IfSome o (λ j. IsPrinting script.now j.text.items j.outcome)) }
+    ensures agrees { IfOk result (λ o. IfSome o
+        (λ j. j.finding ≡ Finding.Accepted ↔ j.text.items ≡ output.now)) }
+    ensures stopped { IfOk result (λ o. IfSome o (λ j. j.has_stopped ≡ false)) }
+{
+    let mut walk = Walk::new(alloc, Placement::Low);
+    let followed = follow(alloc, &mut walk, script, output)?;
+    if let Some(outcome) = followed.ended {
+        return Ok(Some(Judgement {
+            outcome,
+            text: followed.text,
+            finding: finding_of(!followed.passes, followed.passes, 0),
+            has_stopped: false,
+        }));
+    }
+    let front = followed.text.as_slice().len();
+    if !followed.passes || !begins(output, followed.text.as_slice()) {
+        return Ok(None);
+    }
+    let Some(outcome) = run_along(alloc, walk, &script[followed.at..], output, front)? else {
+        return Ok(None);
+    };
+    Ok(Some(Judgement {
+        outcome,
+        text: copied(alloc, output)?,
+        finding: Finding::Accepted,
+        has_stopped: false,
+    }))
 }
 
 // Compares an output with runs that use the addresses in it, and place the parts of pools by their cells or by the placement.
@@ -357,6 +402,9 @@ fn judge_short(
     ensures stopped { IfOk result
         (λ j. j.has_stopped ≡ true → (n : ℕ) × (j.finding ≡ Finding.Undecided n)) }
 {
+    if let Some(judgement) = judge_along(alloc, script, output)? {
+        return Ok(judgement);
+    }
     let judgement = judge_run(alloc, script, output, true)?;
     let Finding::Undecided(_) = judgement.finding else {
         return Ok(judgement);
@@ -373,11 +421,12 @@ fn judge_short(
     settle_by_searches(alloc, script, output, settled, most_runs)
 }
 
-/// Judges an output with runs of the script that use the addresses in the output. No answer shows where the parts of a pool are: the first
-/// run places them by their cells, the second one by the placement. Then four searches try the places that the known cells allow, and places
-/// of the areas of lists that the output refuses, with at most this many runs each. If none of the runs prints the output, it is refused if it
-/// differs from the first two, or from the run of a search that agrees with it furthest, at a line that places do not decide, or has no answer
-/// there that the line can have.
+/// Judges an output with runs of the script that use the addresses in the output. The first run takes each place from the next lines of the
+/// output. If it prints something else, two runs with all addresses follow. No answer shows where the parts of a pool are: one of the two
+/// places them by their cells, the other one by the placement. Then four searches try the places that the known cells allow, and places of the
+/// areas of lists that the output refuses, with at most this many runs each. If none of the runs prints the output, it is refused if it differs
+/// from those two, or from the run of a search that agrees with it furthest, at a line that places do not decide, or has no answer there that
+/// the line can have.
 pub fn judge_within(
     alloc: Global,
     script: &[u8],

@@ -177,6 +177,19 @@ impl PoolPart {
     }
 }
 
+/// Returns where the first cell of a part may be, by the size and the number of its cells, and the one that was taken first.
+pub fn likely_first(cell_size: u32, count: u32, cell: u32) -> Option<u32> {
+    let part = PoolPart {
+        line: 0,
+        pool_line: 0,
+        cell_size,
+        count,
+        cells: None,
+        pages: StepPages { below: 0, above: 0 },
+    };
+    part.with_cell(cell).first_cell(false)
+}
+
 impl PoolParts {
     /// Makes the parts of a job in which there is no pool.
     pub fn new(alloc: Global) -> PoolParts {

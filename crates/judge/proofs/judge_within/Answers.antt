@@ -1,4 +1,4 @@
-use Rattle.judge.proofs.Rest.{mapped_ok}
+use Rattle.job_script.proofs.Named.{mapped_ok}
 use Rattle.judge.proofs.judge_within.Goals as goal
 
 pub returns-clause-decided : goal.returns-clause-decided

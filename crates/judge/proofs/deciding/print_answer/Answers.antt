@@ -1,7 +1,7 @@
 use Rattle.std.proofs.Common.{[], ◌++◌, ap, ◌∙◌}
 use Rattle.mvs_model.specs.FullAnswers.{full_answer}
 use Rattle.mvs_model.specs.Texts.{answer_text}
-use Rattle.judge.proofs.Rest.{mapped_ok}
+use Rattle.job_script.proofs.Named.{mapped_ok}
 use Rattle.judge.proofs.deciding.print_answer.Goals as goal
 
 pub returns : goal.returns

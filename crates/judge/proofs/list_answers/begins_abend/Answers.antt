@@ -1,7 +1,7 @@
 use Rattle.std.proofs.Common.{[], ◌++◌, ap, ◌∙◌}
 use Rattle.mvs_model.specs.Texts.{abend_lines}
 use Rattle.judge.proofs.Answering.{begun}
-use Rattle.judge.proofs.Rest.{mapped_ok}
+use Rattle.job_script.proofs.Named.{mapped_ok}
 use Rattle.judge.proofs.list_answers.begins_abend.Goals as goal
 
 pub returns : goal.returns

@@ -3,7 +3,8 @@ use Rattle.std.proofs.lemmas.List.{take_rest}
 use Rattle.mvs_model.specs.declared.outcome.Outcome.TheVariants.{ScriptFault}
 use Rattle.mvs_model.specs.Runs.{IsPrinting}
 use Rattle.judge.specs.Deciding.{HasReached}
-use Rattle.judge.proofs.Rest.{grown_end, grown_on, mapped_ok, rest_end, rest_fault, rest_on}
+use Rattle.job_script.proofs.Named.{mapped_ok}
+use Rattle.judge.proofs.Rest.{grown_end, grown_on, rest_end, rest_fault, rest_on}
 use Rattle.judge.proofs.resting.run_rest.Goals as goal
 
 pub lines-init : goal.lines-init
