@@ -1,4 +1,4 @@
-use Rattle.std.proofs.Common.{Decides as Tests, ◌≡◌, ◌++◌, ◌∙◌, ◌+◌, ◌-◌, ap, arith, drop, length, refl, subst, sym, take}
+use Rattle.std.proofs.Common.{Decides as Tests, ◌≡◌, ◌++◌, ◌∙◌, ◌+◌, ◌-◌, ap, arith, drop, length, subst, sym, take}
 use Rattle.std.proofs.lemmas.List.{take_rest}
 use Rattle.std.proofs.lemmas.Slice.Eq.{slice_eq-Decides}
 use Rattle.std.specs.Prelude.{IfSome}
