@@ -23,9 +23,9 @@ returns-clause-found c =
     let w = c.follow.new.walk in
     let front = subst (λ x. output ≡ x ++ drop (length x) output) c.as_slice.ensures.value (c.begins.ensures.yes c.if-not-begins.false) in
     printed_along script output text (drop (length text) output) w f.at f.passes f.ended c.in_ok-outcome.field-0 f.open_line c.in-Some-2.outcome c.in_default.is c.in_ok-followed.ensures front (λ s.
-        c.in_ok-outcome.ensures script
-        (subst (λ n. HasReached script (take n output) w (take (length script - f.at) (drop f.at script))) (ap length (sym c.as_slice-front.ensures.value))
-        (subst (HasReached script (take (length text) output) w) (sym (take_rest script f.at)) s))) c.in-Some-2.is
+    c.in_ok-outcome.ensures script
+    (subst (λ n. HasReached script (take n output) w (take (length script - f.at) (drop f.at script))) (ap length (sym c.as_slice-front.ensures.value))
+    (subst (HasReached script (take (length text) output) w) (sym (take_rest script f.at)) s))) c.in-Some-2.is
 
 pub returns-clause-run : goal.returns-clause-run
 returns-clause-run c = subst (λ t. IsPrinting c.args.script.now t c.in-Some-2.outcome) (sym c.in_ok-copied.ensures) (returns-clause-found c)

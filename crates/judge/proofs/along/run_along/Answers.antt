@@ -48,7 +48,7 @@ returns-in-Faulted c = λ whole s.
     let test = subst (λ x. Tests c.eq-is_same.result (left ≡ x)) c.as_slice.ensures.value (slice_eq-Decides same_test _ _ c.eq-is_same.result c.eq-is_same.ensures) in
     subst (λ o. IfSome o (IsPrinting whole c.args.output.now)) (sym c.ended_if.ensures)
     (some_if c.eq-is_same.result _ (IsPrinting whole c.args.output.now) (λ e.
-        prints_fault whole c.args.script.now c.args.output.now _ left text c.lines.at c.lines.done c.line_end-end.result w w' (take_rest c.args.script.now c.lines.at) (take_rest c.args.output.now c.lines.done) c.line_end-end.ensures.lines (c.lines.invariant.stands whole s) served (test.0 e)))
+    prints_fault whole c.args.script.now c.args.output.now _ left text c.lines.at c.lines.done c.line_end-end.result w w' (take_rest c.args.script.now c.lines.at) (take_rest c.args.output.now c.lines.done) c.line_end-end.ensures.lines (c.lines.invariant.stands whole s) served (test.0 e)))
 
 pub returns-then-not-begins : goal.returns-then-not-begins
 returns-then-not-begins c = λ whole s. tt
@@ -59,4 +59,4 @@ returns c = λ whole s.
     let test = subst (λ x. Tests c.eq-is_same-2.result (left ≡ x)) c.as_slice-2.ensures.value (slice_eq-Decides same_test _ _ c.eq-is_same-2.result c.eq-is_same-2.ensures) in
     subst (λ o. IfSome o (IsPrinting whole c.args.output.now)) (sym c.ended_if-2.ensures)
     (some_if c.eq-is_same-2.result c.in_ok-outcome.outcome (IsPrinting whole c.args.output.now) (λ e.
-        prints_end whole c.args.script.now c.args.output.now left c.in_ok-outcome.last.items c.lines.at c.lines.done c.lines.walk c.in_ok-outcome.outcome (take_rest c.args.output.now c.lines.done) (omega (arith, c.lines-test.false)) (c.lines.invariant.stands whole s) c.in_ok-outcome.ensures (test.0 e)))
+    prints_end whole c.args.script.now c.args.output.now left c.in_ok-outcome.last.items c.lines.at c.lines.done c.lines.walk c.in_ok-outcome.outcome (take_rest c.args.output.now c.lines.done) (omega (arith, c.lines-test.false)) (c.lines.invariant.stands whole s) c.in_ok-outcome.ensures (test.0 e)))
