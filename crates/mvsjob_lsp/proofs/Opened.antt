@@ -1,5 +1,6 @@
 -- Documents that stay open, and one more.
-use Rattle.std.proofs.Common.{◌≡◌, ◌≤◌, ◌<◌, ◌+◌, ℕ, zero, suc, Bool, not, List, [], ◌∷◌, ◌++◌, length, length-append, ap, arith, refl, subst, sym}
+use Rattle.std.proofs.Common.{◌≡◌, ◌≤◌, ◌<◌, ◌+◌, ℕ, zero, suc, Bool, not, List, [], ◌∷◌, ◌++◌, length, length-append, Result, Ok, Err, ap, arith, refl, subst, sym, ◌∙◌}
+use Rattle.std.specs.Prelude.{IsErrAnd, MatchResult}
 use Rattle.std.specs.List.{All, filter}
 use Rattle.std.proofs.lemmas.List.Elements.{All-append, All-filter}
 use Rattle.std.proofs.lemmas.List.Filters.{length-filter_both, sum_by-filter_both}
@@ -34,3 +35,8 @@ one_more xs x text s a n m =
 
 abbrev pub opened : List ℕ → DocumentValue → OpenValue
 opened uri d = record { uri = uri; document = d }
+
+-- what a call returned, by what `map_err` made of that
+pub mapped_ok : {T E D : Type 0} (r : Result T E) (s : Result T D) (Q : E → D → Type 0) (x : T) → MatchResult r (λ y. s ≡ Ok y) (λ e. IsErrAnd s (Q e)) → s ≡ Ok x → r ≡ Ok x
+mapped_ok (Ok y) s Q x same is = ap (λ z. Ok z) (let e : Ok y ≡ Ok x = sym same ∙ is in cc)
+mapped_ok (Err e) s Q x never is = absurd (subst (λ z. IsErrAnd z (Q e)) is never)

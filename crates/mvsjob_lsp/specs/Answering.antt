@@ -13,6 +13,8 @@ use Rattle.language_server.specs.Positions.{IsPlaceOf}
 use Rattle.language_server.specs.Proposals.{completion_of}
 use Rattle.language_server.specs.Spans.{line_at, line_end}
 use Rattle.language_server.specs.Actions.{ActionValue}
+use Rattle.language_server.specs.declared.document.DocumentError.{DocumentError}
+use Rattle.language_server.specs.declared.document.DocumentError.TheVariants as error
 use Rattle.language_server.specs.declared.span.Span.{Span}
 use Rattle.language_server.specs.Symbols.{SymbolValue}
 use Rattle.version.specs.declared.TheConstants.{VERSION}
@@ -100,6 +102,11 @@ MayAnswer s (definition uri p) body = Writes s uri (definition uri p) body
 MayAnswer s (references uri p declares) body = Writes s uri (references uri p declares) body
 
 -- ---- notifications
+
+-- why there are no answers for a document that was not analysed
+abbrev pub why_of : DocumentError → Unanswered
+why_of error.TooLong = why.TooLong
+why_of error.Memory = why.Memory
 
 -- A text is not analysed for a reason: it is too long, or too many documents or bytes are open, or memory is exhausted for one that is
 -- not too long and for which there is room.

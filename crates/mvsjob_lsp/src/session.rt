@@ -2,7 +2,7 @@
 
 ghost use Rattle.std.specs.Prelude.{◌≡◌, ◌⊎◌, ◌+◌, ◌<◌, ◌≤◌, [], IfErr, IfOk, IfSome, false, length, option_map, true};
 ghost use Rattle.language_server.specs.Documents.{IsAnalysed};
-ghost use Rattle.mvsjob_lsp.specs.Answering.{HasSet, IsReason};
+ghost use Rattle.mvsjob_lsp.specs.Answering.{HasSet, IsReason, why_of};
 ghost use Rattle.mvsjob_lsp.specs.Sessions.{bytes_open, document_of, others_than};
 ghost use Rattle.mvsjob_lsp.specs.Values.{why_text};
 
@@ -35,6 +35,17 @@ impl Unanswered {
                 "100 documents are open, or 8,388,608 bytes: this one is not analysed"
             }
             Unanswered::Memory => "out of memory: the document is not analysed",
+        }
+    }
+}
+
+impl From<DocumentError> for Unanswered {
+    ghost from_gives = { λ error why. why ≡ why_of error };
+
+    fn from(error: DocumentError) -> Unanswered {
+        match error {
+            DocumentError::TooLong => Unanswered::TooLong,
+            DocumentError::Memory => Unanswered::Memory,
         }
     }
 }
@@ -164,14 +175,8 @@ impl EditorSession {
         if text.len() > MOST_DOCUMENT {
             return Err(Unanswered::TooLong);
         }
-        let Ok(text) = Vec::from_slice(self.alloc, text) else {
-            return Err(Unanswered::Memory);
-        };
-        match Document::new(self.alloc, text) {
-            Ok(document) => Ok(document),
-            Err(DocumentError::TooLong) => Err(Unanswered::TooLong),
-            Err(DocumentError::Memory) => Err(Unanswered::Memory),
-        }
+        let text = Vec::from_slice(self.alloc, text).map_err(|_| Unanswered::Memory)?;
+        Ok(Document::new(self.alloc, text)?)
     }
 
     /// Opens a document with a text, or gives an open one another text.
@@ -179,16 +184,11 @@ impl EditorSession {
         ensures { HasSet self.old uri.now text.now self.new result }
     {
         self.close(uri);
-        let document = match self.analysed(text) {
-            Ok(document) => document,
-            Err(why) => return Err(why),
-        };
-        let Ok(uri) = String::from_str(self.alloc, uri) else {
-            return Err(Unanswered::Memory);
-        };
-        let Ok(()) = self.documents.push(OpenDocument { uri, document }) else {
-            return Err(Unanswered::Memory);
-        };
+        let document = self.analysed(text)?;
+        let uri = String::from_str(self.alloc, uri).map_err(|_| Unanswered::Memory)?;
+        self.documents
+            .push(OpenDocument { uri, document })
+            .map_err(|_| Unanswered::Memory)?;
         Ok(())
     }
 }
