@@ -59,7 +59,7 @@ def subpools(count):
 
 
 def pages(count):
-    """Pages of a region, few of which are used."""
+    """Pages of a region, most of them free."""
     yield f"J REGION BELOW=1,ABOVE={count}"
     for _ in range(count // 128):
         yield "J GETMAIN RC,LV=8192,A=X,SP=1,LOC=ANY"
@@ -126,7 +126,7 @@ def ends(count):
 
 
 def ends_among_pages(count):
-    """Pages of a region, few of which are used, and ends of subtasks."""
+    """Pages of a region, most of them free, and ends of subtasks."""
     yield f"J REGION BELOW=256,ABOVE={count - 256}"
     yield from END * (count // 64)
 
@@ -145,7 +145,7 @@ def pools(count):
 
 
 def parts(count):
-    """Parts of one cell pool, of one cell each. The last one has the cell that comes and goes."""
+    """Parts of one cell pool, of one cell each. The last one has the cell that is allocated and freed."""
     yield REGION
     yield "J CPOOL BUILD,CPID=P,CSIZE=16,PCELLCT=1,SP=1"
     yield from (f"J CPOOL GET,CPID=P,CELL=A{number}" for number in range(count))

@@ -53,7 +53,7 @@ PLANTED = {
     ),
     "controls/alone.control": (STALE, "boundary_loc/alone.control: it is beside no wrong body of the same place"),
 }
-# A group of two cases, one of which needs a tool that is missing.
+# A group of two cases. The second one needs a tool that is missing.
 LACKS = """from cases import Lacking
 
 
@@ -95,7 +95,7 @@ def last(printed):
 
 
 def of_parts(folder, missing=(), **changed):
-    """What ./test makes of its parts, each of which prints a text and ends with a status, where some commands are missing."""
+    """The status and the output of ./test, if each part prints a text and ends with a status, and some commands are missing."""
     shutil.rmtree(folder, ignore_errors=True)
     for name in ("tools", "tests", "bin"):
         (folder / name).mkdir(parents=True)
