@@ -138,7 +138,7 @@ def of_stand_in(folder, said, status, edits=("one.edit",)):
     shutil.rmtree(folder, ignore_errors=True)
     for name in ("tools", "crates/toy/must-fail", "bin"):
         (folder / name).mkdir(parents=True)
-    for name in ("ci", "edits.py", "libraries.py"):
+    for name in ("ci", "edits.py", "libraries.py", "seeds.py"):
         shutil.copy(TOP / "tools" / name, folder / "tools")
     for name in edits:
         (folder / "crates/toy/must-fail" / name).write_text(STALE)
